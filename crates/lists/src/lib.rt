@@ -6,12 +6,19 @@ ghost use Rattle.lists.specs.Lists.{padded};
 
 // The limits of specs/Limits.antt; each contract that meets one cites its name there.
 pub const MAX_BYTES: usize = 65536;
+
 pub const MAX_LINES: usize = 4096;
+
 pub const MAX_FEEDS: usize = 4097;
+
 pub const MAX_DEPTH: u32 = 63;
+
 pub const MAX_POSITION: usize = 4096;
+
 pub const MAX_ENTRIES: usize = 8192;
+
 pub const MAX_WRAP: u32 = 1000;
+
 pub const MAX_WIDTH: u32 = 65535;
 
 // What a call says of what it was given.

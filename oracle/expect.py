@@ -1,0 +1,80 @@
+#!/usr/bin/env python3
+"""The expected answers to framed cases.
+
+    expect.py HARNESS < FRAMES > ANSWERS
+
+HARNESS is the program that build.sh makes. Each answer stands behind a line
+`case K`, K from 1. A refusal is `refusal line` and `NUMBER LINE`: 9, 8, 1, 2,
+3, 4 from refusals.py, 5, 6, 7 from the harness. An accepted case has the
+harness's `--full` text: what `layout` prints, then every line's estimate, then
+every grid. A `text` frame has `size least prefix` and the three figures.
+"""
+
+import io
+import os
+import subprocess
+import sys
+
+import cases
+import refusals
+
+
+def refusal(number, line):
+    return b"refusal line\n%d %d\n" % (number, line)
+
+
+def run(command, data):
+    done = subprocess.run(command, input=data, stdout=subprocess.PIPE)
+    if done.returncode != 0:
+        raise SystemExit("%s ended with %d" % (command[0], done.returncode))
+    return io.BytesIO(done.stdout)
+
+
+def ask(harness, frames):
+    """The harness's answers to frames that refusals.py lets pass, in order."""
+    sheets, texts = io.BytesIO(), io.BytesIO()
+    for frame in frames:
+        if len(frame) == 1:
+            cases.write_frame(sheets, frame[0])
+        else:
+            cases.write_text(texts, *frame)
+    harness = os.path.abspath(harness)
+    of_sheets = run([harness, "--full"], sheets.getvalue()) if sheets.tell() else None
+    of_texts = run([harness, "--text"], texts.getvalue()) if texts.tell() else None
+    answers = []
+    for frame in frames:
+        if len(frame) == 1:
+            answer = of_sheets.read(int(of_sheets.readline().split()[1]))
+            if answer.startswith(b"panic"):
+                raise SystemExit("the harness failed, %s on: %r" % (answer.decode().strip(), frame[0][:2000]))
+            answers.append(answer)
+        else:
+            answers.append(b"size least prefix\n" + of_texts.readline())
+    return answers
+
+
+def expected(harness, frames):
+    """The answer to each frame, in order."""
+    answers = []
+    for frame in frames:
+        refused = refusals.answer(*frame) if len(frame) == 1 else refusals.measure_answer(*frame[:2])
+        answers.append(refusal(*refused) if refused else None)
+    open_places = [k for k, answer in enumerate(answers) if answer is None]
+    for k, answer in zip(open_places, ask(harness, [frames[k] for k in open_places])):
+        answers[k] = answer
+    return answers
+
+
+def joined(answers):
+    return b"".join(b"case %d\n" % (k + 1) + answer for k, answer in enumerate(answers))
+
+
+def main():
+    if len(sys.argv) != 2:
+        raise SystemExit(__doc__)
+    frames = list(cases.read_frames(sys.stdin.buffer))
+    sys.stdout.buffer.write(joined(expected(sys.argv[1], frames)))
+
+
+if __name__ == "__main__":
+    main()
