@@ -1,0 +1,247 @@
+-- What holds of the resolved rows of every table: where their lines stand, how large their cols are, how many there are. Each by induction
+-- over the table's lines: what holds of the frame of the lines after a line holds of that line's frame. Assumes nothing.
+use mathlib.Core.Path.{_≡_, ap}
+use mathlib.Core.Bool.{Bool, true, false, cond}
+use mathlib.Core.List.{List, [], _∷_, _++_, map}
+use Prim.Native.Nat.{ℕ, zero, suc, _+_, _*_, _-_, _≤_, _<_}
+use native.Mathlib.Nat.{not-suc-le-zero, le-of-suc-le-suc}
+use native.Mathlib.Decide.{ℕ-discrete}
+use native.Mathlib.Omega.{arith}
+use lib.Dec.{leb, eqb}
+use lib.ListN.{length, getD, length-append, length-map, List·getD-append}
+use borrow.Author.Tests.{eq-eqb, ne-eqb}
+use Rattle.lists.specs.Lists.{over, sum}
+use Rattle.line.specs.Fields.{Line}
+use Rattle.cells.specs.Cells.{Cell, Row, Frame, cell, row, noFrame, openBody, openRow, openCell, frame, bodiesOf, rowSum, widest, resolveCell, resolveRow, resolveBody, resolved}
+use Rattle.cells.specs.Listed.{allCells, maxCols}
+use Rattle.cells.specs.Facts.{Every, none, and, maxRows, LineFits, CellFits, RowFits}
+use Rattle.cells.proofs.Rows.{cells-append, cells-resolved}
+
+-- ---- Every
+
+pub every-append : {A : Type 0} {P : A → Type 0} {xs ys : List A} → Every P xs → Every P ys → Every P (xs ++ ys)
+every-append none q = q
+every-append (and p ps) q = and p (every-append ps q)
+
+pub every-map : {A B : Type 0} {P : A → Type 0} {Q : B → Type 0} (f : A → B) → ((a : A) → P a → Q (f a)) → {xs : List A} → Every P xs → Every Q (map f xs)
+every-map f h none = none
+every-map f h (and p ps) = and (h _ p) (every-map f h ps)
+
+pub every-weaken : {A : Type 0} {P Q : A → Type 0} → ((a : A) → P a → Q a) → {xs : List A} → Every P xs → Every Q xs
+every-weaken h none = none
+every-weaken h (and p ps) = and (h _ p) (every-weaken h ps)
+
+every-head : {A : Type 0} {P : A → Type 0} {x : A} {xs : List A} → Every P (x ∷ xs) → P x
+every-head (and p ps) = p
+
+every-tail : {A : Type 0} {P : A → Type 0} {x : A} {xs : List A} → Every P (x ∷ xs) → Every P xs
+every-tail (and p ps) = ps
+
+-- by place
+pub every-at : {A : Type 0} {P : A → Type 0} {xs : List A} → Every P xs → (z : A) (k : ℕ) → k < length xs → P (getD xs k z)
+every-at none z k h = absurd (not-suc-le-zero h)
+every-at (and p ps) z zero h = p
+every-at (and p ps) z (suc k) h = every-at ps z k (le-of-suc-le-suc h)
+
+pub every-of : {A : Type 0} {P : A → Type 0} (xs : List A) (z : A) → ((k : ℕ) → k < length xs → P (getD xs k z)) → Every P xs
+every-of [] z h = none
+every-of (x ∷ xs) z h = and (h 0 (omega arith)) (every-of xs z (λ k l. h (suc k) (omega arith)))
+
+-- the cells of all rows
+pub every-cell : {P : Cell → Type 0} {rs : List Row} → Every (λ r. Every P (r .cells)) rs → Every P (allCells rs)
+unfolding allCells
+every-cell none = none
+every-cell (and p ps) = every-append p (every-cell ps)
+
+-- a figure of each cell, as a slice holds it
+pub listed-at : {P : Cell → Type 0} (Q : ℕ → Type 0) (f : Cell → ℕ) → ((c : Cell) → P c → Q (f c)) → (cs : List Cell) (b₀ b : List ℕ)
+    → Every P cs → b ≡ over (map f cs) b₀ → (k : ℕ) → k < length cs → Q (getD b k 0)
+unfolding over
+listed-at Q f h cs b₀ b e q k l =
+    let m : k < length (map f cs) = omega (arith, length-map cs f) in
+    rw (q, List·getD-append (map f cs) _ 0 k m) (every-at {P = Q} (every-map f h e) 0 k m)
+
+-- ---- what holds of a frame whichever way its line goes
+
+cond-both : (P : Frame → Type 0) (b : Bool) {f g : Frame} → P f → P g → P (cond b f g)
+cond-both P true p q = p
+cond-both P false p q = q
+
+frame-all : (P : ℕ → List Line → Frame → Type 0) (d : ℕ)
+    → ((k : ℕ) (ls : List Line) → P k ls noFrame)
+    → ((k : ℕ) (l : Line) (ls : List Line) (f : Frame) → P (suc k) ls f → P k (l ∷ ls) (openBody f) × P k (l ∷ ls) (openRow k f) × P k (l ∷ ls) (openCell k l f) × P k (l ∷ ls) f)
+    → (k : ℕ) (ls : List Line) → P k ls (frame d k ls)
+unfolding frame
+frame-all P d p q k [] = p k []
+frame-all P d p q k (l ∷ ls) =
+    let r = q k l ls (frame d (suc k) ls) (frame-all P d p q (suc k) ls) in
+    cond-both (P k (l ∷ ls)) (leb (l .depth) d) (p k (l ∷ ls))
+    (cond-both (P k (l ∷ ls)) (eqb (l .depth) (d + 1)) (r .0)
+    (cond-both (P k (l ∷ ls)) (eqb (l .depth) (d + 2)) (r .1)
+    (cond-both (P k (l ∷ ls)) (eqb (l .depth) (d + 3)) (r .2) (r .3))))
+
+-- ---- how many there are
+
+-- rows and their cells
+abbrev size : List Row → ℕ
+size rs = length rs + length (allCells rs)
+
+abbrev sizes : List (List Row) → ℕ
+sizes [] = 0
+sizes (b ∷ bs) = size b + sizes bs
+
+size-resolved : (bs : List (List Row)) → size (resolved bs) ≡ sizes bs
+unfolding resolved resolveBody allCells
+size-resolved [] = omega arith
+size-resolved (b ∷ bs) =
+    omega (
+      arith,
+      size-resolved bs,
+      length-append (resolveBody b) (resolved bs),
+      length-map b (resolveRow (widest b)),
+      cells-resolved (widest b) b,
+      ap length (cells-append (resolveBody b) (resolved bs)),
+      length-append (allCells (resolveBody b)) (allCells (resolved bs)),
+    )
+
+frame-few : (d k : ℕ) (ls : List Line) → length (frame d k ls .cells) + size (frame d k ls .rows) + sizes (frame d k ls .bodies) + length (frame d k ls .bodies) ≤ length ls
+unfolding allCells
+frame-few d =
+    frame-all (λ k ls f. length (f .cells) + size (f .rows) + sizes (f .bodies) + length (f .bodies) ≤ length ls) d
+    (λ k ls. omega arith)
+    (λ k l ls f h. (omega (arith, h), omega (arith, h, length-append (f .cells) (allCells (f .rows))), omega (arith, h), omega (arith, h)))
+
+-- bodies, rows and cells are no more than the lines that follow the table's
+pub rows-few : (d t : ℕ) (ls : List Line)
+    → length (resolved (bodiesOf d t ls)) + length (allCells (resolved (bodiesOf d t ls))) + length (bodiesOf d t ls) ≤ length ls
+rows-few d t ls = omega (arith, size-resolved (bodiesOf d t ls), frame-few d (suc t) ls)
+
+-- and where there is a row, there is a body
+pub rows-fewer : (d t : ℕ) (ls : List Line) → 0 < length (resolved (bodiesOf d t ls))
+    → length (resolved (bodiesOf d t ls)) + length (allCells (resolved (bodiesOf d t ls))) < length ls
+unfolding resolved
+rows-fewer d t ls h = omega (arith, rows-few d t ls, some (bodiesOf d t ls) h)
+  where
+    some : (bs : List (List Row)) → 0 < length (resolved bs) → 0 < length bs
+    some [] g = g
+    some (b ∷ bs) g = omega arith
+
+-- ---- where they stand, and how large they are
+
+-- a written cell and a written row of the n lines from line k on
+record CellIn (k n : ℕ) (c : Cell) : Type 0 where
+  pub after : k ≤ c .line
+  pub within : c .line < k + n
+  pub narrow : c .cols ≤ maxCols
+  pub short : c .rows ≤ maxRows
+
+record RowIn (k n : ℕ) (r : Row) : Type 0 where
+  pub after : k ≤ r .line
+  pub within : r .line < k + n
+  pub few : length (r .cells) ≤ n
+  pub cells : Every (CellIn k n) (r .cells)
+
+record FrameIn (k n : ℕ) (f : Frame) : Type 0 where
+  pub few : length (f .cells) ≤ n
+  pub cells : Every (CellIn k n) (f .cells)
+  pub rows : Every (RowIn k n) (f .rows)
+  pub bodies : Every (Every (RowIn k n)) (f .bodies)
+
+cell-in : (k n : ℕ) (c : Cell) → CellIn (suc k) n c → CellIn k (suc n) c
+cell-in k n c h = record { after = omega (arith, h .after); within = omega (arith, h .within); narrow = h .narrow; short = h .short }
+
+row-in : (k n : ℕ) (r : Row) → RowIn (suc k) n r → RowIn k (suc n) r
+row-in k n r h = record { after = omega (arith, h .after); within = omega (arith, h .within); few = omega (arith, h .few); cells = every-weaken (cell-in k n) (h .cells) }
+
+frame-more : (k n : ℕ) (f : Frame) → FrameIn (suc k) n f → FrameIn k (suc n) f
+frame-more k n f h = record {
+  few = omega (arith, h .few);
+  cells = every-weaken (cell-in k n) (h .cells);
+  rows = every-weaken (row-in k n) (h .rows);
+  bodies = every-weaken (λ b. every-weaken (row-in k n)) (h .bodies);
+}
+
+frame-turn : (k : ℕ) (l : Line) (ls : List Line) (f : Frame) → LineFits l → FrameIn (suc k) (length ls) f
+    → FrameIn k (suc (length ls)) (openBody f) × FrameIn k (suc (length ls)) (openRow k f) × FrameIn k (suc (length ls)) (openCell k l f) × FrameIn k (suc (length ls)) f
+frame-turn k l ls f e h =
+    let m = frame-more k (length ls) f h in (
+      record { few = omega arith; cells = none; rows = none; bodies = and (m .rows) (m .bodies) },
+      record {
+        few = omega arith;
+        cells = none;
+        rows = and {x = row k (f .cells)} (record { after = omega arith; within = omega arith; few = m .few; cells = m .cells }) (m .rows);
+        bodies = m .bodies;
+      },
+      record {
+        few = omega (arith, h .few);
+        cells = and {x = cell k (l .cols) (l .rows)} (record { after = omega arith; within = omega arith; narrow = e .narrow; short = e .short }) (m .cells);
+        rows = m .rows;
+        bodies = m .bodies;
+      },
+      m,
+    )
+
+frame-in : (d k : ℕ) (ls : List Line) → Every LineFits ls → FrameIn k (length ls) (frame d k ls)
+frame-in d =
+    frame-all (λ k ls f. Every LineFits ls → FrameIn k (length ls) f) d
+    (λ k ls e. record { few = omega arith; cells = none; rows = none; bodies = none })
+    (λ k l ls f h. (
+      λ e. frame-turn k l ls f (every-head e) (h (every-tail e)) .0,
+      λ e. frame-turn k l ls f (every-head e) (h (every-tail e)) .1,
+      λ e. frame-turn k l ls f (every-head e) (h (every-tail e)) .2,
+      λ e. frame-turn k l ls f (every-head e) (h (every-tail e)) .3,
+    ))
+
+row-small : {k n : ℕ} {cs : List Cell} → Every (CellIn k n) cs → rowSum cs ≤ length cs * maxCols
+unfolding rowSum sum
+row-small none = omega arith
+row-small (and p ps) = omega (arith, p .narrow, row-small ps)
+
+body-small : {k n : ℕ} {rs : List Row} → Every (RowIn k n) rs → widest rs ≤ n * maxCols
+unfolding widest
+body-small none = omega arith
+body-small (and p ps) = omega (arith, p .few, row-small (p .cells), body-small ps)
+
+-- what a cell's cols become
+filled-fits : (x n most : ℕ) → 1 ≤ x → x ≤ most → n ≤ most → (1 ≤ cond (eqb n 0) x n) × (cond (eqb n 0) x n ≤ most)
+filled-fits x n most a b c = by (ℕ-discrete n 0)
+  where
+    by : Dec (n ≡ 0) → (1 ≤ cond (eqb n 0) x n) × (cond (eqb n 0) x n ≤ most)
+    by (yes e) = rw (eq-eqb n 0 e) (a, b)
+    by (no e) = rw (ne-eqb n 0 e) (omega arith)
+
+cell-fits : (t n x : ℕ) → 1 ≤ x → x ≤ n * maxCols + 1 → (c : Cell) → CellIn (suc t) n c → CellFits t n (resolveCell x c)
+cell-fits t n x a b c h =
+    let q = filled-fits x (c .cols) (n * maxCols + 1) a b (omega (arith, h .narrow, h .after, h .within)) in
+    record { after = omega (arith, h .after); within = omega (arith, h .within); wide = q .0; narrow = q .1; short = h .short }
+
+row-fits : (t n m : ℕ) → m ≤ n * maxCols → (r : Row) → RowIn (suc t) n r → RowFits t n (resolveRow m r)
+unfolding resolveRow
+row-fits t n m s r h = record {
+  after = omega (arith, h .after);
+  within = omega (arith, h .within);
+  cells = every-map (resolveCell (m - rowSum (r .cells) + 1)) (cell-fits t n (m - rowSum (r .cells) + 1) (omega arith) (omega arith)) (h .cells);
+}
+
+bodies-fit : (t n : ℕ) {bs : List (List Row)} → Every (Every (RowIn (suc t) n)) bs → Every (RowFits t n) (resolved bs)
+unfolding resolved resolveBody
+bodies-fit t n none = none
+bodies-fit t n (and {x = b} p ps) = every-append (every-map (resolveRow (widest b)) (row-fits t n (widest b) (body-small p)) p) (bodies-fit t n ps)
+
+-- the rows of the table of depth d whose line is line t, where the lines ls follow
+pub rows-fit : (d t : ℕ) (ls : List Line) → Every LineFits ls → Every (RowFits t (length ls)) (resolved (bodiesOf d t ls))
+rows-fit d t ls e = bodies-fit t (length ls) (frame-in d (suc t) ls e .bodies)
+
+-- every resolved cols is at least 1, whatever the rows are
+pub resolved-wide : (bs : List (List Row)) → Every (λ r. Every (λ c. 1 ≤ c .cols) (r .cells)) (resolved bs)
+unfolding resolved resolveBody resolveRow
+resolved-wide [] = none
+resolved-wide (b ∷ bs) = every-append (wide-rows (widest b) b) (resolved-wide bs)
+  where
+    wide-cells : (x : ℕ) → 1 ≤ x → (cs : List Cell) → Every (λ c. 1 ≤ c .cols) (map (resolveCell x) cs)
+    wide-cells x h [] = none
+    wide-cells x h (c ∷ cs) = and (filled-fits x (c .cols) (x + c .cols) h (omega arith) (omega arith) .0) (wide-cells x h cs)
+
+    wide-rows : (m : ℕ) (rs : List Row) → Every (λ r. Every (λ c. 1 ≤ c .cols) (r .cells)) (map (resolveRow m) rs)
+    wide-rows m [] = none
+    wide-rows m (r ∷ rs) = and (wide-cells (m - rowSum (r .cells) + 1) (omega arith) (r .cells)) (wide-rows m rs)

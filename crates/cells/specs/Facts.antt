@@ -1,0 +1,33 @@
+-- What holds of the resolved rows of every table, for the rooms above. These are statements; proofs/ has their proofs.
+use mathlib.Core.List.{List, [], _∷_}
+use Prim.Native.Nat.{ℕ, _+_, _*_, _≤_, _<_}
+use Rattle.line.specs.Fields.{Line}
+use Rattle.cells.specs.Cells.{Cell, Row}
+use Rattle.cells.specs.Listed.{maxCols}
+
+-- each element has the property
+pub data Every {A : Type 0} (P : A → Type 0) : List A → Type 0 where
+  none : Every P []
+  and : {x : A} {xs : List A} → P x → Every P xs → Every P (x ∷ xs)
+
+abbrev pub maxRows : ℕ
+maxRows = 65534
+
+-- a line's cols and rows are in range
+pub record LineFits (l : Line) : Type 0 where
+  pub narrow : l .cols ≤ maxCols
+  pub short : l .rows ≤ maxRows
+
+-- a resolved cell of the table of line t, where n lines follow the table's line
+pub record CellFits (t n : ℕ) (c : Cell) : Type 0 where
+  pub after : t < c .line
+  pub within : c .line ≤ t + n
+  pub wide : 1 ≤ c .cols
+  pub narrow : c .cols ≤ n * maxCols + 1
+  pub short : c .rows ≤ maxRows
+
+-- a resolved row of that table
+pub record RowFits (t n : ℕ) (r : Row) : Type 0 where
+  pub after : t < r .line
+  pub within : r .line ≤ t + n
+  pub cells : Every (CellFits t n) (r .cells)

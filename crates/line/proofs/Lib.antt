@@ -1,0 +1,9 @@
+pub mod Pieces
+pub mod OnField
+pub mod Digits
+pub mod Signs
+pub mod Keys
+pub mod Fed
+pub mod Parsing
+pub mod Judging
+pub mod Told
