@@ -1,0 +1,220 @@
+-- The reader's loop: what holds before each line, at the start, after one line more, where a line is refused, and at the end. Assumes nothing.
+use mathlib.Core.Path.{_≡_, refl, sym, ap, subst, _∙_}
+use mathlib.Core.Bool.{Bool, true, false, cond}
+use mathlib.Core.List.{List, [], _∷_, _++_, map}
+use Prim.Native.Nat.{ℕ, suc, _+_, _-_, _≤_, _<_}
+use native.Mathlib.Numerals.{add-one}
+use native.Mathlib.Omega.{arith}
+use lib.ListN.{length, getD, take, drop, set, replicate, length-map}
+use lib.Seq.{take-all, length-take-le}
+use borrow.Author.Tests.{le-ltb}
+use Rattle.lists.specs.Limits.{maxBytes, maxFeeds, maxDepth}
+use Rattle.lists.specs.Lists.{over}
+use Rattle.lists.specs.Refusals.{first}
+use Rattle.lists.proofs.Over.{over-front}
+use Rattle.line.specs.Lines.{Piece, feeds, pieces, headed, nodePieces, headingBytes}
+use Rattle.line.specs.Fields.{Line, noLine, Read, readLine, isUnread, hasBadByte, orNone}
+use Rattle.line.specs.LineAt.{pieceAt, nodeOf, lineIn, lineAt}
+use Rattle.line.proofs.Pieces.{pieces-at, pieces-end, feeds-at}
+use Rattle.line.proofs.Told.{good-line}
+use Rattle.line.specs.declared.Node.{Node}
+use Rattle.line.specs.declared.LineRead.{LineRead}
+use Rattle.line.specs.declared.LineRead.the-variants.{Good, BadFields, BadByte}
+use Rattle.sheet.specs.Nesting.{misplaced}
+use Rattle.sheet.specs.Sheet.{linesChecks, linesOf, sheetLines, sheetChecks}
+use Rattle.sheet.specs.Reading.{readingOf, Slices, Room, Stored, depthOf, kindOfLine}
+use Rattle.sheet.specs.Steps.{breaksNesting, judgementOf, Put, endChecks, endOf, bare, Begun}
+use Rattle.sheet.specs.declared.Reading.{Reading}
+use Rattle.sheet.specs.declared.Reading.the-variants.{Lines, Refused}
+use Rattle.sheet.specs.declared.Judgement.the-variants.{Sound, Faulty}
+use Rattle.sheet.proofs.Heading.{heading-long, heading-feeds}
+use Rattle.sheet.proofs.Earlier.{earlier, drop-here, drop-none, lines-drop, lines-length}
+use Rattle.sheet.proofs.Chain.{Linked, linked-none, linked-more, linked-told}
+use Rattle.sheet.proofs.Ending.{bare-end}
+use Rattle.sheet.proofs.Ranges.{piece-ranged}
+use Rattle.sheet.proofs.Storing.{SameLengths, lengths-start, lengths-put, Figures, stored-none, stored-more}
+
+-- after n lines, of the sheet s, at the place where the next one starts; a are the slices before the loop, b those now
+pub record ReadingLoop (s : List ℕ) (a b : Slices) (chain : List ℕ) (previous at n : ℕ) : Type 0 where
+  pub within : at ≤ length s
+  pub place : pieces (drop at s) ≡ drop n (nodePieces s)
+  pub count : n ≤ length (sheetLines s)
+  pub few : n + 1 + feeds (drop at s) ≤ feeds s
+  pub linked : Linked chain n previous (earlier n (sheetLines s))
+  pub answer : readingOf s
+      ≡ first Refused (Lines (length (sheetLines s)))
+      (linesChecks (suc n) (earlier n (sheetLines s)) (drop n (nodePieces s)) ++ endChecks (sheetLines s))
+  pub stored : Stored s (take n (sheetLines s)) a b
+  pub lengths : SameLengths a b
+
+pub turns-start : (s : List ℕ) (a : Slices) → Begun s → ReadingLoop s a a (replicate 64 0) 0 headingBytes 0
+unfolding earlier readingOf sheetChecks first
+turns-start s a g = record {
+  within = heading-long s (g .headed);
+  place = refl;
+  count = omega arith;
+  few = omega (arith, heading-feeds s (g .headed));
+  linked = linked-none;
+  answer = start;
+  stored = stored-none s a;
+  lengths = lengths-start a;
+}
+  where
+    start : readingOf s ≡ first Refused (Lines (length (sheetLines s))) (linesChecks 1 [] (nodePieces s) ++ endChecks (sheetLines s))
+    start = rw (le-ltb maxBytes (length s) (g .short), le-ltb maxFeeds (feeds s) (g .few), g .headed)
+
+-- what is known of a sound line's figures before they are stored
+pub record NextLine (s : List ℕ) (at n : ℕ) (v : Node) : Type 0 where
+  pub deep : v .depth ≤ maxDepth
+  pub ordered : v .from ≤ v .to
+  pub ahead : at < v .next
+  pub ends : v .to < length s
+  pub few : n + 2 ≤ feeds s
+
+-- what the judgement of a line tells
+
+module _ (chain : List ℕ) (n previous : ℕ) where
+  told-good : (r : LineRead) (v : Node) → judgementOf chain n previous r ≡ Sound v → (r ≡ Good v) × (breaksNesting chain n previous (v .depth) (v .kind) ≡ false)
+  unfolding judgementOf
+  told-good BadFields v e = let z : _≡_ {A = ℕ} 0 1 = cc in absurd (omega arith)
+  told-good BadByte v e = let z : _≡_ {A = ℕ} 0 1 = cc in absurd (omega arith)
+  told-good (Good w) v e = at (breaksNesting chain n previous (w .depth) (w .kind)) refl e
+    where
+      at : (m : Bool) → breaksNesting chain n previous (w .depth) (w .kind) ≡ m → cond m (Faulty 4) (Sound w) ≡ Sound v
+          → (Good w ≡ Good v) × (breaksNesting chain n previous (v .depth) (v .kind) ≡ false)
+      at true q e = let z : _≡_ {A = ℕ} 0 1 = cc in absurd (omega arith)
+      at false q e = let f : w ≡ v = cc in (ap Good f, rw f at q)
+
+  told-faulty : (u y m : Bool) (w : Node) (x : Reading) (k line : ℕ) → breaksNesting chain n previous (w .depth) (w .kind) ≡ m
+      → judgementOf chain n previous (cond u BadFields (cond y BadByte (Good w))) ≡ Faulty k
+      → cond u (Refused 2 line) (cond y (Refused 3 line) (cond m (Refused 4 line) x)) ≡ Refused k line
+  unfolding judgementOf
+  told-faulty true y m w x k line q e = let f : 2 ≡ k = cc in rw f
+  told-faulty false true m w x k line q e = let f : 3 ≡ k = cc in rw f
+  told-faulty false false true w x k line q e =
+      let g : cond (breaksNesting chain n previous (w .depth) (w .kind)) (Faulty 4) (Sound w) ≡ Faulty k = e in
+      let g′ : Faulty 4 ≡ Faulty k = rw q at g in
+      let f : 4 ≡ k = cc in
+      rw f
+  told-faulty false false false w x k line q e =
+      let g : cond (breaksNesting chain n previous (w .depth) (w .kind)) (Faulty 4) (Sound w) ≡ Faulty k = e in
+      let g′ : Sound w ≡ Faulty k = rw q at g in
+      let z : _≡_ {A = ℕ} 0 1 = cc in
+      absurd (omega arith)
+
+told-line : (u y : Bool) (w v : Node) → cond u BadFields (cond y BadByte (Good w)) ≡ Good v → (u ≡ false) × (y ≡ false) × (w ≡ v)
+told-line true y w v e = let z : _≡_ {A = ℕ} 0 1 = cc in absurd (omega arith)
+told-line false true w v e = let z : _≡_ {A = ℕ} 0 1 = cc in absurd (omega arith)
+told-line false false w v e = (refl, refl, cc)
+
+module _ {s : List ℕ} {a b : Slices} {chain : List ℕ} {previous at n : ℕ} (t : ReadingLoop s a b chain previous at n) (h : at < length s) where
+  here : Line
+  here = orNone (readLine (pieceAt s at))
+
+  after : List Piece
+  after = pieces (drop (at + length (pieceAt s at .bytes) + 1) s)
+
+  rest : drop n (nodePieces s) ≡ pieceAt s at ∷ after
+  unfolding after
+  rest = sym (t .place) ∙ pieces-at s at h
+
+  line-here : (n < length (sheetLines s)) × (getD (sheetLines s) n noLine ≡ here) × (drop (suc n) (sheetLines s) ≡ linesOf after)
+  unfolding here linesOf sheetLines
+  line-here = drop-here noLine (sheetLines s) n here (linesOf after) (lines-drop n (nodePieces s) ∙ ap linesOf rest)
+
+  asked : readingOf s ≡
+      cond (isUnread (readLine (pieceAt s at))) (Refused 2 (suc n))
+      (cond (hasBadByte (readLine (pieceAt s at))) (Refused 3 (suc n))
+      (cond (misplaced (earlier n (sheetLines s)) here) (Refused 4 (suc n))
+      (first Refused (Lines (length (sheetLines s))) (linesChecks (suc (suc n)) (here ∷ earlier n (sheetLines s)) after ++ endChecks (sheetLines s)))))
+  unfolding here linesChecks first
+  asked = t .answer ∙ rw rest
+
+  broken : breaksNesting chain n previous (here .depth) (here .kind) ≡ misplaced (earlier n (sheetLines s)) here
+  unfolding here
+  broken = linked-told (t .linked) here (piece-ranged (pieceAt s at) .0 .deep)
+
+  pub turns-refuse : (k : ℕ) → judgementOf chain n previous (lineAt s at) ≡ Faulty k → Refused k (n + 1) ≡ readingOf s
+  unfolding here lineAt lineIn
+  turns-refuse k e =
+      sym
+      (asked
+      ∙ told-faulty chain n previous (isUnread (readLine (pieceAt s at))) (hasBadByte (readLine (pieceAt s at))) (misplaced (earlier n (sheetLines s)) here)
+      (nodeOf at (pieceAt s at) here) _ k (suc n) broken e
+      ∙ ap (λ (i : ℕ). Refused k i) (sym (add-one n)))
+
+  earlier-here : earlier (n + 1) (sheetLines s) ≡ here ∷ earlier n (sheetLines s)
+  unfolding earlier
+  earlier-here = rw (add-one n, line-here .1)
+
+  module _ (good : lineAt s at ≡ Good (nodeOf at (pieceAt s at) here)) (fits : breaksNesting chain n previous (here .depth) (here .kind) ≡ false)
+      (c : Slices) (r : Room (n + 1) a) (p : Put n (nodeOf at (pieceAt s at) here) b c) where
+    figures : Figures s (getD (sheetLines s) n noLine) (nodeOf at (pieceAt s at) here)
+    unfolding here
+    figures =
+        let g = good-line s at (nodeOf at (pieceAt s at) here) good in
+        let text = sym (g .text) ∙ ap (λ (r : Read). orNone r .text) (sym (g .read)) in
+        rw (line-here .1)
+        (record { depth = refl; kind = refl; number = refl; cols = refl; rows = refl; own = refl; text = text })
+
+    more : ReadingLoop s a c (set chain (here .depth) (here .kind)) (here .depth) (at + length (pieceAt s at .bytes) + 1) (n + 1)
+    unfolding here after lineAt lineIn
+    more =
+        let g = good-line s at (nodeOf at (pieceAt s at) here) good in
+        let (u, y, q) = told-line (isUnread (readLine (pieceAt s at))) (hasBadByte (readLine (pieceAt s at))) (nodeOf at (pieceAt s at) here) (nodeOf at (pieceAt s at) here) good in
+        record {
+          within = g .inside;
+          place = sym (drop-here (pieceAt s at) (nodePieces s) n (pieceAt s at) after rest .2) ∙ ap (λ (m : ℕ). drop m (nodePieces s)) (sym (add-one n));
+          count = omega (arith, line-here .0);
+          few = omega (arith, feeds-at s at (g .ended), t .few);
+          linked = rw earlier-here (linked-more (t .linked) here (piece-ranged (pieceAt s at) .0 .deep));
+          answer = asked ∙ rw (u, y, sym broken ∙ fits, earlier-here, ← drop-here (pieceAt s at) (nodePieces s) n (pieceAt s at) after rest .2, add-one n);
+          stored = stored-more (sheetLines s) n (t .stored) (line-here .0) (t .lengths) r p figures;
+          lengths = lengths-put (t .lengths) p;
+        }
+
+  -- a sound line is the one that stands at the place
+  as-read : (v : Node) (G : Node → Type 0) → judgementOf chain n previous (lineAt s at) ≡ Sound v
+      → (lineAt s at ≡ Good (nodeOf at (pieceAt s at) here) → breaksNesting chain n previous (here .depth) (here .kind) ≡ false → G (nodeOf at (pieceAt s at) here))
+      → G v
+  unfolding here lineAt lineIn
+  as-read v G e k =
+      let (g, f) = told-good chain n previous (lineAt s at) v e in
+      let (u, y, q) = told-line (isUnread (readLine (pieceAt s at))) (hasBadByte (readLine (pieceAt s at))) (nodeOf at (pieceAt s at) here) v g in
+      subst G q (k (rw (sym q) at g) (rw (sym q) at f))
+
+  pub turns-next : (v : Node) → judgementOf chain n previous (lineAt s at) ≡ Sound v → NextLine s at n v
+  unfolding here
+  turns-next v e =
+      as-read v (λ (w : Node). NextLine s at n w) e
+      (λ g f.
+      let w = good-line s at (nodeOf at (pieceAt s at) here) g in
+      record { deep = piece-ranged (pieceAt s at) .0 .deep; ordered = omega arith; ahead = omega arith; ends = omega (arith, w .inside); few = omega (arith, feeds-at s at (w .ended), t .few) })
+
+  pub turns-more : (v : Node) (c : Slices) → judgementOf chain n previous (lineAt s at) ≡ Sound v → Room (n + 1) a → Put n v b c
+      → ReadingLoop s a c (set chain (v .depth) (v .kind)) (v .depth) (v .next) (n + 1)
+  turns-more v c e r p =
+      as-read v (λ (w : Node). Put n w b c → ReadingLoop s a c (set chain (w .depth) (w .kind)) (w .depth) (w .next) (n + 1)) e
+      (λ g f p. more g f c r p) p
+
+module _ {s : List ℕ} {a b : Slices} {chain : List ℕ} {previous at n : ℕ} (t : ReadingLoop s a b chain previous at n) (h : length s ≤ at) where
+  none : drop n (nodePieces s) ≡ []
+  none = sym (t .place) ∙ pieces-end s at h
+
+  all : take n (sheetLines s) ≡ sheetLines s
+  unfolding sheetLines
+  all = take-all n (sheetLines s) (omega (arith, lines-length (nodePieces s), drop-none (nodePieces s) n none))
+
+  kept : (f : Line → ℕ) (x y : List ℕ) → y ≡ over (map f (take n (sheetLines s))) x → take n y ≡ map f (sheetLines s)
+  kept f x y e =
+      let m : length (map f (take n (sheetLines s))) ≡ n = length-map (take n (sheetLines s)) f ∙ length-take-le n (sheetLines s) (t .count) in
+      rw e (ap (λ (k : ℕ). take k (over (map f (take n (sheetLines s))) x)) (sym m) ∙ over-front (map f (take n (sheetLines s))) x ∙ ap (map f) all)
+
+  pub turns-end : endOf (bare (take n (b .depth)) (take n (b .kind))) ≡ readingOf s
+  unfolding linesChecks endOf
+  turns-end =
+      rw (kept depthOf (a .depth) (b .depth) (t .stored .depth), kept kindOfLine (a .kind) (b .kind) (t .stored .kind))
+      (bare-end (sheetLines s) ∙ sym (t .answer ∙ rw none))
+
+  pub turns-stored : Stored s (sheetLines s) a b
+  turns-stored = rw all at (t .stored)
