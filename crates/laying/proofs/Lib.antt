@@ -1,0 +1,5 @@
+pub mod Every
+pub mod Slices
+pub mod Boxes
+pub mod Demand
+pub mod Table
