@@ -1,12 +1,11 @@
 -- What holds of the grid of a table to which none of the refusals 5, 6 and 7 applies, and what the answers say of the table. Assumes nothing.
 use mathlib.Core.Path.{_≡_, refl, sym, ap, ap₂, _∙_}
-use mathlib.Core.Bool.{Bool, true, false, not, cond, _&&_, false≢true}
+use mathlib.Core.Bool.{Bool, true, false, not, _&&_, false≢true}
 use mathlib.Core.List.{List, [], _∷_, _++_, map}
-use Prim.Native.Nat.{ℕ, _+_, _≤_, _<_}
-use native.Mathlib.Nat.{zero-add}
+use Prim.Native.Nat.{ℕ, _+_, _≤_}
 use native.Mathlib.Omega.{arith}
-use lib.Dec.{eqb, ltb}
-use lib.ListN.{length, length-map}
+use lib.Dec.{ltb}
+use lib.ListN.{length, getD, drop, length-map}
 use borrow.Author.Tests.{ltb-false}
 use Rattle.lists.specs.Lists.{mem}
 use Rattle.lists.specs.Limits.{maxLines, maxPosition, maxEntries}
@@ -15,16 +14,18 @@ use Rattle.lists.specs.declared.Verdict.{Verdict}
 use Rattle.lists.specs.declared.Verdict.the-variants as verdict
 use Rattle.edges.specs.Edges.{countBelow, endsFrom, allAt}
 use Rattle.cells.specs.Cells as cells
-use Rattle.cells.specs.Listed.{allCells}
+use Rattle.cells.specs.Cells.{bodiesOf}
+use Rattle.cells.proofs.Facts.{every-append, resolved-wide}
+use Rattle.cells.specs.Listed.{allCells, heldLines, heldRows}
 use Rattle.cells.specs.Facts.{Every, none, and}
 use Rattle.rows.specs.Row.{Item, endOf}
 use Rattle.rows.proofs.Merging.{Each}
 use Rattle.rows.proofs.Merging as merging
 use Rattle.positions.specs.Positions.{Row, originalRows, extraRows, allRows, endsPast, entryCount}
-use Rattle.positions.proofs.TableFacts.{Spanned, rows-wide, rows-count}
+use Rattle.positions.proofs.TableFacts.{Spanned, spanned-of, rows-wide, rows-count}
 use Rattle.grid.specs.declared.Judged.{Judged}
 use Rattle.grid.specs.declared.Judged.the-variants.{Grid, Refused}
-use Rattle.grid.specs.Grid.{isColumnEdge, endsOf, spansOf, number, gridRow, longest, gridOf, columnsOf, entriesOf, tableChecks}
+use Rattle.grid.specs.Grid.{Entry, GridRow, isColumnEdge, endsOf, spansOf, number, gridRow, longest, gridOf, columnsOf, entriesOf, tableChecks}
 use Rattle.grid.specs.Facts.{Tiles, Sound}
 use Rattle.grid.specs.Judging.{judgedOf}
 use Rattle.grid.proofs.Tiling.{Wide, both, tiles-from, edge-within, columns-within}
@@ -50,6 +51,30 @@ rows-tile os (q ∷ qs) a w =
     (edge-within os (0 + endOf (q .items)) (last-edge (isColumnEdge os) 0 (spansOf q) refl (b .0))))
     (rows-tile os qs (b .1) (w .1))
 
+-- an entry of a row that tiles spans at least one column, and ends within them
+abbrev pub Within : ℕ → Entry → Type 0
+Within columns e = (1 ≤ e .span) × (e .first + e .span ≤ columns)
+
+tiles-end : (c p : ℕ) (es : List Entry) → Tiles c p es → p ≤ c
+unfolding Tiles
+tiles-end c p [] t = t
+tiles-end c p (e ∷ es) t = omega (arith, tiles-end c (p + e .span) es (t .2))
+
+tiles-within : (c p : ℕ) (es : List Entry) → Tiles c p es → Every (Within c) es
+unfolding Tiles
+tiles-within c p [] t = none
+tiles-within c p (e ∷ es) t = and {x = e} (t .1, omega (arith, t .0, tiles-end c (p + e .span) es (t .2))) (tiles-within c (p + e .span) es (t .2))
+
+rows-within : (c : ℕ) {gs : List GridRow} → Every (λ g. Tiles c 0 (g .entries)) gs → Every (Within c) (entriesOf gs)
+unfolding entriesOf
+rows-within c none = none
+rows-within c (and {x = g} t ts) = every-append (tiles-within c 0 (g .entries) t) (rows-within c ts)
+
+-- every cell of the table at a place takes at least one position
+pub held-spanned : (depth cols rows : List ℕ) (at : ℕ) → Spanned (heldRows depth cols rows at)
+unfolding heldRows
+held-spanned depth cols rows at = spanned-of (resolved-wide (bodiesOf (getD depth at 0) (at + 1) (drop (at + 1) (heldLines depth cols rows))))
+
 module _ (table : List cells.Row) (z : Sound table) where
   -- every row tiles the columns; so every entry spans at least one
   pub grid-tiles : Spanned table → Every (λ g. Tiles (columnsOf table) 0 (g .entries)) (gridOf table)
@@ -60,6 +85,9 @@ module _ (table : List cells.Row) (z : Sound table) where
       ∙ all-append (isColumnEdge (originalRows table)) (endsOf (originalRows table)) (endsOf (extraRows table))
       ∙ ap₂ (λ (a b : Bool). a && b) (own-edges (originalRows table)) (z .edges))
       (rows-wide table w)
+
+  pub grid-within : Spanned table → Every (Within (columnsOf table)) (entriesOf (gridOf table))
+  grid-within w = rows-within (columnsOf table) (grid-tiles w)
 
   pub grid-rows : length table + length (allCells table) ≤ maxLines → length (gridOf table) ≤ maxLines
   unfolding gridOf

@@ -7,14 +7,13 @@ use Prim.Native.Nat.{ℕ, zero, suc, _+_, _≤_, _<_, max}
 use native.Mathlib.Omega.{arith}
 use native.Mathlib.Nat.{add-zero, zero-add}
 use lib.Dec.{eqb, ltb}
-use lib.ListN.{length, getD, take, length-map}
+use lib.ListN.{length, getD, take}
 use lib.Seq.{take-at}
 use borrow.Author.Tests.{lt-ltb, le-ltb}
 use Rattle.lists.specs.Lists.{sum, mem}
 use Rattle.lists.specs.Limits.{maxPosition, maxEntries}
 use Rattle.lists.specs.Refusals.{first}
 use Rattle.edges.specs.Edges.{endsFrom, allAt, rowsFrom, rowsEnds, RowsFit}
-use Rattle.edges.specs.declared.Numbered.{Numbered}
 use Rattle.edges.specs.declared.Numbered.the-variants.{Done, Missing}
 use Rattle.edges.proofs.Columns.{all-mem, flat, rows-flat, rows-fit-flat}
 use Rattle.cells.specs.Cells as cells

@@ -9,9 +9,7 @@ use lib.ListN.{length, take, drop, length-append, length-map}
 use lib.Seq.{drop-drop, drop-append-add}
 use Rattle.lists.specs.Lists.{over}
 use Rattle.lists.specs.Limits.{maxLines, maxEntries}
-use Rattle.lists.proofs.Over.{over-length}
 use Rattle.edges.specs.Edges.{allAt, rowsFrom, rowsEnds}
-use Rattle.edges.specs.declared.Numbered.{Numbered}
 use Rattle.edges.specs.declared.Numbered.the-variants.{Done, Missing}
 use Rattle.cells.specs.Cells as cells
 use Rattle.cells.specs.Listed as listed
@@ -20,15 +18,15 @@ use Rattle.rows.specs.Row.{Item, itemOf, lineOf, spanOf}
 use Rattle.positions.specs.declared.Positions.{Positions}
 use Rattle.positions.specs.declared.Positions.the-variants.{Rows, Past, Many}
 use Rattle.positions.specs.Positions.{originalRows, extraRows, allRows, endsPast, entryCount}
-use Rattle.positions.specs.Slices.{tableOf, allItems, entryEnds, rowLine, positionsOf, Positioned, PositionsDone}
+use Rattle.positions.specs.Slices.{tableOf, allItems, rowLine, Positioned, PositionsDone}
 use Rattle.positions.proofs.RowLists.{items-count, ends-length}
 use Rattle.positions.proofs.Written.{written, unplaced}
 use Rattle.positions.proofs.TableFacts.{originals-count, rows-count, rows-written}
 use Rattle.positions.proofs.AllRows.{positions-past, positions-many, positions-rows}
 use Rattle.grid.specs.declared.Judged.{Judged}
-use Rattle.grid.specs.declared.Judged.the-variants.{Grid, Refused}
-use Rattle.grid.specs.Grid.{isColumnEdge, spansOf, gridRow, gridOf, entriesOf, rowEnds, shownLine}
-use Rattle.grid.specs.Numbering.{mostColumns, numberedRows, rowsFirsts, rowsSpans, RowsNumbered}
+use Rattle.grid.specs.declared.Judged.the-variants.{Grid}
+use Rattle.grid.specs.Grid.{isColumnEdge, spansOf, gridRow, gridOf, entriesOf}
+use Rattle.grid.specs.Numbering.{mostColumns, numberedRows, RowsNumbered}
 use Rattle.grid.specs.Judging as judging
 use Rattle.grid.specs.Judging.{edgeOfRows, withColumns, RowsReady, RowsJudged, PlacedReady, PlacedJudged, judgedOf, firstOf, gridLine, GridWritten, GridJudged}
 use Rattle.grid.proofs.GridLists.{grid-count, grid-firsts, grid-spans, grid-shown, grid-lines, grid-ends}

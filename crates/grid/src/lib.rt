@@ -28,7 +28,13 @@ fn longer(a: usize, b: usize) -> usize
 
 // All rows' entries in columns, by their spans in positions; ends[r] is how many entries there are up to and including row r. The columns
 // of the longest row, or that an entry ends at no edge.
-fn number_rows(words: &[u64], wide: &[u32], ends: &[u32], first: &mut [u32], span: &mut [u32]) -> Numbered
+fn number_rows(
+    words: &[u64],
+    wide: &[u32],
+    ends: &[u32],
+    first: &mut [u32],
+    span: &mut [u32],
+) -> Numbered
     requires { ⌜ length (now words) ≡ 65 ⌝ }
     requires { ⌜ RowsFit 0 (now ends) (now wide) ⌝ }
     requires { ⌜ (length (now wide) ≤ length (now first)) × (length (now wide) ≤ length (now span)) ⌝ }
@@ -39,7 +45,12 @@ fn number_rows(words: &[u64], wide: &[u32], ends: &[u32], first: &mut [u32], spa
     let mut r = 0;
     while r < ends.len() {
         let end = ends[r] as usize;
-        let Numbered::Done(n) = edges::renumber(words, &wide[start..end], &mut first[start..], &mut span[start..]) else {
+        let Numbered::Done(n) = edges::renumber(
+            words,
+            &wide[start..end],
+            &mut first[start..],
+            &mut span[start..],
+        ) else {
             return Numbered::Missing;
         };
         columns = longer(columns, n);
@@ -50,7 +61,13 @@ fn number_rows(words: &[u64], wide: &[u32], ends: &[u32], first: &mut [u32], spa
 }
 
 // The same by the edges of the first `originals` rows: rows below the last one add no edge.
-fn number_table(wide: &[u32], ends: &[u32], originals: usize, first: &mut [u32], span: &mut [u32]) -> Numbered
+fn number_table(
+    wide: &[u32],
+    ends: &[u32],
+    originals: usize,
+    first: &mut [u32],
+    span: &mut [u32],
+) -> Numbered
     requires { ⌜ RowsFit 0 (now ends) (now wide) ⌝ }
     requires { ⌜ originals ≤ length (now ends) ⌝ }
     requires { ⌜ (length (now wide) ≤ length (now first)) × (length (now wide) ≤ length (now span)) ⌝ }
@@ -64,15 +81,31 @@ fn number_table(wide: &[u32], ends: &[u32], originals: usize, first: &mut [u32],
 }
 
 // The grid of rows by positions, or the refusal: 5 and 6 are known from the positions, 7 is that an entry ends at no edge.
-fn placed_grid(placed: Positions, wide: &[u32], row_end: &[u32], first: &mut [u32], span: &mut [u32]) -> Judged
+fn placed_grid(
+    placed: Positions,
+    wide: &[u32],
+    row_end: &[u32],
+    first: &mut [u32],
+    span: &mut [u32],
+) -> Judged
     requires { ⌜ PlacedReady placed (now wide) (now «row_end») (now first) (now span) ⌝ }
     ensures { λ r. ⌜ PlacedJudged placed (now (wide .entry)) (now («row_end» .entry)) (now (first .entry)) (now (span .entry)) r (now (first .exit)) (now (span .exit)) ⌝ }
 {
     match placed {
         Positions::Past => Judged::Refused(5),
         Positions::Many => Judged::Refused(6),
-        Positions::Rows { originals, rows, entries } => {
-            let Numbered::Done(columns) = number_table(&wide[..entries], &row_end[..rows], originals, first, span) else {
+        Positions::Rows {
+            originals,
+            rows,
+            entries,
+        } => {
+            let Numbered::Done(columns) = number_table(
+                &wide[..entries],
+                &row_end[..rows],
+                originals,
+                first,
+                span,
+            ) else {
                 return Judged::Refused(7);
             };
             Judged::Grid {
@@ -114,7 +147,17 @@ pub fn table_grid(
         (now (line .entry)) (now (first .entry)) (now (span .entry)) (now («row_line» .entry)) (now («row_end» .entry))
         (now (line .exit)) (now (first .exit)) (now (span .exit)) (now («row_line» .exit)) (now («row_end» .exit)) ⌝ }
 {
-    let listed = cells::list_rows(depth, cols, rows, at, first, span, cell_rows, row_line, cell_end);
+    let listed = cells::list_rows(
+        depth,
+        cols,
+        rows,
+        at,
+        first,
+        span,
+        cell_rows,
+        row_line,
+        cell_end,
+    );
     let n = listed.cells;
     let r = listed.rows;
     let placed = positions::position_rows(

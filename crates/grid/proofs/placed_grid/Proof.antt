@@ -1,76 +1,58 @@
+-- `placed_grid` meets its contract, arm by arm: two refusals that the positions tell, and rows whose numbering tells the third or the columns.
+-- Assumes nothing.
 use mathlib.Core.Path.{sym, ap}
-use native.Mathlib.Omega.{arith}
 use lib.Seq.{length-take-le}
 use Rattle.grid.specs.Judging.{withColumns}
 use Rattle.grid.proofs.Placed.{ready-rows, judged-past, judged-many, judged-rows}
 use borrow.Author.Needs.{needs}
 use Rattle.grid.proofs.placed_grid.Statement.{statement}
 use Rattle.grid.proofs.placed_grid.Tie as tie
-use Rattle.grid.proofs.placed_grid.Reads as reads
-use Rattle.grid.proofs.placed_grid.Lts as lts
-use Rattle.grid.proofs.number_table.Reads as number-table-reads
 
--- src/lib.rt:72:28
 enum-told : tie.Need-enum-told
 enum-told c = search needs
 
--- src/lib.rt:73:28
 enum-told-2 : tie.Need-enum-told-2
 enum-told-2 c = search needs
 
--- src/lib.rt:74:27
 enum-known-placed : tie.Need-enum-known-placed
 enum-known-placed c = search needs
 
--- src/lib.rt:75:56
 slice-aggregate-number-table : tie.Need-slice-aggregate-number-table
 slice-aggregate-number-table c = let z = ((c .before .before .before .before .before .before .before .before) .pre .ready _ _ _ ((c .before .before) .placed .given .1)) in sym (length-take-le _ _ (z .wide-in))
 
--- src/lib.rt:75:74
 slice-aggregate-number-table-2 : tie.Need-slice-aggregate-number-table-2
 slice-aggregate-number-table-2 c = let z = ((c .before .before .before .before .before .before .before .before .before) .pre .ready _ _ _ ((c .before .before .before) .placed .given .1)) in sym (length-take-le _ _ (z .ends-in))
 
--- src/lib.rt:75:43
 number-table-requires : tie.Need-number-table-requires
 number-table-requires c κs = ready-rows ((c .before .before .before .before .before .before .before .before .before .before .before) .pre .ready _ _ _ ((c .before .before .before .before .before) .placed .given .1))
 
--- src/lib.rt:75:32
 enum-known-columns : tie.Need-enum-known-columns
 enum-known-columns c = search needs
 
--- src/lib.rt:76:17
 enum-told-3 : tie.Need-enum-told-3
 enum-told-3 c = search needs
 
--- src/lib.rt:76:17
 same-length : tie.Need-same-length
 same-length c = search needs
 
--- src/lib.rt:76:17
 same-length-2 : tie.Need-same-length-2
 same-length-2 c = search needs
 
--- src/lib.rt:76:17
 returns : tie.Need-returns
 returns c = judged-rows _ _ _ ((c .before .before .before .before .before .before .before .before .before .before .before .before) .placed .given .1) ((c .before .before .before .before .before .before) .number-table .result) _ (ap (withColumns _ _) (sym (c .enum-told3 .given .1))) ((c .before .before .before .before .before .before) .number-table .ensures)
 
--- src/lib.rt:67:1
 returns-2 : tie.Need-returns-2
 returns-2 c = judged-past (c .enum-told .given .1)
 
--- src/lib.rt:67:1
 returns-3 : tie.Need-returns-3
 returns-3 c = judged-many (c .enum-told2 .given .1)
 
--- src/lib.rt:67:1
 same-length-3 : tie.Need-same-length-3
 same-length-3 c = search needs
 
--- src/lib.rt:67:1
 same-length-4 : tie.Need-same-length-4
 same-length-4 c = search needs
 
--- src/lib.rt:67:1
 returns-4 : tie.Need-returns-4
 returns-4 c = judged-rows _ _ _ ((c .before .before .before .before .before .before .before .before .before .before .before .before .before) .placed .given .1) ((c .before .before .before .before .before .before .before) .number-table .result) _ (ap (withColumns _ _) (sym ((c .before) .columns .given .1))) ((c .before .before .before .before .before .before .before) .number-table .ensures)
 

@@ -1,3 +1,6 @@
+-- `table_grid` meets its contract. The listed slices hold the table again (`rebuilt`), which has no more rows and cells than the sheet has
+-- lines, so its positions can be made and its rows be numbered; the three calls together are the table's grid (`judged`). Every slice keeps the
+-- length that it had. Assumes nothing.
 use mathlib.Core.Path.{sym, _∙_}
 use Prim.Native.Nat.{_+_, _≤_}
 use native.Mathlib.Omega.{arith}
@@ -7,14 +10,8 @@ use Rattle.lists.specs.Limits.{maxLines}
 use Rattle.cells.specs.Listed.{allCells, heldRows}
 use Rattle.grid.proofs.Rebuilt.{listed-in, listed-ready, lined-few, lined-ready}
 use Rattle.grid.proofs.Judging.{placed-ready, judged}
-use borrow.Author.Needs.{needs}
 use Rattle.grid.proofs.table_grid.Statement.{statement}
 use Rattle.grid.proofs.table_grid.Tie as tie
-use Rattle.grid.proofs.table_grid.Reads as reads
-use Rattle.grid.proofs.table_grid.Lts as lts
-use Rattle.cells.proofs.list_rows.Reads as list-rows-reads
-use Rattle.grid.proofs.placed_grid.Reads as placed-grid-reads
-use Rattle.positions.proofs.position_rows.Reads as position-rows-reads
 
 -- the way back from the listing to the entry
 abbrev entry : tie.After-list-rows → tie.Start
@@ -36,43 +33,33 @@ fits-cell-rows c = omega (arith, listed-in (c .list-rows .ensures) (few c), entr
 fits-cell-end : (c : tie.After-list-rows) → c .list-rows .result .rows ≤ length (c .list-rows .last .1 .1 .1 .1 .1 .1 .1 .1 .0)
 fits-cell-end c = omega (arith, listed-in (c .list-rows .ensures) (few c), entry c .pre .1 .1 .cell-end-room, c .list-rows .kept .1 .1 .1 .1 .1 .1 .1 .1 .0)
 
--- src/lib.rt:117:9
 list-rows-requires : tie.Need-list-rows-requires
 list-rows-requires c κs = let s = (c .before .before .before .before .before .before .before .before .before .before .before .before .before .before .before .before .before .before .before .before .before .before) in let r = s .pre .1 .1 in let h = s .pre .1 .0 .short in lined-ready (s .pre .1 .0) (s .pre .0) (omega (arith, r .first-room)) (omega (arith, r .span-room)) (omega (arith, r .cell-rows-room)) (omega (arith, r .row-room)) (omega (arith, r .cell-end-room))
 
--- src/lib.rt:121:9
 slice-reshare-prefix-position-rows : tie.Need-slice-reshare-prefix-position-rows
 slice-reshare-prefix-position-rows c = fits-first ((c .before .before .before .before .before .before .before .before .before .before))
 
--- src/lib.rt:121:9
 slice-aggregate-position-rows : tie.Need-slice-aggregate-position-rows
 slice-aggregate-position-rows c = sym (length-take-le _ _ (fits-first ((c .before .before .before .before .before .before .before .before .before .before .before))))
 
--- src/lib.rt:122:9
 slice-reshare-prefix-position-rows-2 : tie.Need-slice-reshare-prefix-position-rows-2
 slice-reshare-prefix-position-rows-2 c = fits-span ((c .before .before .before .before .before .before .before .before .before .before .before))
 
--- src/lib.rt:122:9
 slice-aggregate-position-rows-2 : tie.Need-slice-aggregate-position-rows-2
 slice-aggregate-position-rows-2 c = sym (length-take-le _ _ (fits-span ((c .before .before .before .before .before .before .before .before .before .before .before .before))))
 
--- src/lib.rt:123:9
 slice-reshare-prefix-position-rows-3 : tie.Need-slice-reshare-prefix-position-rows-3
 slice-reshare-prefix-position-rows-3 c = fits-cell-rows ((c .before .before .before .before .before .before .before .before .before .before .before .before))
 
--- src/lib.rt:123:9
 slice-aggregate-position-rows-3 : tie.Need-slice-aggregate-position-rows-3
 slice-aggregate-position-rows-3 c = sym (length-take-le _ _ (fits-cell-rows ((c .before .before .before .before .before .before .before .before .before .before .before .before .before))))
 
--- src/lib.rt:124:9
 slice-reshare-prefix-position-rows-4 : tie.Need-slice-reshare-prefix-position-rows-4
 slice-reshare-prefix-position-rows-4 c = fits-cell-end ((c .before .before .before .before .before .before .before .before .before .before .before .before .before))
 
--- src/lib.rt:124:9
 slice-aggregate-position-rows-4 : tie.Need-slice-aggregate-position-rows-4
 slice-aggregate-position-rows-4 c = sym (length-take-le _ _ (fits-cell-end ((c .before .before .before .before .before .before .before .before .before .before .before .before .before .before))))
 
--- src/lib.rt:120:9
 position-rows-requires : tie.Need-position-rows-requires
 position-rows-requires c κs = let w = (c .before .before .before .before .before .before .before .before .before .before .before .before .before .before .before .before .before .before .before .before .before .before .before .before) in let r = entry w .pre .1 .1 in
     listed-ready (w .list-rows .ensures) (few w) (fits-first w) (fits-span w) (fits-cell-rows w) (fits-cell-end w)
@@ -89,69 +76,53 @@ position-rows-requires c κs = let w = (c .before .before .before .before .befor
       next-wide-room = r .next-wide-room;
     })
 
--- src/lib.rt:136:5
 placed-grid-requires : tie.Need-placed-grid-requires
 placed-grid-requires c κs = let p = (c .before .before .before .before .before .before .before .before .before .before .before .before .before .before .before .before .before .before .before .before .before .before .before .before) in let w = (c .before .before .before .before .before .before .before .before .before .before .before .before .before .before .before .before .before .before .before .before .before .before .before .before .before .before .before .before .before .before .before .before .before .before .before .before .before .before .before .before .before .before .before .before .before .before .before .before .before) in let r = entry w .pre .1 .1 in
     placed-ready (w .list-rows .ensures) (p .position-rows .ensures) (few w) (omega (arith, r .wide-room, p .position-rows .kept .1 .1 .1 .1 .1 .1 .0)) (omega (arith, r .end-room, p .position-rows .kept .1 .1 .1 .1 .1 .1 .1 .0))
     (omega (arith, r .first-room, w .list-rows .kept .1 .1 .1 .1 .0)) (omega (arith, r .span-room, w .list-rows .kept .1 .1 .1 .1 .1 .0))
 
--- src/lib.rt:89:1
 same-length : tie.Need-same-length
 same-length c = ((c .before .before .before .before .before .before .before .before .before .before .before .before .before .before .before .before .before .before .before .before .before .before .before .before .before .before .before .before .before)) .position-rows .kept .1 .1 .1 .1 .1 .1 .0
 
--- src/lib.rt:89:1
 same-length-2 : tie.Need-same-length-2
 same-length-2 c = ((c .before .before .before .before .before .before .before .before .before .before .before .before .before .before .before .before .before .before .before .before .before .before .before .before .before .before .before .before .before .before .before .before .before .before .before .before .before .before .before .before .before .before .before .before .before .before .before .before .before .before .before .before .before .before)) .list-rows .kept .1 .1 .1 .1 .1 .1 .0
 
--- src/lib.rt:89:1
 same-length-3 : tie.Need-same-length-3
 same-length-3 c = ((c .before .before .before .before .before .before .before .before .before .before .before .before .before .before .before .before .before .before .before .before .before .before .before .before .before .before .before .before .before .before .before .before .before .before .before .before .before .before .before .before .before .before .before .before .before .before .before .before .before .before .before .before .before .before)) .list-rows .kept .1 .1 .1 .1 .1 .1 .1 .1 .0
 
--- src/lib.rt:89:1
 same-length-4 : tie.Need-same-length-4
 same-length-4 c = ((c .before .before .before .before .before .before .before .before .before .before .before .before .before .before .before .before .before .before .before .before .before .before .before .before .before .before .before .before .before)) .position-rows .kept .1 .1 .1 .1 .1 .1 .1 .1 .0
 
--- src/lib.rt:89:1
 same-length-5 : tie.Need-same-length-5
 same-length-5 c = ((c .before .before .before .before .before .before .before .before .before .before .before .before .before .before .before .before .before .before .before .before .before .before .before .before .before .before .before .before .before)) .position-rows .kept .1 .1 .1 .1 .1 .1 .1 .1 .1 .0
 
--- src/lib.rt:89:1
 same-length-6 : tie.Need-same-length-6
 same-length-6 c = ((c .before .before .before .before .before .before .before .before .before .before .before .before .before .before .before .before .before .before .before .before .before .before .before .before .before .before .before .before .before)) .position-rows .kept .1 .1 .1 .1 .1 .1 .1 .1 .1 .1 .0
 
--- src/lib.rt:89:1
 same-length-7 : tie.Need-same-length-7
 same-length-7 c = ((c .before .before .before .before .before .before .before .before .before .before .before .before .before .before .before .before .before .before .before .before .before .before .before .before .before .before .before .before .before)) .position-rows .kept .1 .1 .1 .1 .1 .1 .1 .1 .1 .1 .1 .0
 
--- src/lib.rt:89:1
 same-length-8 : tie.Need-same-length-8
 same-length-8 c = ((c .before .before .before .before .before .before .before .before .before .before .before .before .before .before .before .before .before .before .before .before .before .before .before .before .before .before .before .before .before)) .position-rows .kept .1 .1 .1 .1 .1 .1 .1 .1 .1 .1 .1 .1 .0
 
--- src/lib.rt:89:1
 same-length-9 : tie.Need-same-length-9
 same-length-9 c = ((c .before .before .before .before .before .before .before .before .before .before .before .before .before .before .before .before .before .before .before .before .before .before .before .before .before .before .before .before .before)) .position-rows .kept .1 .1 .1 .1 .1 .1 .1 .1 .1 .1 .1 .1 .1 .0
 
--- src/lib.rt:89:1
 same-length-10 : tie.Need-same-length-10
 same-length-10 c = ((c .before .before .before .before .before .before .before .before .before .before .before .before .before .before .before .before .before .before .before .before .before .before .before .before .before .before .before .before .before)) .position-rows .kept .1 .1 .1 .1 .1 .0
 
--- src/lib.rt:89:1
 same-length-11 : tie.Need-same-length-11
 same-length-11 c = ((c .before .before .before .before)) .placed-grid .kept .1 .1 .1 .0 ∙ ((c .before .before .before .before .before .before .before .before .before .before .before .before .before .before .before .before .before .before .before .before .before .before .before .before .before .before .before .before .before .before .before .before .before .before .before .before .before .before .before .before .before .before .before .before .before .before .before .before .before .before .before .before .before .before)) .list-rows .kept .1 .1 .1 .1 .0
 
--- src/lib.rt:89:1
 same-length-12 : tie.Need-same-length-12
 same-length-12 c = ((c .before .before .before .before)) .placed-grid .kept .1 .1 .1 .1 .0 ∙ ((c .before .before .before .before .before .before .before .before .before .before .before .before .before .before .before .before .before .before .before .before .before .before .before .before .before .before .before .before .before .before .before .before .before .before .before .before .before .before .before .before .before .before .before .before .before .before .before .before .before .before .before .before .before .before)) .list-rows .kept .1 .1 .1 .1 .1 .0
 
--- src/lib.rt:89:1
 same-length-13 : tie.Need-same-length-13
 same-length-13 c = ((c .before .before .before .before .before .before .before .before .before .before .before .before .before .before .before .before .before .before .before .before .before .before .before .before .before .before .before .before .before)) .position-rows .kept .1 .1 .1 .1 .0 ∙ ((c .before .before .before .before .before .before .before .before .before .before .before .before .before .before .before .before .before .before .before .before .before .before .before .before .before .before .before .before .before .before .before .before .before .before .before .before .before .before .before .before .before .before .before .before .before .before .before .before .before .before .before .before .before .before)) .list-rows .kept .1 .1 .1 .1 .1 .1 .1 .0
 
--- src/lib.rt:89:1
 same-length-14 : tie.Need-same-length-14
 same-length-14 c = ((c .before .before .before .before .before .before .before .before .before .before .before .before .before .before .before .before .before .before .before .before .before .before .before .before .before .before .before .before .before)) .position-rows .kept .1 .1 .1 .1 .1 .1 .1 .0
 
--- src/lib.rt:89:1
 returns : tie.Need-returns
 returns c = judged (((c .before .before .before .before .before .before .before .before .before .before .before .before .before .before .before .before .before .before .before .before .before .before .before .before .before .before .before .before .before .before .before .before .before .before .before .before .before .before .before .before .before .before .before .before .before .before .before .before .before .before .before .before .before .before)) .list-rows .ensures) (((c .before .before .before .before .before .before .before .before .before .before .before .before .before .before .before .before .before .before .before .before .before .before .before .before .before .before .before .before .before)) .position-rows .ensures) (((c .before .before .before .before)) .placed-grid .ensures)
 

@@ -1,0 +1,134 @@
+-- The slices that a read sheet fills: what they hold, and what judging the tables takes. Assumes nothing.
+use mathlib.Core.Path.{_≡_, refl, sym, ap, _∙_}
+use mathlib.Core.Bool.{true}
+use mathlib.Core.List.{List, map}
+use Prim.Native.Nat.{ℕ, _+_, _≤_, _<_}
+use native.Mathlib.Omega.{arith}
+use lib.ListN.{length, getD, take, length-map, List·getD-map}
+use lib.Seq.{length-take-le}
+use Rattle.lists.specs.Limits.{maxLines}
+use Rattle.lists.specs.Lists.{over}
+use Rattle.lists.proofs.Over.{over-front}
+use Rattle.line.specs.Kinds.{mayHold}
+use Rattle.line.specs.Fields.{Line, noLine, ownSize}
+use Rattle.sheet.specs.Sheet.{sheetLines}
+use Rattle.sheet.specs.Nesting.{Nested}
+use Rattle.sheet.specs.Steps.{roomFor}
+use Rattle.sheet.specs.Reading.{depthOf, kindOfLine, numberOfLine, colsOf, rowsOf, readingOf, Slices, slices, Room, Stored, Reads}
+use Rattle.sheet.specs.declared.Reading.{Reading}
+use Rattle.sheet.specs.declared.Reading.the-variants.{Lines}
+use Rattle.sheet.proofs.Ranges.{Ranged}
+use Rattle.sheet.proofs.Nests.{lines-ranged, accepted-nested}
+use Rattle.sheet.proofs.Bounds.{accepted-lines}
+use Rattle.grid.specs.Judging.{Lined}
+use Rattle.judge.specs.Kept.{Nests, HoldsKinds}
+use Rattle.opening.specs.Opening.{Holds}
+use Rattle.opening.specs.Opened.{LinesRoom, GridsRoom, SheetRead, FrontReady}
+use Rattle.opening.proofs.Answers.{holds-front}
+
+-- a figure of each line, written over the front of a slice
+front : (f : Line → ℕ) (ls : List Line) (o b : List ℕ) → b ≡ over (map f ls) o → take (length ls) b ≡ map f ls
+front f ls o b e = ap (take (length ls)) e ∙ ap (λ (n : ℕ). take n (over (map f ls) o)) (sym (length-map ls f)) ∙ over-front (map f ls) o
+
+pub stored-holds : (s : List ℕ) (ls : List Line) (a b : Slices) → Stored s ls a b
+    → Holds ls (b .depth) (b .kind) (b .number) (b .cols) (b .rows) (b .own)
+stored-holds s ls a b w =
+    record {
+      depths = front depthOf ls (a .depth) (b .depth) (w .depth);
+      kinds = front kindOfLine ls (a .kind) (b .kind) (w .kind);
+      numbers = front numberOfLine ls (a .number) (b .number) (w .number);
+      all-cols = front colsOf ls (a .cols) (b .cols) (w .cols);
+      all-rows = front rowsOf ls (a .rows) (b .rows) (w .rows);
+      owns = front ownSize ls (a .own) (b .own) (w .own);
+    }
+
+pub sheet-read : (s : List ℕ) (r : Reading) (a b : Slices) → Reads s r a b
+    → SheetRead s r (b .depth) (b .kind) (b .number) (b .cols) (b .rows) (b .own)
+sheet-read s r a b w = record { answer = w .answer; holds = λ n e. stored-holds s (sheetLines s) a b (w .stored n e) }
+
+-- the figure of a line at a place, by the slice that holds it
+pub at : (f : Line → ℕ) (ls : List Line) (l : List ℕ) → l ≡ map f ls → f noLine ≡ 0 → (k : ℕ) → getD l k 0 ≡ f (getD ls k noLine)
+at f ls l e z k = ap (λ (m : List ℕ). getD m k 0) e ∙ ap (λ (d : ℕ). getD (map f ls) k d) (sym z) ∙ List·getD-map f ls k noLine
+
+pub long : (f : Line → ℕ) (ls : List Line) (l : List ℕ) → l ≡ map f ls → length l ≡ length ls
+long f ls l e = ap length e ∙ length-map ls f
+
+-- a line's parent, by depths, may hold it
+pub held-by : (ls : List Line) (depth kind : List ℕ) → depth ≡ map depthOf ls → kind ≡ map kindOfLine ls → Nested ls → (p i : ℕ) → p < i → i < length depth
+    → getD depth i 0 ≡ getD depth p 0 + 1 → ((k : ℕ) → p < k → k < i → getD depth p 0 < getD depth k 0) → mayHold (getD kind p 0) (getD kind i 0) ≡ true
+held-by ls depth kind e q nested p i before within deeper between =
+    let d = at depthOf ls depth e refl in
+    let k = at kindOfLine ls kind q refl in
+    let a = d i in
+    let b = d p in
+    rw (k p, k i)
+    (nested .holds p i (record {
+      before = before;
+      within = omega (arith, long depthOf ls depth e);
+      deeper = omega arith;
+      between = λ j g l. omega (arith, d j, between j g l);
+    }))
+
+module _ {ls : List Line} {depth kind cols rows : List ℕ} (h : HoldsKinds ls depth kind cols rows) (nested : Nested ls) where
+  pub lined : length ls ≤ maxLines → ((k : ℕ) → Ranged (getD ls k noLine)) → Lined depth cols rows
+  lined few ranged =
+      let d = at depthOf ls depth (h .figures .depths) refl in
+      let n = long depthOf ls depth (h .figures .depths) in
+      record {
+        short = omega arith;
+        cols-length = long colsOf ls cols (h .figures .all-cols) ∙ sym n;
+        rows-length = long rowsOf ls rows (h .figures .all-rows) ∙ sym n;
+        shallow = λ k. omega (arith, d k, nested .shallow k);
+        step = λ k g. omega (arith, d k, d (k + 1), nested .step k (omega arith));
+        narrow = λ k. omega (arith, at colsOf ls cols (h .figures .all-cols) refl k, ranged k .wide);
+      }
+
+  pub nests : Nests depth kind
+  nests =
+      record {
+        kinds = long kindOfLine ls kind (h .kinds) ∙ sym (long depthOf ls depth (h .figures .depths));
+        holds = λ p i w. held-by ls depth kind (h .figures .depths) (h .kinds) nested p i (w .before) (w .within) (w .deeper) (w .between);
+      }
+
+module _ {s : List ℕ} {n : ℕ} {depth kind number cols rows own : List ℕ} (w : SheetRead s (Lines n) depth kind number cols rows own) where
+  abbrev accepts : readingOf s ≡ Lines n
+  accepts = sym (w .answer)
+
+  pub front-ready : (first′ span : List ℕ) → maxLines ≤ length depth → maxLines ≤ length kind → maxLines ≤ length cols → maxLines ≤ length rows
+      → GridsRoom first′ span → FrontReady n depth kind cols rows first′ span
+  front-ready first′ span dr kr cr rr g =
+      let (q, few) = accepted-lines s n accepts in
+      let h = holds-front n w in
+      let i : n ≤ maxLines = omega arith in
+      let f = g .first-room in
+      let p = g .span-room in
+      let long-depth = length-take-le n depth (omega arith) in
+      record {
+        depth-in = omega arith;
+        kind-in = omega arith;
+        cols-in = omega arith;
+        rows-in = omega arith;
+        first-in = omega arith;
+        span-in = omega arith;
+        ready = record {
+          lined = lined h (accepted-nested s n accepts) few (lines-ranged s);
+          nests = nests h (accepted-nested s n accepts);
+          room = (omega (arith, length-take-le n first′ (omega arith)), omega (arith, length-take-le n span (omega arith)));
+        };
+      }
+
+-- room for the lines is room for reading
+pub reading-room : (s depth kind number cols rows own from to : List ℕ) → LinesRoom depth kind number cols rows own
+    → maxLines ≤ length from → maxLines ≤ length to → Room (roomFor s) (slices depth kind number cols rows own from to)
+reading-room s depth kind number cols rows own from to w f t =
+    let h : roomFor s ≤ maxLines = omega arith in
+    record {
+      depth = omega arith;
+      kind = omega arith;
+      number = omega arith;
+      cols = omega arith;
+      rows = omega arith;
+      own = omega arith;
+      from = omega arith;
+      to = omega arith;
+    }
