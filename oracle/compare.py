@@ -22,7 +22,7 @@ import cases
 import expect
 import generate
 
-CHUNK_BYTES = 4000000
+CHUNK_BYTES = 900000         # replay takes 1 MB at a time
 TRIALS = 600            # of the search for a smaller case
 SECONDS = 300           # for one run of the program
 

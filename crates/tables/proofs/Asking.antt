@@ -1,0 +1,129 @@
+-- The table that a call asks for: its lines, as slices hold them, are ready to be judged, its rows are those of the sheet's lines, and if the
+-- sheet is opened, no check applies to it. Assumes nothing.
+use mathlib.Core.Path.{_≡_, refl, sym, ap, _∙_}
+use mathlib.Core.Bool.{true, not, cond, _&&_}
+use mathlib.Core.List.{List, [], _∷_, map}
+use Prim.Native.Nat.{ℕ, zero, suc, _+_, _-_, _≤_, _<_}
+use native.Mathlib.Nat.{not-suc-le-zero}
+use native.Mathlib.Omega.{arith}
+use lib.Dec.{leb, eqb}
+use lib.ListN.{length, getD, take, drop, length-map, List·getD-map}
+use lib.Seq.{drop-cons}
+use borrow.Author.Tests.{leb-true, eqb-true, eq-eqb, not-true, not-false}
+use Rattle.lists.specs.Limits.{maxLines}
+use Rattle.lists.specs.Refusals.{passes}
+use Rattle.line.specs.Kinds.{tableKind}
+use Rattle.line.specs.Fields.{Line, noLine}
+use Rattle.sheet.specs.Sheet.{sheetLines}
+use Rattle.sheet.specs.Nesting.{Nested}
+use Rattle.sheet.proofs.First.{both-true, passes-append}
+use Rattle.sheet.proofs.Ranges.{Ranged}
+use Rattle.sheet.proofs.Nests.{lines-ranged, accepted-nested}
+use Rattle.cells.specs.Cells.{bodiesOf, resolved}
+use Rattle.cells.specs.Listed.{heldRows, HoldsLines}
+use Rattle.cells.proofs.Lines.{held-rows}
+use Rattle.grid.specs.Grid.{tableChecks, tableRows, tablesChecks}
+use Rattle.grid.specs.Judging.{Lined}
+use Rattle.opening.specs.Opening.{isTable, everyTable, Holds}
+use Rattle.tables.specs.Tables.{TableAsked}
+use Rattle.tables.proofs.Openings.{Passed}
+
+-- every table passes, so this one does
+tables-pass : (t k u : ℕ) (ls : List Line) → u ≡ t + k → passes (tablesChecks t ls) ≡ true → k < length ls → getD ls k noLine .kind ≡ tableKind
+    → passes (tableChecks u (tableRows u (drop k ls))) ≡ true
+unfolding tablesChecks
+tables-pass t k u [] i e h q = absurd (not-suc-le-zero h)
+tables-pass t zero u (l ∷ ls) i e h q =
+    let here = cond (eqb (l .kind) tableKind) (tableChecks t (tableRows t (l ∷ ls))) [] in
+    let p = both-true (passes here) (passes (tablesChecks (suc t) ls)) (sym (passes-append here (tablesChecks (suc t) ls)) ∙ e) .0 in
+    let j : u ≡ t = omega arith in
+    rw j (rw (eq-eqb _ _ q) at p)
+tables-pass t (suc k) u (l ∷ ls) i e h q =
+    let here = cond (eqb (l .kind) tableKind) (tableChecks t (tableRows t (l ∷ ls))) [] in
+    let p = both-true (passes here) (passes (tablesChecks (suc t) ls)) (sym (passes-append here (tablesChecks (suc t) ls)) ∙ e) .1 in
+    tables-pass (suc t) k u ls (omega arith) p (omega arith) q
+
+-- a line that is a table
+pub record IsTable (ls : List Line) (line : ℕ) : Type 0 where
+  pub from-one : 1 ≤ line
+  pub within : line ≤ length ls
+  pub kind : getD ls (line - 1) noLine .kind ≡ tableKind
+
+is-table : (ls : List Line) (line : ℕ) → isTable ls line ≡ true → IsTable ls line
+is-table ls line e =
+    let (front, kind) = both-true (leb 1 line && leb line (length ls)) (eqb (getD ls (line - 1) noLine .kind) tableKind) e in
+    let (low, high) = both-true (leb 1 line) (leb line (length ls)) front in
+    record { from-one = leb-true 1 line low; within = leb-true line (length ls) high; kind = eqb-true _ _ kind }
+
+pub asked-table : (s : List ℕ) (line n : ℕ) → Passed true s line n → IsTable (sheetLines s) line
+unfolding passes
+asked-table s line n p =
+    let t = isTable (sheetLines s) line in
+    let (a, b) = both-true (not (not t)) (passes (everyTable s)) (p .more) in
+    is-table (sheetLines s) line (not-false t (not-true (not t) a))
+
+pub asked-passes : (s : List ℕ) (line n : ℕ) → Passed true s line n
+    → passes (tableChecks line (tableRows line (drop (line - 1) (sheetLines s)))) ≡ true
+unfolding passes
+asked-passes s line n p =
+    let t = asked-table s line n p in
+    let (a, b) = both-true (not (not (isTable (sheetLines s) line))) (passes (everyTable s)) (p .more) in
+    tables-pass 1 (line - 1) line (sheetLines s) (omega (arith, t .from-one)) b (omega (arith, t .from-one, t .within)) (t .kind)
+
+-- the figure of a line at a place, by the slice that holds it
+at : (f : Line → ℕ) (ls : List Line) (l : List ℕ) → l ≡ map f ls → f noLine ≡ 0 → (k : ℕ) → getD l k 0 ≡ f (getD ls k noLine)
+at f ls l e z k = ap (λ (m : List ℕ). getD m k 0) e ∙ ap (getD (map f ls) k) (sym z) ∙ List·getD-map f ls k noLine
+
+long : (f : Line → ℕ) (ls : List Line) (l : List ℕ) → l ≡ map f ls → length l ≡ length ls
+long f ls l e = ap length e ∙ length-map ls f
+
+module _ {ls : List Line} {depth cols rows : List ℕ} (h : HoldsLines ls depth cols rows) where
+  lined : length ls ≤ maxLines → Nested ls → ((k : ℕ) → Ranged (getD ls k noLine)) → Lined depth cols rows
+  lined few nested ranged =
+      let d = at (λ l. l .depth) ls depth (h .depths) refl in
+      let n = long (λ l. l .depth) ls depth (h .depths) in
+      record {
+        short = omega arith;
+        cols-length = long (λ l. l .cols) ls cols (h .all-cols) ∙ sym n;
+        rows-length = long (λ l. l .rows) ls rows (h .all-rows) ∙ sym n;
+        shallow = λ k. omega (arith, d k, nested .shallow k);
+        step = λ k g. omega (arith, d k, d (k + 1), nested .step k (omega arith));
+        narrow = λ k. omega (arith, at (λ l. l .cols) ls cols (h .all-cols) refl k, ranged k .wide);
+      }
+
+  -- the rows of the table in a line
+  pub table-held : (line : ℕ) → 1 ≤ line → line ≤ length ls → heldRows depth cols rows (line - 1) ≡ tableRows line (drop (line - 1) ls)
+  unfolding tableRows
+  table-held line low high =
+      let k : line - 1 + 1 ≡ line = omega arith in
+      let j : suc (line - 1) ≡ line = omega arith in
+      let q : drop (line - 1) ls ≡ getD ls (line - 1) noLine ∷ drop line ls =
+      drop-cons ls (line - 1) noLine (omega arith) ∙ ap (λ (m : ℕ). getD ls (line - 1) noLine ∷ drop m ls) j in
+      held-rows ls depth cols rows (line - 1) h
+      ∙ ap (λ (d : ℕ). resolved (bodiesOf d (line - 1 + 1) (drop (line - 1 + 1) ls))) (at (λ l. l .depth) ls depth (h .depths) refl (line - 1))
+      ∙ ap (λ (m : ℕ). resolved (bodiesOf (getD ls (line - 1) noLine .depth) m (drop m ls))) k
+      ∙ sym (ap (tableRows line) q)
+
+module _ {s : List ℕ} {line n : ℕ} {depth kind number cols rows own : List ℕ} (p : Passed true s line n) (o : Holds (sheetLines s) depth kind number cols rows own) where
+  pub holds-lines : HoldsLines (sheetLines s) (take n depth) (take n cols) (take n rows)
+  holds-lines =
+      record {
+        depths = ap (λ (m : ℕ). take m depth) (p .count) ∙ o .depths;
+        all-cols = ap (λ (m : ℕ). take m cols) (p .count) ∙ o .all-cols;
+        all-rows = ap (λ (m : ℕ). take m rows) (p .count) ∙ o .all-rows;
+      }
+
+  pub held-length : length (take n depth) ≡ length (sheetLines s)
+  held-length = long (λ l. l .depth) (sheetLines s) (take n depth) (holds-lines .depths)
+
+  pub table-asked : TableAsked (take n depth) (take n cols) (take n rows) line
+  table-asked =
+      let t = asked-table s line n p in
+      record {
+        lined = lined holds-lines (omega (arith, p .count, p .few)) (accepted-nested s n (p .reading)) (lines-ranged s);
+        from-one = t .from-one;
+        within = omega (arith, t .within, held-length);
+      }
+
+  pub asked-rows : heldRows (take n depth) (take n cols) (take n rows) (line - 1) ≡ tableRows line (drop (line - 1) (sheetLines s))
+  asked-rows = let t = asked-table s line n p in table-held holds-lines line (t .from-one) (t .within)

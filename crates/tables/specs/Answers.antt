@@ -1,0 +1,93 @@
+-- The answers of the calls, and what stands in the lent buffers afterwards, refused calls included: the figures, then zeros.
+-- These are definitions; nothing is assumed.
+use mathlib.Core.Path.{_≡_}
+use mathlib.Core.Bool.{true, cond}
+use mathlib.Core.List.{List, [], map}
+use Prim.Native.Nat.{ℕ}
+use lib.ListN.{length}
+use Rattle.lists.specs.Lists.{padded}
+use Rattle.lists.specs.Refusals.{Check, first, passes}
+use Rattle.text.specs.declared.Estimate.{Estimate}
+use Rattle.sheet.specs.Sheet.{sheetLines}
+use Rattle.grid.specs.Grid.{Entry, GridRow, shownLine, entriesOf, rowEnds}
+use Rattle.estimates.specs.Estimates.{estimates}
+use Rattle.placing.specs.Place.{Placed}
+use Rattle.placing.specs.Promise.{Promised}
+use Rattle.tables.specs.Calls.{estimatesChecks, gridChecks, layoutChecks, rowsAt, columnsAt, boxesAt, wayAt, widthsAt, widthAt, placesAt}
+use Rattle.tables.specs.declared.Estimated.{Estimated}
+use Rattle.tables.specs.declared.Gridded.{Gridded}
+use Rattle.tables.specs.declared.LaidOut.{LaidOut}
+use Rattle.tables.specs.declared.Estimated.the-variants as estimated
+use Rattle.tables.specs.declared.Gridded.the-variants as gridded
+use Rattle.tables.specs.declared.LaidOut.the-variants as laidOut
+
+-- the figures of an accepted call; none if it is refused
+abbrev pub ifPasses : List Check → List ℕ → List ℕ
+ifPasses cs xs = cond (passes cs) xs []
+
+-- what a lent buffer of these places holds afterwards
+abbrev pub leaves : List Check → List ℕ → List ℕ → List ℕ
+leaves cs buffer figures = padded (length buffer) (ifPasses cs figures)
+
+abbrev pub sizeOf : Estimate → ℕ
+sizeOf e = e .size
+
+abbrev pub leastOf : Estimate → ℕ
+leastOf e = e .least
+
+abbrev pub prefixOf : Estimate → ℕ
+prefixOf e = e .prefix
+
+-- `estimates`
+unfoldable pub estimatedOf : List ℕ → ℕ → List ℕ → Estimated
+estimatedOf s wrap lines =
+    first estimated.Refused (estimated.Lines (length (sheetLines s))) (estimatesChecks s wrap lines)
+
+pub record EstimatesAnswer (s : List ℕ) (wrap : ℕ) (lines : List ℕ) (size₀ least₀ prefix₀ : List ℕ) (r : Estimated) (size least prefix : List ℕ) : Type 0 where
+  pub answer : r ≡ estimatedOf s wrap lines
+  pub sizes : size ≡ leaves (estimatesChecks s wrap lines) size₀ (map sizeOf (estimates wrap (sheetLines s)))
+  pub leasts : least ≡ leaves (estimatesChecks s wrap lines) least₀ (map leastOf (estimates wrap (sheetLines s)))
+  pub prefixes : prefix ≡ leaves (estimatesChecks s wrap lines) prefix₀ (map prefixOf (estimates wrap (sheetLines s)))
+
+abbrev pub firstOf : Entry → ℕ
+firstOf e = e .first
+
+abbrev pub spanOf : Entry → ℕ
+spanOf e = e .span
+
+abbrev pub rowLine : GridRow → ℕ
+rowLine r = r .line
+
+-- `grid`
+unfoldable pub griddedOf : List ℕ → ℕ → List ℕ → List ℕ → Gridded
+griddedOf s line entries rows =
+    first gridded.Refused (gridded.Grid (length (rowsAt s line)) (length (entriesOf (rowsAt s line))) (columnsAt s line)) (gridChecks s line entries rows)
+
+pub record GridAnswer (s : List ℕ) (line : ℕ) (entries rows : List ℕ) (cell₀ first₀ span₀ row₀ end₀ : List ℕ) (r : Gridded) (cell first span row end : List ℕ) : Type 0 where
+  pub answer : r ≡ griddedOf s line entries rows
+  pub cells : cell ≡ leaves (gridChecks s line entries rows) cell₀ (map shownLine (entriesOf (rowsAt s line)))
+  pub firsts : first ≡ leaves (gridChecks s line entries rows) first₀ (map firstOf (entriesOf (rowsAt s line)))
+  pub spans : span ≡ leaves (gridChecks s line entries rows) span₀ (map spanOf (entriesOf (rowsAt s line)))
+  pub row-lines : row ≡ leaves (gridChecks s line entries rows) row₀ (map rowLine (rowsAt s line))
+  pub row-ends : end ≡ leaves (gridChecks s line entries rows) end₀ (rowEnds 0 (rowsAt s line))
+
+abbrev pub xOf : Placed → ℕ
+xOf p = p .x
+
+abbrev pub widthOf : Placed → ℕ
+widthOf p = p .width
+
+-- `layout`
+unfoldable pub laidOutOf : List ℕ → ℕ → ℕ → ℕ → ℕ → List ℕ → List ℕ → LaidOut
+laidOutOf s line wrap raw width columns entries =
+    first laidOut.Refused (laidOut.Layout (wayAt s line wrap raw width) (columnsAt s line) (widthAt s line wrap raw width))
+    (layoutChecks s line wrap raw width columns entries)
+
+-- the figures, and of these figures the third demand
+pub record LayoutAnswer (s : List ℕ) (line wrap raw width : ℕ) (columns entries : List ℕ) (column₀ x₀ wide₀ : List ℕ) (r : LaidOut) (column x wide : List ℕ) : Type 0 where
+  pub answer : r ≡ laidOutOf s line wrap raw width columns entries
+  pub widths : column ≡ leaves (layoutChecks s line wrap raw width columns entries) column₀ (widthsAt s line wrap raw width)
+  pub xs : x ≡ leaves (layoutChecks s line wrap raw width columns entries) x₀ (map xOf (placesAt s line wrap raw width))
+  pub wides : wide ≡ leaves (layoutChecks s line wrap raw width columns entries) wide₀ (map widthOf (placesAt s line wrap raw width))
+  pub promised : passes (layoutChecks s line wrap raw width columns entries) ≡ true →
+      Promised (columnsAt s line) (boxesAt s line wrap) raw width (wayAt s line wrap raw width) (widthsAt s line wrap raw width)

@@ -1,0 +1,98 @@
+-- The table of the cases that are asked to be proved, about the definitions, in the order in which they are asked. Assumes nothing.
+use mathlib.Core.Path.{_≡_, refl}
+use mathlib.Core.Bool.{true, false}
+use mathlib.Core.List.{List, [], _∷_, map}
+use Prim.Native.Nat.{ℕ}
+use Rattle.lists.specs.Lists.{sum, mem}
+use Rattle.lists.specs.Refusals.{verdictOf, first}
+use Rattle.lists.specs.declared.Verdict.the-variants.{Refused}
+use Rattle.text.specs.Bytes.{classOf}
+use Rattle.text.specs.Text.{measureOf, textSize, readable, trimStart, trimEnd, widths, runs, begins}
+use Rattle.text.specs.Decimal.{digitsIn, digits, writing, plain}
+use Rattle.text.specs.Prefix.{lastNumber, olPrefix}
+use Rattle.text.specs.declared.Measured.the-variants.{Figures}
+use Rattle.edges.specs.Edges.{countBelow, endsFrom, allAt}
+use Rattle.cells.specs.Cells as cells
+use Rattle.cells.specs.Cells.{cell, rowSum, widest, resolveRow, resolveBody}
+use Rattle.rows.specs.Row.{fillers, later, rowFrom, hangOf, nexts}
+use Rattle.positions.specs.Positions.{originals, hangBelow, leastLeft, extrasIn, extras, endsPast, entryCount}
+use Rattle.grid.specs.Grid.{entry, endsOf, entriesFrom, longest, gridOf, columnsOf, tableChecks}
+use Rattle.widths.specs.Cut.{pick, cutOnce, cutBy, cut}
+use Rattle.widths.specs.Share.{share, sharesOf}
+use Rattle.widths.specs.Widths.{wayOf, finalWidths, nonzero, tableWidth}
+use Rattle.widths.specs.declared.Way.the-variants.{Sideways, Down}
+
+-- " a  b ", wrap 3: 4,3
+pub text-inner-run : measureOf (32 ∷ 97 ∷ 32 ∷ 32 ∷ 98 ∷ 32 ∷ []) 3 false ≡ Figures (record { size = 4; least = 3; prefix = 0 })
+unfolding measureOf first textSize classOf readable trimStart trimEnd widths runs begins
+text-inner-run = refl
+
+-- "   ": 0,0
+pub text-spaces : measureOf (32 ∷ 32 ∷ 32 ∷ []) 3 false ≡ Figures (record { size = 0; least = 0; prefix = 0 })
+unfolding measureOf first textSize classOf readable trimStart trimEnd widths runs begins
+text-spaces = refl
+
+-- img of nothing, wrap 3: 2,2
+pub img-nothing : measureOf [] 3 true ≡ Figures (record { size = 2; least = 2; prefix = 0 })
+unfolding measureOf first textSize classOf readable trimStart trimEnd widths runs begins
+img-nothing = refl
+
+-- ol 0 childless: prefix 4
+pub ol-childless : olPrefix (plain 0) 0 ≡ 4
+unfolding olPrefix writing lastNumber digits digitsIn
+ol-childless = refl
+
+-- body sums 4 (cols 1,0,2) and 6: 0 becomes 3
+pub zero-resolved : resolveBody (cells.row 3 (cell 4 1 1 ∷ cell 5 0 1 ∷ cell 6 2 1 ∷ []) ∷ cells.row 7 (cell 8 6 1 ∷ []) ∷ [])
+    ≡ cells.row 3 (cell 4 1 1 ∷ cell 5 3 1 ∷ cell 6 2 1 ∷ []) ∷ cells.row 7 (cell 8 6 1 ∷ []) ∷ []
+unfolding resolveBody resolveRow widest rowSum sum
+zero-resolved = refl
+
+-- one row, cols 2 then cols 1 rows 2: refusal 7
+pub hangs-at-no-edge : verdictOf (tableChecks 1 (cells.row 3 (cell 4 2 1 ∷ cell 5 1 2 ∷ []) ∷ [])) ≡ Refused 7 1
+unfolding verdictOf first tableChecks endsPast entryCount allAt originals hangBelow extras extrasIn leastLeft endsOf endsFrom sum mem rowFrom fillers later nexts hangOf
+hangs-at-no-edge = refl
+
+-- with cols 1 first: extra row, filler at column 0
+pub extra-row : gridOf (cells.row 3 (cell 4 1 2 ∷ cell 5 2 1 ∷ []) ∷ [])
+    ≡ record { line = 3; entries = entry 4 false 0 1 ∷ entry 5 false 1 1 ∷ [] } ∷ record { line = 0; entries = entry 4 true 0 1 ∷ [] } ∷ []
+unfolding gridOf originals hangBelow extras extrasIn leastLeft entriesFrom endsOf endsFrom countBelow sum mem rowFrom fillers later nexts hangOf
+extra-row = refl
+
+-- row cols 3, row cols 1 and 2: 2 columns
+pub two-columns : columnsOf (cells.row 3 (cell 4 3 1 ∷ []) ∷ cells.row 5 (cell 6 1 1 ∷ cell 7 2 1 ∷ []) ∷ []) ≡ 2
+unfolding columnsOf longest originals endsOf endsFrom countBelow sum mem rowFrom fillers later nexts hangOf
+two-columns = refl
+
+-- (size,least) (10,3),(2,2), width 9: 6,2
+pub cut-six-two : finalWidths Sideways (10 ∷ 2 ∷ []) (3 ∷ 2 ∷ []) 9 ≡ 6 ∷ 2 ∷ []
+unfolding finalWidths share sharesOf sum cut cutBy cutOnce pick
+cut-six-two = refl
+
+-- (10,3),(10,3), 20: 9,10
+pub cut-nine-ten : finalWidths Sideways (10 ∷ 10 ∷ []) (3 ∷ 3 ∷ []) 20 ≡ 9 ∷ 10 ∷ []
+unfolding finalWidths share sharesOf sum cut cutBy cutOnce pick
+cut-nine-ten = refl
+
+-- (10,3),(12,5), 22: 10,11
+pub cut-ten-eleven : finalWidths Sideways (10 ∷ 12 ∷ []) (3 ∷ 5 ∷ []) 22 ≡ 10 ∷ 11 ∷ []
+unfolding finalWidths share sharesOf sum cut cutBy cutOnce pick
+cut-ten-eleven = refl
+
+-- (3,3),(3,3): width 7 sideways, 6 down
+pub seven-sideways : wayOf 0 7 (3 ∷ 3 ∷ []) ≡ Sideways
+unfolding wayOf sum
+seven-sideways = refl
+
+pub six-down : wayOf 0 6 (3 ∷ 3 ∷ []) ≡ Down
+unfolding wayOf sum
+six-down = refl
+
+-- (4,0),(400,3), 80: 0,79, table width 79
+pub zero-and-seventy-nine : finalWidths Sideways (4 ∷ 400 ∷ []) (0 ∷ 3 ∷ []) 80 ≡ 0 ∷ 79 ∷ []
+unfolding finalWidths share sharesOf sum cut cutBy cutOnce pick
+zero-and-seventy-nine = refl
+
+pub seventy-nine-wide : tableWidth Sideways (0 ∷ 79 ∷ []) 80 ≡ 79
+unfolding tableWidth nonzero sum
+seventy-nine-wide = refl

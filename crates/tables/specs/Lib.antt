@@ -1,0 +1,7 @@
+pub mod Calls
+pub mod Answers
+pub mod Inner
+pub mod Tables
+pub mod Layouts
+pub mod Cases
+pub mod Sheets
