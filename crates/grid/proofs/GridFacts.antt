@@ -31,7 +31,7 @@ use Rattle.grid.specs.Judging.{judgedOf}
 use Rattle.grid.proofs.Tiling.{Wide, both, tiles-from, edge-within, columns-within}
 use Rattle.grid.proofs.NumberLoop.{all-append}
 use Rattle.grid.proofs.GridLists.{grid-count}
-use Rattle.grid.proofs.InColumns.{ends-of-append, own-edges, last-edge}
+use Rattle.grid.proofs.InColumns.{ends-of-append, own-edges, last-edge, byTests, judged-tests}
 
 -- ---- rows tile the columns
 
@@ -118,10 +118,6 @@ module _ (table : List cells.Row) where
   abbrev edges : Bool
   edges = allAt (isColumnEdge (originalRows table)) (endsOf (extraRows table))
 
-  -- an answer by the three tests
-  abbrev by : {A : Type 0} → (ℕ → ℕ → A) → A → ℕ → List Check → Bool → Bool → Bool → A
-  by refused accepted t rest p m e = first refused accepted (check p 5 t ∷ check m 6 t ∷ check (not e) 7 t ∷ rest)
-
   sound : past ≡ false → many ≡ false → edges ≡ true → Sound table
   sound p m e = record { within = p; few = ltb-false maxEntries (entryCount (allRows table)) m; edges = e }
 
@@ -136,30 +132,23 @@ module _ (table : List cells.Row) where
       go false false true a b c w = sound a b c
       go false false false a b c w = absurd (false≢true w)
 
-  abbrev counts : Judged
-  counts = Grid (length (allRows table)) (entryCount (allRows table)) (columnsOf table)
-
   pub judged-sound : (r n c : ℕ) → judgedOf table ≡ Grid r n c → Sound table × (n ≡ length (entriesOf (gridOf table))) × (c ≡ columnsOf table)
-  unfolding judgedOf tableChecks first gridOf
-  judged-sound r n c h = go past many edges refl refl refl h
+  unfolding gridOf
+  judged-sound r n c h = go past many edges refl refl refl (sym (judged-tests table) ∙ h)
     where
-      go : (p m e : Bool) → past ≡ p → many ≡ m → edges ≡ e → by (λ k l. Refused k) counts 0 [] p m e ≡ Grid r n c
+      go : (p m e : Bool) → past ≡ p → many ≡ m → edges ≡ e → byTests table p m e ≡ Grid r n c
           → Sound table × (n ≡ length (entriesOf (map (gridRow (originalRows table)) (allRows table)))) × (c ≡ columnsOf table)
       go true m e x y v w = absurd (let z : _≡_ {A = ℕ} 0 1 = cc in omega arith)
       go false true e x y v w = absurd (let z : _≡_ {A = ℕ} 0 1 = cc in omega arith)
       go false false false x y v w = absurd (let z : _≡_ {A = ℕ} 0 1 = cc in omega arith)
-      go false false true x y v w = (
-        sound x y v,
-        (let q : n ≡ entryCount (allRows table) = cc in q ∙ sym (grid-count (originalRows table) (allRows table))),
-        cc,
-      )
+      go false false true x y v w =
+          (sound x y v, (let q : n ≡ entryCount (allRows table) = cc in q ∙ sym (grid-count (originalRows table) (allRows table))), cc)
 
   -- a refusal has a number
   pub judged-refused : (k : ℕ) → judgedOf table ≡ Refused k → k ≡ 0 → ⊥
-  unfolding judgedOf tableChecks first
-  judged-refused k h = go past many edges h
+  judged-refused k h = go past many edges (sym (judged-tests table) ∙ h)
     where
-      go : (p m e : Bool) → by (λ n l. Refused n) counts 0 [] p m e ≡ Refused k → k ≡ 0 → ⊥
+      go : (p m e : Bool) → byTests table p m e ≡ Refused k → k ≡ 0 → ⊥
       go true m e w o = let q : 5 ≡ k = cc in omega arith
       go false true e w o = let q : 6 ≡ k = cc in omega arith
       go false false false w o = let q : 7 ≡ k = cc in omega arith
@@ -167,10 +156,11 @@ module _ (table : List cells.Row) where
 
   -- the verdict of the table's checks and of those that follow
   pub verdict-table : (t : ℕ) (rest : List Check) → verdictOf (tableChecks t table ++ rest) ≡ judgedThen t (verdictOf rest) (judgedOf table)
-  unfolding verdictOf judgedOf tableChecks first
-  verdict-table t rest = go past many edges
+  unfolding verdictOf tableChecks first
+  verdict-table t rest = go past many edges ∙ ap (judgedThen t (first verdict.Refused verdict.Accepted rest)) (sym (judged-tests table))
     where
-      go : (p m e : Bool) → by verdict.Refused verdict.Accepted t rest p m e ≡ judgedThen t (first verdict.Refused verdict.Accepted rest) (by (λ n l. Refused n) counts 0 [] p m e)
+      go : (p m e : Bool) → first verdict.Refused verdict.Accepted (check p 5 t ∷ check m 6 t ∷ check (not e) 7 t ∷ rest)
+          ≡ judgedThen t (first verdict.Refused verdict.Accepted rest) (byTests table p m e)
       go true m e = refl
       go false true e = refl
       go false false false = refl

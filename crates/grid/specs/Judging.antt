@@ -24,8 +24,8 @@ use Rattle.grid.specs.Grid.{Entry, GridRow, shownLine, gridOf, columnsOf
 abbrev pub edgeOfRows : List (List ℕ) → ℕ → Bool
 edgeOfRows rs p = mem p (0 ∷ rowsEnds rs)
 
--- rows by positions: the first `entries` figures of `wide` are their spans, the first `rows` of `ends` where each row's end, and the first
--- `originals` of them are original rows
+-- rows by positions: the first `entries` figures of `wide` are the spans of their entries, the first `rows` figures of `ends` say how many
+-- entries there are up to and including each row, and the first `originals` of the rows are original rows
 pub record RowsReady (originals rows entries : ℕ) (wide ends first′ span : List ℕ) : Type 0 where
   pub some : originals ≤ rows
   pub ends-in : rows ≤ length ends

@@ -30,6 +30,7 @@ use Rattle.grid.specs.Grid.{Entry, shownLine, gridOf, columnsOf, entriesOf, tab
 use Rattle.grid.specs.Facts.{cellOwners, CellOf, Sound}
 use Rattle.grid.specs.Judging.{judgedOf, firstOf, spanOf, Lined, Room}
 use Rattle.judge.specs.Kept.{storedBy, numberIn, refusalOf, TableStored, KeptTable, Nests, HoldsKinds, TablesJudged}
+use Rattle.grid.proofs.Tiling.{not-true}
 use Rattle.grid.proofs.CellLines.{Rises, lines-after-rise}
 use Rattle.judge.proofs.CellKinds.{cell-kind}
 use Rattle.grid.proofs.GridCells.{held-owners, owner-cell, entries-cells}
@@ -41,10 +42,6 @@ use Rattle.judge.proofs.Stored.{stored-length, stored-other, shown-owne
 pub every-both : {A : Type 0} {P Q R : A → Type 0} → ((a : A) → P a → Q a → R a) → {xs : List A} → Every P xs → Every Q xs → Every R xs
 every-both h none none = none
 every-both h (and p ps) (and q qs) = and (h _ p q) (every-both h ps qs)
-
-not-true : (b : Bool) → (b ≡ true → ⊥) → b ≡ false
-not-true true h = absurd (h refl)
-not-true false h = refl
 
 module _ {depth kind cols rows : List ℕ} (z : Lined depth cols rows) (nests : Nests depth kind) (t : ℕ) (h : t < length depth) (e : getD kind t 0 ≡ tableKind)
     {firsts₀ spans₀ firsts spans : List ℕ} (s : TableStored (heldRows depth cols rows t) t 0 firsts₀ spans₀ firsts spans)

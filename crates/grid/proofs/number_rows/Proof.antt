@@ -31,43 +31,69 @@ cast-end : tie.Need-cast-end Inv-loop μ-loop
 cast-end c = omega (arith, c .shared-slice-known4 .given (c .before .before .loop .r))
 
 mul-renumber : tie.Need-mul-renumber Inv-loop μ-loop
-mul-renumber c = let f = fits ((c .before .before) .loop .inv) ((c .before) .loop-test .taken) in search needs
+mul-renumber c =
+    let f = fits ((c .before .before) .loop .inv) ((c .before) .loop-test .taken) in
+    search needs
 
 sub-renumber : tie.Need-sub-renumber Inv-loop μ-loop
-sub-renumber c = let f = fits ((c .before .before) .loop .inv) ((c .before) .loop-test .taken) in search needs
+sub-renumber c =
+    let f = fits ((c .before .before) .loop .inv) ((c .before) .loop-test .taken) in
+    search needs
 
 part-renumber-start : tie.Need-part-renumber-start Inv-loop μ-loop
-part-renumber-start c = let f = fits ((c .before .before) .loop .inv) ((c .before) .loop-test .taken) in search needs
+part-renumber-start c =
+    let f = fits ((c .before .before) .loop .inv) ((c .before) .loop-test .taken) in
+    search needs
 
 part-renumber-end : tie.Need-part-renumber-end Inv-loop μ-loop
-part-renumber-end c = let f = fits ((c .before .before) .loop .inv) ((c .before) .loop-test .taken) in search needs
+part-renumber-end c =
+    let f = fits ((c .before .before) .loop .inv) ((c .before) .loop-test .taken) in
+    search needs
 
 mul-renumber-2 : tie.Need-mul-renumber-2 Inv-loop μ-loop
-mul-renumber-2 c = let f = fits ((c .before .before .before) .loop .inv) ((c .before .before) .loop-test .taken) in search needs
+mul-renumber-2 c =
+    let f = fits ((c .before .before .before) .loop .inv) ((c .before .before) .loop-test .taken) in
+    search needs
 
 sub-renumber-2 : tie.Need-sub-renumber-2 Inv-loop μ-loop
-sub-renumber-2 c = let f = fits ((c .before .before .before) .loop .inv) ((c .before .before) .loop-test .taken) in search needs
+sub-renumber-2 c =
+    let f = fits ((c .before .before .before) .loop .inv) ((c .before .before) .loop-test .taken) in
+    search needs
 
 part-renumber-start-2 : tie.Need-part-renumber-start-2 Inv-loop μ-loop
-part-renumber-start-2 c = let f = fits ((c .before .before .before) .loop .inv) ((c .before .before) .loop-test .taken) in search needs
+part-renumber-start-2 c =
+    let f = fits ((c .before .before .before) .loop .inv) ((c .before .before) .loop-test .taken) in
+    search needs
 
 part-renumber-end-2 : tie.Need-part-renumber-end-2 Inv-loop μ-loop
 part-renumber-end-2 c = search needs
 
 mul-renumber-3 : tie.Need-mul-renumber-3 Inv-loop μ-loop
-mul-renumber-3 c = let f = fits ((c .before .before .before .before) .loop .inv) ((c .before .before .before) .loop-test .taken) in search needs
+mul-renumber-3 c =
+    let f = fits ((c .before .before .before .before) .loop .inv) ((c .before .before .before) .loop-test .taken) in
+    search needs
 
 sub-renumber-3 : tie.Need-sub-renumber-3 Inv-loop μ-loop
-sub-renumber-3 c = let f = fits ((c .before .before .before .before) .loop .inv) ((c .before .before .before) .loop-test .taken) in search needs
+sub-renumber-3 c =
+    let f = fits ((c .before .before .before .before) .loop .inv) ((c .before .before .before) .loop-test .taken) in
+    search needs
 
 part-renumber-start-3 : tie.Need-part-renumber-start-3 Inv-loop μ-loop
-part-renumber-start-3 c = let f = fits ((c .before .before .before .before) .loop .inv) ((c .before .before .before) .loop-test .taken) in search needs
+part-renumber-start-3 c =
+    let f = fits ((c .before .before .before .before) .loop .inv) ((c .before .before .before) .loop-test .taken) in
+    search needs
 
 part-renumber-end-3 : tie.Need-part-renumber-end-3 Inv-loop μ-loop
 part-renumber-end-3 c = search needs
 
 renumber-requires : tie.Need-renumber-requires Inv-loop μ-loop
-renumber-requires c κs = let z = (c .before .before .before .before .before) .loop .inv in let h = (c .before .before .before .before) .loop-test .taken in let f = fits z h in let l = row-length z h in let s = (c .before .before .before .before .before .before .before .before .before .before .before) in ((c .before .before .before .before .before .before .before .before .before .before .before) .pre .0, (f .2, omega (arith, l, f .0, f .1, z .firsts .long, z .counts .long, s .pre .1 .1 .0, s .pre .1 .1 .1, rest-length ((c .before .before .before .before .before) .loop .start) ((c .before .before .before .before .before) .loop .first), rest-length ((c .before .before .before .before .before) .loop .start) ((c .before .before .before .before .before) .loop .span))))
+renumber-requires c κs =
+    let z = (c .before .before .before .before .before) .loop .inv in
+    let h = (c .before .before .before .before) .loop-test .taken in
+    let f = fits z h in
+    let l = row-length z h in
+    let s = (c .before .before .before .before .before .before .before .before .before .before .before) in
+    ((c .before .before .before .before .before .before .before .before .before .before .before) .pre .0, (f .2, omega (arith, l, f .0, f .1, z .firsts .long, z .counts .long, s .pre .1 .1 .0, s .pre .1 .1 .1, rest-length ((c .before .before .before .before .before) .loop .start) ((c .before .before .before .before .before) .loop .first), rest-length ((c .before .before .before .before .before) .loop .start) ((c .before .before .before .before .before) .loop .span))))
 
 enum-known-n : tie.Need-enum-known-n Inv-loop μ-loop
 enum-known-n c = search needs

@@ -17,6 +17,16 @@ use Rattle.grid.proofs.table_grid.Tie as tie
 abbrev entry : tie.After-list-rows → tie.Start
 entry c = (c .before .before .before .before .before .before .before .before .before .before .before .before .before .before .before .before .before .before .before .before .before .before .before)
 
+-- and from the last call to the ones before
+abbrev listing : tie.After-position-rows → tie.After-list-rows
+listing c = c .before .before .before .before .before .before .before .before .before .before .before .before .before .before .before .before .before .before .before .before .before .before .before .before .before
+
+abbrev placing : tie.After-slice-known31 → tie.After-position-rows
+placing c = c .before .before .before .before .before .before .before .before .before .before .before .before .before .before .before .before .before .before .before .before .before .before .before .before .before .before .before .before .before
+
+abbrev numbering : tie.After-slice-known31 → tie.After-placed-grid
+numbering c = c .before .before .before .before
+
 -- rows and cells are few, so they lie within the slices
 few : (c : tie.After-list-rows) → length (heldRows (entry c .args .depth .now) (entry c .args .cols .now) (entry c .args .rows .now) (entry c .args .at)) + length (allCells (heldRows (entry c .args .depth .now) (entry c .args .cols .now) (entry c .args .rows .now) (entry c .args .at))) ≤ maxLines
 few c = lined-few (entry c .pre .1 .0) (entry c .args .at)
@@ -34,34 +44,40 @@ fits-cell-end : (c : tie.After-list-rows) → c .list-rows .result .rows ≤ len
 fits-cell-end c = omega (arith, listed-in (c .list-rows .ensures) (few c), entry c .pre .1 .1 .cell-end-room, c .list-rows .kept .1 .1 .1 .1 .1 .1 .1 .1 .0)
 
 list-rows-requires : tie.Need-list-rows-requires
-list-rows-requires c κs = let s = (c .before .before .before .before .before .before .before .before .before .before .before .before .before .before .before .before .before .before .before .before .before .before) in let r = s .pre .1 .1 in let h = s .pre .1 .0 .short in lined-ready (s .pre .1 .0) (s .pre .0) (omega (arith, r .first-room)) (omega (arith, r .span-room)) (omega (arith, r .cell-rows-room)) (omega (arith, r .row-room)) (omega (arith, r .cell-end-room))
+list-rows-requires c κs =
+    let s = (c .before .before .before .before .before .before .before .before .before .before .before .before .before .before .before .before .before .before .before .before .before .before) in
+    let r = s .pre .1 .1 in
+    let h = s .pre .1 .0 .short in
+    lined-ready (s .pre .1 .0) (s .pre .0) (omega (arith, r .first-room)) (omega (arith, r .span-room)) (omega (arith, r .cell-rows-room)) (omega (arith, r .row-room)) (omega (arith, r .cell-end-room))
 
 slice-reshare-prefix-position-rows : tie.Need-slice-reshare-prefix-position-rows
-slice-reshare-prefix-position-rows c = fits-first ((c .before .before .before .before .before .before .before .before .before .before))
+slice-reshare-prefix-position-rows c = fits-first (c .before .before .before .before .before .before .before .before .before .before)
 
 slice-aggregate-position-rows : tie.Need-slice-aggregate-position-rows
-slice-aggregate-position-rows c = sym (length-take-le _ _ (fits-first ((c .before .before .before .before .before .before .before .before .before .before .before))))
+slice-aggregate-position-rows c = sym (length-take-le _ _ (fits-first (c .before .before .before .before .before .before .before .before .before .before .before)))
 
 slice-reshare-prefix-position-rows-2 : tie.Need-slice-reshare-prefix-position-rows-2
-slice-reshare-prefix-position-rows-2 c = fits-span ((c .before .before .before .before .before .before .before .before .before .before .before))
+slice-reshare-prefix-position-rows-2 c = fits-span (c .before .before .before .before .before .before .before .before .before .before .before)
 
 slice-aggregate-position-rows-2 : tie.Need-slice-aggregate-position-rows-2
-slice-aggregate-position-rows-2 c = sym (length-take-le _ _ (fits-span ((c .before .before .before .before .before .before .before .before .before .before .before .before))))
+slice-aggregate-position-rows-2 c = sym (length-take-le _ _ (fits-span (c .before .before .before .before .before .before .before .before .before .before .before .before)))
 
 slice-reshare-prefix-position-rows-3 : tie.Need-slice-reshare-prefix-position-rows-3
-slice-reshare-prefix-position-rows-3 c = fits-cell-rows ((c .before .before .before .before .before .before .before .before .before .before .before .before))
+slice-reshare-prefix-position-rows-3 c = fits-cell-rows (c .before .before .before .before .before .before .before .before .before .before .before .before)
 
 slice-aggregate-position-rows-3 : tie.Need-slice-aggregate-position-rows-3
-slice-aggregate-position-rows-3 c = sym (length-take-le _ _ (fits-cell-rows ((c .before .before .before .before .before .before .before .before .before .before .before .before .before))))
+slice-aggregate-position-rows-3 c = sym (length-take-le _ _ (fits-cell-rows (c .before .before .before .before .before .before .before .before .before .before .before .before .before)))
 
 slice-reshare-prefix-position-rows-4 : tie.Need-slice-reshare-prefix-position-rows-4
-slice-reshare-prefix-position-rows-4 c = fits-cell-end ((c .before .before .before .before .before .before .before .before .before .before .before .before .before))
+slice-reshare-prefix-position-rows-4 c = fits-cell-end (c .before .before .before .before .before .before .before .before .before .before .before .before .before)
 
 slice-aggregate-position-rows-4 : tie.Need-slice-aggregate-position-rows-4
-slice-aggregate-position-rows-4 c = sym (length-take-le _ _ (fits-cell-end ((c .before .before .before .before .before .before .before .before .before .before .before .before .before .before))))
+slice-aggregate-position-rows-4 c = sym (length-take-le _ _ (fits-cell-end (c .before .before .before .before .before .before .before .before .before .before .before .before .before .before)))
 
 position-rows-requires : tie.Need-position-rows-requires
-position-rows-requires c κs = let w = (c .before .before .before .before .before .before .before .before .before .before .before .before .before .before .before .before .before .before .before .before .before .before .before .before) in let r = entry w .pre .1 .1 in
+position-rows-requires c κs =
+    let w = (c .before .before .before .before .before .before .before .before .before .before .before .before .before .before .before .before .before .before .before .before .before .before .before .before) in
+    let r = entry w .pre .1 .1 in
     listed-ready (w .list-rows .ensures) (few w) (fits-first w) (fits-span w) (fits-cell-rows w) (fits-cell-end w)
     (record {
       row-line-room = omega (arith, r .row-room, w .list-rows .kept .1 .1 .1 .1 .1 .1 .1 .0);
@@ -77,54 +93,57 @@ position-rows-requires c κs = let w = (c .before .before .before .before .befor
     })
 
 placed-grid-requires : tie.Need-placed-grid-requires
-placed-grid-requires c κs = let p = (c .before .before .before .before .before .before .before .before .before .before .before .before .before .before .before .before .before .before .before .before .before .before .before .before) in let w = (c .before .before .before .before .before .before .before .before .before .before .before .before .before .before .before .before .before .before .before .before .before .before .before .before .before .before .before .before .before .before .before .before .before .before .before .before .before .before .before .before .before .before .before .before .before .before .before .before .before) in let r = entry w .pre .1 .1 in
+placed-grid-requires c κs =
+    let p = (c .before .before .before .before .before .before .before .before .before .before .before .before .before .before .before .before .before .before .before .before .before .before .before .before) in
+    let w = (c .before .before .before .before .before .before .before .before .before .before .before .before .before .before .before .before .before .before .before .before .before .before .before .before .before .before .before .before .before .before .before .before .before .before .before .before .before .before .before .before .before .before .before .before .before .before .before .before .before) in
+    let r = entry w .pre .1 .1 in
     placed-ready (w .list-rows .ensures) (p .position-rows .ensures) (few w) (omega (arith, r .wide-room, p .position-rows .kept .1 .1 .1 .1 .1 .1 .0)) (omega (arith, r .end-room, p .position-rows .kept .1 .1 .1 .1 .1 .1 .1 .0))
     (omega (arith, r .first-room, w .list-rows .kept .1 .1 .1 .1 .0)) (omega (arith, r .span-room, w .list-rows .kept .1 .1 .1 .1 .1 .0))
 
 same-length : tie.Need-same-length
-same-length c = ((c .before .before .before .before .before .before .before .before .before .before .before .before .before .before .before .before .before .before .before .before .before .before .before .before .before .before .before .before .before)) .position-rows .kept .1 .1 .1 .1 .1 .1 .0
+same-length c = placing c .position-rows .kept .1 .1 .1 .1 .1 .1 .0
 
 same-length-2 : tie.Need-same-length-2
-same-length-2 c = ((c .before .before .before .before .before .before .before .before .before .before .before .before .before .before .before .before .before .before .before .before .before .before .before .before .before .before .before .before .before .before .before .before .before .before .before .before .before .before .before .before .before .before .before .before .before .before .before .before .before .before .before .before .before .before)) .list-rows .kept .1 .1 .1 .1 .1 .1 .0
+same-length-2 c = listing (placing c) .list-rows .kept .1 .1 .1 .1 .1 .1 .0
 
 same-length-3 : tie.Need-same-length-3
-same-length-3 c = ((c .before .before .before .before .before .before .before .before .before .before .before .before .before .before .before .before .before .before .before .before .before .before .before .before .before .before .before .before .before .before .before .before .before .before .before .before .before .before .before .before .before .before .before .before .before .before .before .before .before .before .before .before .before .before)) .list-rows .kept .1 .1 .1 .1 .1 .1 .1 .1 .0
+same-length-3 c = listing (placing c) .list-rows .kept .1 .1 .1 .1 .1 .1 .1 .1 .0
 
 same-length-4 : tie.Need-same-length-4
-same-length-4 c = ((c .before .before .before .before .before .before .before .before .before .before .before .before .before .before .before .before .before .before .before .before .before .before .before .before .before .before .before .before .before)) .position-rows .kept .1 .1 .1 .1 .1 .1 .1 .1 .0
+same-length-4 c = placing c .position-rows .kept .1 .1 .1 .1 .1 .1 .1 .1 .0
 
 same-length-5 : tie.Need-same-length-5
-same-length-5 c = ((c .before .before .before .before .before .before .before .before .before .before .before .before .before .before .before .before .before .before .before .before .before .before .before .before .before .before .before .before .before)) .position-rows .kept .1 .1 .1 .1 .1 .1 .1 .1 .1 .0
+same-length-5 c = placing c .position-rows .kept .1 .1 .1 .1 .1 .1 .1 .1 .1 .0
 
 same-length-6 : tie.Need-same-length-6
-same-length-6 c = ((c .before .before .before .before .before .before .before .before .before .before .before .before .before .before .before .before .before .before .before .before .before .before .before .before .before .before .before .before .before)) .position-rows .kept .1 .1 .1 .1 .1 .1 .1 .1 .1 .1 .0
+same-length-6 c = placing c .position-rows .kept .1 .1 .1 .1 .1 .1 .1 .1 .1 .1 .0
 
 same-length-7 : tie.Need-same-length-7
-same-length-7 c = ((c .before .before .before .before .before .before .before .before .before .before .before .before .before .before .before .before .before .before .before .before .before .before .before .before .before .before .before .before .before)) .position-rows .kept .1 .1 .1 .1 .1 .1 .1 .1 .1 .1 .1 .0
+same-length-7 c = placing c .position-rows .kept .1 .1 .1 .1 .1 .1 .1 .1 .1 .1 .1 .0
 
 same-length-8 : tie.Need-same-length-8
-same-length-8 c = ((c .before .before .before .before .before .before .before .before .before .before .before .before .before .before .before .before .before .before .before .before .before .before .before .before .before .before .before .before .before)) .position-rows .kept .1 .1 .1 .1 .1 .1 .1 .1 .1 .1 .1 .1 .0
+same-length-8 c = placing c .position-rows .kept .1 .1 .1 .1 .1 .1 .1 .1 .1 .1 .1 .1 .0
 
 same-length-9 : tie.Need-same-length-9
-same-length-9 c = ((c .before .before .before .before .before .before .before .before .before .before .before .before .before .before .before .before .before .before .before .before .before .before .before .before .before .before .before .before .before)) .position-rows .kept .1 .1 .1 .1 .1 .1 .1 .1 .1 .1 .1 .1 .1 .0
+same-length-9 c = placing c .position-rows .kept .1 .1 .1 .1 .1 .1 .1 .1 .1 .1 .1 .1 .1 .0
 
 same-length-10 : tie.Need-same-length-10
-same-length-10 c = ((c .before .before .before .before .before .before .before .before .before .before .before .before .before .before .before .before .before .before .before .before .before .before .before .before .before .before .before .before .before)) .position-rows .kept .1 .1 .1 .1 .1 .0
+same-length-10 c = placing c .position-rows .kept .1 .1 .1 .1 .1 .0
 
 same-length-11 : tie.Need-same-length-11
-same-length-11 c = ((c .before .before .before .before)) .placed-grid .kept .1 .1 .1 .0 ∙ ((c .before .before .before .before .before .before .before .before .before .before .before .before .before .before .before .before .before .before .before .before .before .before .before .before .before .before .before .before .before .before .before .before .before .before .before .before .before .before .before .before .before .before .before .before .before .before .before .before .before .before .before .before .before .before)) .list-rows .kept .1 .1 .1 .1 .0
+same-length-11 c = numbering c .placed-grid .kept .1 .1 .1 .0 ∙ listing (placing c) .list-rows .kept .1 .1 .1 .1 .0
 
 same-length-12 : tie.Need-same-length-12
-same-length-12 c = ((c .before .before .before .before)) .placed-grid .kept .1 .1 .1 .1 .0 ∙ ((c .before .before .before .before .before .before .before .before .before .before .before .before .before .before .before .before .before .before .before .before .before .before .before .before .before .before .before .before .before .before .before .before .before .before .before .before .before .before .before .before .before .before .before .before .before .before .before .before .before .before .before .before .before .before)) .list-rows .kept .1 .1 .1 .1 .1 .0
+same-length-12 c = numbering c .placed-grid .kept .1 .1 .1 .1 .0 ∙ listing (placing c) .list-rows .kept .1 .1 .1 .1 .1 .0
 
 same-length-13 : tie.Need-same-length-13
-same-length-13 c = ((c .before .before .before .before .before .before .before .before .before .before .before .before .before .before .before .before .before .before .before .before .before .before .before .before .before .before .before .before .before)) .position-rows .kept .1 .1 .1 .1 .0 ∙ ((c .before .before .before .before .before .before .before .before .before .before .before .before .before .before .before .before .before .before .before .before .before .before .before .before .before .before .before .before .before .before .before .before .before .before .before .before .before .before .before .before .before .before .before .before .before .before .before .before .before .before .before .before .before .before)) .list-rows .kept .1 .1 .1 .1 .1 .1 .1 .0
+same-length-13 c = placing c .position-rows .kept .1 .1 .1 .1 .0 ∙ listing (placing c) .list-rows .kept .1 .1 .1 .1 .1 .1 .1 .0
 
 same-length-14 : tie.Need-same-length-14
-same-length-14 c = ((c .before .before .before .before .before .before .before .before .before .before .before .before .before .before .before .before .before .before .before .before .before .before .before .before .before .before .before .before .before)) .position-rows .kept .1 .1 .1 .1 .1 .1 .1 .0
+same-length-14 c = placing c .position-rows .kept .1 .1 .1 .1 .1 .1 .1 .0
 
 returns : tie.Need-returns
-returns c = judged (((c .before .before .before .before .before .before .before .before .before .before .before .before .before .before .before .before .before .before .before .before .before .before .before .before .before .before .before .before .before .before .before .before .before .before .before .before .before .before .before .before .before .before .before .before .before .before .before .before .before .before .before .before .before .before)) .list-rows .ensures) (((c .before .before .before .before .before .before .before .before .before .before .before .before .before .before .before .before .before .before .before .before .before .before .before .before .before .before .before .before .before)) .position-rows .ensures) (((c .before .before .before .before)) .placed-grid .ensures)
+returns c = judged (listing (placing c) .list-rows .ensures) (placing c .position-rows .ensures) (numbering c .placed-grid .ensures)
 
 pub table-grid-spec : {M : Type 1} → statement M
 table-grid-spec =

@@ -43,14 +43,23 @@ shared-slice-read-if1 : tie.Need-shared-slice-read-if1 Inv-loop μ-loop
 shared-slice-read-if1 c = search needs
 
 keep-table-requires : tie.Need-keep-table-requires Inv-loop μ-loop
-keep-table-requires c κs = let h = (c .before .before .before .before .before .before .before .before .before .before .before .before .before .before .before .before .before .before .before) in let s = entry h .pre in let z = h .loop .inv in
+keep-table-requires c κs =
+    let h = (c .before .before .before .before .before .before .before .before .before .before .before .before .before .before .before .before .before .before .before) in
+    let s = entry h .pre in
+    let z = h .loop .inv in
     (omega (arith, (c .before .before .before .before .before .before .before .before .before .before .before .before .before .before .before .before .before .before) .loop-test .taken, s .0 .kinds), (s .1 .0, (room-same (z .1) (s .1 .1 .0), (omega (arith, s .1 .1 .1, z .1 .first-of-same), omega (arith, s .1 .1 .1, z .1 .span-of-same)))))
 
 add-t60 : tie.Need-add-t60 Inv-loop μ-loop
-add-t60 c = let h = head (refused c) in let s = entry h .pre in omega (arith, s .0 .kinds, s .1 .0 .short, (c .before .before .before .before .before .before .before .before .before .before .before .before .before .before .before .before .before .before .before .before .before .before .before .before .before .before .before .before .before .before .before .before .before .before .before .before .before .before .before .before .before .before .before .before .before .before .before .before .before .before .before .before) .loop-test .taken)
+add-t60 c =
+    let h = head (refused c) in
+    let s = entry h .pre in
+    omega (arith, s .0 .kinds, s .1 .0 .short, (c .before .before .before .before .before .before .before .before .before .before .before .before .before .before .before .before .before .before .before .before .before .before .before .before .before .before .before .before .before .before .before .before .before .before .before .before .before .before .before .before .before .before .before .before .before .before .before .before .before .before .before .before) .loop-test .taken)
 
 cast-t61 : tie.Need-cast-t61 Inv-loop μ-loop
-cast-t61 c = let h = head (refused c) in let s = entry h .pre in omega (arith, s .0 .kinds, s .1 .0 .short, (c .before .before .before .before .before .before .before .before .before .before .before .before .before .before .before .before .before .before .before .before .before .before .before .before .before .before .before .before .before .before .before .before .before .before .before .before .before .before .before .before .before .before .before .before .before .before .before .before .before .before .before .before) .loop-test .taken)
+cast-t61 c =
+    let h = head (refused c) in
+    let s = entry h .pre in
+    omega (arith, s .0 .kinds, s .1 .0 .short, (c .before .before .before .before .before .before .before .before .before .before .before .before .before .before .before .before .before .before .before .before .before .before .before .before .before .before .before .before .before .before .before .before .before .before .before .before .before .before .before .before .before .before .before .before .before .before .before .before .before .before .before .before) .loop-test .taken)
 
 same-length : tie.Need-same-length Inv-loop μ-loop
 same-length c = refused c .keep-table .kept .1 .1 .1 .1 .0 ∙ head (refused c) .loop .inv .1 .wide-same
@@ -101,19 +110,32 @@ same-length-16 : tie.Need-same-length-16 Inv-loop μ-loop
 same-length-16 c = refused c .keep-table .kept .1 .1 .1 .1 .1 .1 .1 .1 .1 .1 .1 .1 .1 .1 .1 .1 .1 .1 .1 .0 ∙ head (refused c) .loop .inv .1 .span-of-same
 
 returns : tie.Need-returns Inv-loop μ-loop
-returns c = let h = head (refused c) in let s = entry h .pre in turn-refused (h .loop .inv .0) ((c .before .before .before .before .before .before .before .before .before .before .before .before .before .before .before .before .before .before .before .before .before .before .before .before .before .before .before .before .before .before .before .before .before .before .before .before .before .before .before .before .before .before .before .before .before .before .before .before .before .before .before .before) .loop-test .taken) (s .1 .0) (s .0) ((c .before .before .before .before .before .before .before .before .before .before .before .before .before .before .before .before .before .before .before .before .before .before .before .before .before .before .before .before .before .before .before .before .before .before .before .before .before .before .before .before .before .before .before .before .before .before .before .before .before .before) .if1 .taken) (refused c .keep-table .ensures) (c .if2 .taken)
+returns c =
+    let h = head (refused c) in
+    let s = entry h .pre in
+    turn-refused (h .loop .inv .0) ((c .before .before .before .before .before .before .before .before .before .before .before .before .before .before .before .before .before .before .before .before .before .before .before .before .before .before .before .before .before .before .before .before .before .before .before .before .before .before .before .before .before .before .before .before .before .before .before .before .before .before .before .before) .loop-test .taken) (s .1 .0) (s .0) ((c .before .before .before .before .before .before .before .before .before .before .before .before .before .before .before .before .before .before .before .before .before .before .before .before .before .before .before .before .before .before .before .before .before .before .before .before .before .before .before .before .before .before .before .before .before .before .before .before .before .before) .if1 .taken) (refused c .keep-table .ensures) (c .if2 .taken)
 
 add-t : tie.Need-add-t Inv-loop μ-loop
-add-t c = let h = head (accepted c) in let s = entry h .pre in omega (arith, s .0 .kinds, s .1 .0 .short, (c .before .before .before .before .before .before .before .before .before .before .before .before .before .before .before .before .before .before .before .before .before .before .before .before .before .before .before .before .before .before .before .before .before .before .before .before .before .before .before .before .before .before .before .before .before .before .before .before .before .before .before .before) .loop-test .taken)
+add-t c =
+    let h = head (accepted c) in
+    let s = entry h .pre in
+    omega (arith, s .0 .kinds, s .1 .0 .short, (c .before .before .before .before .before .before .before .before .before .before .before .before .before .before .before .before .before .before .before .before .before .before .before .before .before .before .before .before .before .before .before .before .before .before .before .before .before .before .before .before .before .before .before .before .before .before .before .before .before .before .before .before) .loop-test .taken)
 
 loop-less : tie.Need-loop-less Inv-loop μ-loop
-loop-less c = let h = head (accepted c) in let s = entry h .pre in omega (arith, s .0 .kinds, s .1 .0 .short, (c .before .before .before .before .before .before .before .before .before .before .before .before .before .before .before .before .before .before .before .before .before .before .before .before .before .before .before .before .before .before .before .before .before .before .before .before .before .before .before .before .before .before .before .before .before .before .before .before .before .before .before .before) .loop-test .taken)
+loop-less c =
+    let h = head (accepted c) in
+    let s = entry h .pre in
+    omega (arith, s .0 .kinds, s .1 .0 .short, (c .before .before .before .before .before .before .before .before .before .before .before .before .before .before .before .before .before .before .before .before .before .before .before .before .before .before .before .before .before .before .before .before .before .before .before .before .before .before .before .before .before .before .before .before .before .before .before .before .before .before .before .before) .loop-test .taken)
 
 loop-again : tie.Need-loop-again Inv-loop μ-loop
-loop-again c = let k = accepted c in let h = head k in let s = entry h .pre in let z = h .loop .inv in (
-  turn-kept (z .0) ((c .before .before .before .before .before .before .before .before .before .before .before .before .before .before .before .before .before .before .before .before .before .before .before .before .before .before .before .before .before .before .before .before .before .before .before .before .before .before .before .before .before .before .before .before .before .before .before .before .before .before .before .before) .loop-test .taken) (s .1 .0) (s .0) ((c .before .before .before .before .before .before .before .before .before .before .before .before .before .before .before .before .before .before .before .before .before .before .before .before .before .before .before .before .before .before .before .before .before .before .before .before .before .before .before .before .before .before .before .before .before .before .before .before .before .before) .if1 .taken) (k .keep-table .ensures) (omega (arith, c .if2 .left)) (omega (arith, s .1 .1 .1, z .1 .first-of-same)) (omega (arith, s .1 .1 .1, z .1 .span-of-same)),
-  lengths-turn (z .1) (k .keep-table .kept .1 .1 .1 .1 .0) (k .keep-table .kept .1 .1 .1 .1 .1 .0) (k .keep-table .kept .1 .1 .1 .1 .1 .1 .0) (k .keep-table .kept .1 .1 .1 .1 .1 .1 .1 .0) (k .keep-table .kept .1 .1 .1 .1 .1 .1 .1 .1 .0) (k .keep-table .kept .1 .1 .1 .1 .1 .1 .1 .1 .1 .0) (k .keep-table .kept .1 .1 .1 .1 .1 .1 .1 .1 .1 .1 .0) (k .keep-table .kept .1 .1 .1 .1 .1 .1 .1 .1 .1 .1 .1 .0) (k .keep-table .kept .1 .1 .1 .1 .1 .1 .1 .1 .1 .1 .1 .1 .0) (k .keep-table .kept .1 .1 .1 .1 .1 .1 .1 .1 .1 .1 .1 .1 .1 .0) (k .keep-table .kept .1 .1 .1 .1 .1 .1 .1 .1 .1 .1 .1 .1 .1 .1 .0) (k .keep-table .kept .1 .1 .1 .1 .1 .1 .1 .1 .1 .1 .1 .1 .1 .1 .1 .0) (k .keep-table .kept .1 .1 .1 .1 .1 .1 .1 .1 .1 .1 .1 .1 .1 .1 .1 .1 .0) (k .keep-table .kept .1 .1 .1 .1 .1 .1 .1 .1 .1 .1 .1 .1 .1 .1 .1 .1 .1 .0) (k .keep-table .kept .1 .1 .1 .1 .1 .1 .1 .1 .1 .1 .1 .1 .1 .1 .1 .1 .1 .1 .0) (k .keep-table .kept .1 .1 .1 .1 .1 .1 .1 .1 .1 .1 .1 .1 .1 .1 .1 .1 .1 .1 .1 .0),
-)
+loop-again c =
+    let k = accepted c in
+    let h = head k in
+    let s = entry h .pre in
+    let z = h .loop .inv in (
+      turn-kept (z .0) ((c .before .before .before .before .before .before .before .before .before .before .before .before .before .before .before .before .before .before .before .before .before .before .before .before .before .before .before .before .before .before .before .before .before .before .before .before .before .before .before .before .before .before .before .before .before .before .before .before .before .before .before .before) .loop-test .taken) (s .1 .0) (s .0) ((c .before .before .before .before .before .before .before .before .before .before .before .before .before .before .before .before .before .before .before .before .before .before .before .before .before .before .before .before .before .before .before .before .before .before .before .before .before .before .before .before .before .before .before .before .before .before .before .before .before .before) .if1 .taken) (k .keep-table .ensures) (omega (arith, c .if2 .left)) (omega (arith, s .1 .1 .1, z .1 .first-of-same)) (omega (arith, s .1 .1 .1, z .1 .span-of-same)),
+      lengths-turn (z .1) (k .keep-table .kept .1 .1 .1 .1 .0) (k .keep-table .kept .1 .1 .1 .1 .1 .0) (k .keep-table .kept .1 .1 .1 .1 .1 .1 .0) (k .keep-table .kept .1 .1 .1 .1 .1 .1 .1 .0) (k .keep-table .kept .1 .1 .1 .1 .1 .1 .1 .1 .0) (k .keep-table .kept .1 .1 .1 .1 .1 .1 .1 .1 .1 .0) (k .keep-table .kept .1 .1 .1 .1 .1 .1 .1 .1 .1 .1 .0) (k .keep-table .kept .1 .1 .1 .1 .1 .1 .1 .1 .1 .1 .1 .0) (k .keep-table .kept .1 .1 .1 .1 .1 .1 .1 .1 .1 .1 .1 .1 .0) (k .keep-table .kept .1 .1 .1 .1 .1 .1 .1 .1 .1 .1 .1 .1 .1 .0) (k .keep-table .kept .1 .1 .1 .1 .1 .1 .1 .1 .1 .1 .1 .1 .1 .1 .0) (k .keep-table .kept .1 .1 .1 .1 .1 .1 .1 .1 .1 .1 .1 .1 .1 .1 .1 .0) (k .keep-table .kept .1 .1 .1 .1 .1 .1 .1 .1 .1 .1 .1 .1 .1 .1 .1 .1 .0) (k .keep-table .kept .1 .1 .1 .1 .1 .1 .1 .1 .1 .1 .1 .1 .1 .1 .1 .1 .1 .0) (k .keep-table .kept .1 .1 .1 .1 .1 .1 .1 .1 .1 .1 .1 .1 .1 .1 .1 .1 .1 .1 .0) (k .keep-table .kept .1 .1 .1 .1 .1 .1 .1 .1 .1 .1 .1 .1 .1 .1 .1 .1 .1 .1 .1 .0),
+    )
 
 add-t-2 : tie.Need-add-t-2 Inv-loop μ-loop
 add-t-2 c = search needs
@@ -173,7 +195,7 @@ same-length-32 : tie.Need-same-length-32 Inv-loop μ-loop
 same-length-32 c = (c .before) .loop .inv .1 .span-of-same
 
 returns-2 : tie.Need-returns-2 Inv-loop μ-loop
-returns-2 c = stop ((c .before) .loop .inv .0) (c .loop-test .left) (entry ((c .before)) .pre .0 .kinds)
+returns-2 c = stop ((c .before) .loop .inv .0) (c .loop-test .left) (entry (c .before) .pre .0 .kinds)
 
 pub judge-tables-spec : {M : Type 1} → statement M
 judge-tables-spec =

@@ -16,7 +16,9 @@ keep-requires : tie.Need-keep-requires
 keep-requires c κs = (c .before .before .before .before .before .before .before .before .before .before) .pre .fit _ _ _ ((c .before .before .before) .judged2 .given .1) .0
 
 cast-span-of : tie.Need-cast-span-of
-cast-span-of c = let f = (c .before .before .before .before .before .before .before .before .before .before .before .before .before .before .before) .pre .fit _ _ _ ((c .before .before .before .before .before .before .before .before) .judged2 .given .1) .1 in omega arith
+cast-span-of c =
+    let f = (c .before .before .before .before .before .before .before .before .before .before .before .before .before .before .before) .pre .fit _ _ _ ((c .before .before .before .before .before .before .before .before) .judged2 .given .1) .1 in
+    omega arith
 
 mul-span-of : tie.Need-mul-span-of
 mul-span-of c = search needs
