@@ -1,0 +1,45 @@
+-- What crosses to C, by the answer inside: number 0 and line 0 if the call is accepted, and the refusal with zeros if it is not.
+-- These are definitions; nothing is assumed.
+use Prim.Native.Nat.{ℕ}
+use Rattle.lists.specs.declared.Verdict.{Verdict}
+use Rattle.lists.specs.declared.Verdict.the-variants as verdict
+use Rattle.text.specs.declared.Measured.{Measured}
+use Rattle.text.specs.declared.Measured.the-variants as measured
+use Rattle.tables.specs.declared.Estimated.{Estimated}
+use Rattle.tables.specs.declared.Estimated.the-variants as estimated
+use Rattle.tables.specs.declared.Gridded.{Gridded}
+use Rattle.tables.specs.declared.Gridded.the-variants as gridded
+use Rattle.tables.specs.declared.LaidOut.{LaidOut}
+use Rattle.tables.specs.declared.LaidOut.the-variants as laidOut
+use Rattle.widths.specs.declared.Way.{Way}
+use Rattle.widths.specs.declared.Way.the-variants.{Sideways, Down}
+use Rattle.tables_c.specs.declared.CheckResult.{CheckResult}
+use Rattle.tables_c.specs.declared.MeasureResult.{MeasureResult}
+use Rattle.tables_c.specs.declared.EstimatesResult.{EstimatesResult}
+use Rattle.tables_c.specs.declared.GridResult.{GridResult}
+use Rattle.tables_c.specs.declared.LayoutResult.{LayoutResult}
+
+unfoldable pub checkResult : Verdict → CheckResult
+checkResult verdict.Accepted = record { number = 0; line = 0 }
+checkResult (verdict.Refused number line) = record { number = number; line = line }
+
+unfoldable pub measureResult : Measured → MeasureResult
+measureResult (measured.Figures e) = record { number = 0; line = 0; size = e .size; least = e .least; prefix = e .prefix }
+measureResult (measured.Refused number line) = record { number = number; line = line; size = 0; least = 0; prefix = 0 }
+
+unfoldable pub estimatesResult : Estimated → EstimatesResult
+estimatesResult (estimated.Lines n) = record { number = 0; line = 0; lines = n }
+estimatesResult (estimated.Refused number line) = record { number = number; line = line; lines = 0 }
+
+unfoldable pub gridResult : Gridded → GridResult
+gridResult (gridded.Grid rows entries columns) = record { number = 0; line = 0; rows = rows; entries = entries; columns = columns }
+gridResult (gridded.Refused number line) = record { number = number; line = line; rows = 0; entries = 0; columns = 0 }
+
+-- 0 sideways, 1 down
+unfoldable pub wayNumber : Way → ℕ
+wayNumber Sideways = 0
+wayNumber Down = 1
+
+unfoldable pub layoutResult : LaidOut → LayoutResult
+layoutResult (laidOut.Layout way columns width) = record { number = 0; line = 0; way = wayNumber way; columns = columns; width = width }
+layoutResult (laidOut.Refused number line) = record { number = number; line = line; way = 0; columns = 0; width = 0 }

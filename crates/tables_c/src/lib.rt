@@ -1,0 +1,216 @@
+// The five calls for C and Rust: numbers, lent slices and `#[repr(C)]` structs of numbers alone. A slice crosses as a pointer and a length.
+ghost use mathlib.Core.Path.{_≡_};
+ghost use mathlib.Core.List.{[], _∷_};
+ghost use lib.ListN.{length};
+ghost use Rattle.lists.specs.Refusals.{verdictOf};
+ghost use Rattle.text.specs.Text.{measureOf};
+ghost use Rattle.tables.specs.Calls.{checkChecks};
+ghost use Rattle.tables.specs.Answers.{estimatedOf, EstimatesAnswer, griddedOf, GridAnswer, laidOutOf, LayoutAnswer};
+ghost use Rattle.tables_c.specs.Answers.{checkResult, measureResult, estimatesResult, gridResult, wayNumber, layoutResult};
+use lists::Verdict;
+use tables::Estimated;
+use tables::Gridded;
+use tables::LaidOut;
+use text::Measured;
+use widths::Way;
+
+// In each result: number 0 and line 0 if the call is accepted; else the refusal, its line, and zeros.
+#[repr(C)]
+pub struct CheckResult {
+    pub number: u32,
+    pub line: u32,
+}
+
+#[repr(C)]
+pub struct MeasureResult {
+    pub number: u32,
+    pub line: u32,
+    pub size: u32,
+    pub least: u32,
+    pub prefix: u32,
+}
+
+#[repr(C)]
+pub struct EstimatesResult {
+    pub number: u32,
+    pub line: u32,
+    pub lines: u32,
+}
+
+#[repr(C)]
+pub struct GridResult {
+    pub number: u32,
+    pub line: u32,
+    pub rows: u32,
+    pub entries: u32,
+    pub columns: u32,
+}
+
+// way: 0 sideways, 1 down.
+#[repr(C)]
+pub struct LayoutResult {
+    pub number: u32,
+    pub line: u32,
+    pub way: u32,
+    pub columns: u32,
+    pub width: u32,
+}
+
+// Whether a sheet is accepted.
+#[no_mangle]
+pub extern "C" fn tables_check(sheet: &[u8]) -> CheckResult
+    ensures { λ r. ⌜ r ≡ checkResult (verdictOf (checkChecks (now (sheet .entry)))) ⌝ }
+{
+    match tables::check(sheet) {
+        Verdict::Accepted => CheckResult { number: 0, line: 0 },
+        Verdict::Refused { number, line } => CheckResult { number, line },
+    }
+}
+
+// The figures of one text, as text or svg, or as img.
+#[no_mangle]
+pub extern "C" fn tables_measure(text: &[u8], wrap: u32, img: bool) -> MeasureResult
+    ensures { λ r. ⌜ r ≡ measureResult (measureOf (now (text .entry)) wrap img) ⌝ }
+{
+    match text::measure(text, wrap, img) {
+        Measured::Figures(e) => MeasureResult {
+            number: 0,
+            line: 0,
+            size: e.size,
+            least: e.least,
+            prefix: e.prefix,
+        },
+        Measured::Refused { number, line } => MeasureResult {
+            number,
+            line,
+            size: 0,
+            least: 0,
+            prefix: 0,
+        },
+    }
+}
+
+// The size, the least width and the prefix of every line of a sheet.
+#[no_mangle]
+pub extern "C" fn tables_estimates(
+    sheet: &[u8],
+    wrap: u32,
+    size: &mut [u32],
+    least: &mut [u32],
+    prefix: &mut [u32],
+) -> EstimatesResult
+    ensures { λ r. ⌜ r ≡ estimatesResult (estimatedOf (now (sheet .entry)) wrap
+        (length (now (size .entry)) ∷ length (now (least .entry)) ∷ length (now (prefix .entry)) ∷ [])) ⌝ }
+    ensures { λ _. ⌜ EstimatesAnswer (now (sheet .entry)) wrap (length (now (size .entry)) ∷ length (now (least .entry)) ∷ length (now (prefix .entry)) ∷ [])
+        (now (size .entry)) (now (least .entry)) (now (prefix .entry))
+        (estimatedOf (now (sheet .entry)) wrap (length (now (size .entry)) ∷ length (now (least .entry)) ∷ length (now (prefix .entry)) ∷ []))
+        (now (size .exit)) (now (least .exit)) (now (prefix .exit)) ⌝ }
+{
+    match tables::estimates(sheet, wrap, size, least, prefix) {
+        Estimated::Lines(lines) => EstimatesResult {
+            number: 0,
+            line: 0,
+            lines,
+        },
+        Estimated::Refused { number, line } => EstimatesResult {
+            number,
+            line,
+            lines: 0,
+        },
+    }
+}
+
+// The grid of the table in a line.
+#[no_mangle]
+pub extern "C" fn tables_grid(
+    sheet: &[u8],
+    line: u32,
+    cell: &mut [u32],
+    first: &mut [u32],
+    span: &mut [u32],
+    row: &mut [u32],
+    row_end: &mut [u32],
+) -> GridResult
+    ensures { λ r. ⌜ r ≡ gridResult (griddedOf (now (sheet .entry)) line
+        (length (now (cell .entry)) ∷ length (now (first .entry)) ∷ length (now (span .entry)) ∷ [])
+        (length (now (row .entry)) ∷ length (now («row_end» .entry)) ∷ [])) ⌝ }
+    ensures { λ _. ⌜ GridAnswer (now (sheet .entry)) line (length (now (cell .entry)) ∷ length (now (first .entry)) ∷ length (now (span .entry)) ∷ [])
+        (length (now (row .entry)) ∷ length (now («row_end» .entry)) ∷ [])
+        (now (cell .entry)) (now (first .entry)) (now (span .entry)) (now (row .entry)) (now («row_end» .entry))
+        (griddedOf (now (sheet .entry)) line (length (now (cell .entry)) ∷ length (now (first .entry)) ∷ length (now (span .entry)) ∷ [])
+        (length (now (row .entry)) ∷ length (now («row_end» .entry)) ∷ []))
+        (now (cell .exit)) (now (first .exit)) (now (span .exit)) (now (row .exit)) (now («row_end» .exit)) ⌝ }
+{
+    match tables::grid(sheet, line, cell, first, span, row, row_end) {
+        Gridded::Grid {
+            rows,
+            entries,
+            columns,
+        } => GridResult {
+            number: 0,
+            line: 0,
+            rows,
+            entries,
+            columns,
+        },
+        Gridded::Refused { number, line: at } => GridResult {
+            number,
+            line: at,
+            rows: 0,
+            entries: 0,
+            columns: 0,
+        },
+    }
+}
+
+// A way in numbers.
+fn way_number(way: Way) -> u32
+    ensures { λ r. ⌜ r ≡ wayNumber way ⌝ }
+{
+    match way {
+        Way::Sideways => 0,
+        Way::Down => 1,
+    }
+}
+
+// The layout of the table in a line.
+#[no_mangle]
+pub extern "C" fn tables_layout(
+    sheet: &[u8],
+    line: u32,
+    wrap: u32,
+    raw: u32,
+    width: u32,
+    column: &mut [u32],
+    x: &mut [u32],
+    wide: &mut [u32],
+) -> LayoutResult
+    ensures { λ r. ⌜ r ≡ layoutResult (laidOutOf (now (sheet .entry)) line wrap raw width (length (now (column .entry)) ∷ [])
+        (length (now (x .entry)) ∷ length (now (wide .entry)) ∷ [])) ⌝ }
+    ensures { λ _. ⌜ LayoutAnswer (now (sheet .entry)) line wrap raw width (length (now (column .entry)) ∷ [])
+        (length (now (x .entry)) ∷ length (now (wide .entry)) ∷ [])
+        (now (column .entry)) (now (x .entry)) (now (wide .entry))
+        (laidOutOf (now (sheet .entry)) line wrap raw width (length (now (column .entry)) ∷ []) (length (now (x .entry)) ∷ length (now (wide .entry)) ∷ []))
+        (now (column .exit)) (now (x .exit)) (now (wide .exit)) ⌝ }
+{
+    match tables::layout(sheet, line, wrap, raw, width, column, x, wide) {
+        LaidOut::Layout {
+            way,
+            columns,
+            width: taken,
+        } => LayoutResult {
+            number: 0,
+            line: 0,
+            way: way_number(way),
+            columns,
+            width: taken,
+        },
+        LaidOut::Refused { number, line: at } => LayoutResult {
+            number,
+            line: at,
+            way: 0,
+            columns: 0,
+            width: 0,
+        },
+    }
+}

@@ -1,0 +1,65 @@
+// A caller in C: takes the name of an input as `layout` reads it, settings and a sheet, and shows what the five calls say of its first table.
+#include <stdio.h>
+#include <string.h>
+#include "tables.h"
+
+static uint8_t input[TABLES_MAX_BYTES + 100];
+static uint32_t size[TABLES_MAX_LINES], least[TABLES_MAX_LINES], prefix[TABLES_MAX_LINES];
+static uint32_t cell[TABLES_MAX_ENTRIES], first[TABLES_MAX_ENTRIES], span[TABLES_MAX_ENTRIES];
+static uint32_t row[TABLES_MAX_LINES], row_end[TABLES_MAX_LINES];
+static uint32_t column[TABLES_MAX_COLUMNS], x[TABLES_MAX_ENTRIES], wide[TABLES_MAX_ENTRIES];
+#define PLACES(a) (a), sizeof(a) / sizeof *(a)
+
+static int refused(uint32_t number, uint32_t line) {
+    if (number) printf("refusal %u, line %u\n", number, line);
+    return number != 0;
+}
+
+// The line of the first table of an accepted sheet, 0 if there is none: a line's kind stands after its first space.
+static uint32_t first_table(const uint8_t *sheet, size_t len) {
+    uint32_t line = 0;
+    for (const uint8_t *p = sheet, *end = sheet + len; p < end; line++) {
+        const uint8_t *kind = memchr(p, ' ', (size_t)(end - p)), *feed = memchr(p, '\n', (size_t)(end - p));
+        if (line > 0 && memcmp(kind, " table ", 7) == 0) return line;
+        p = feed + 1;
+    }
+    return 0;
+}
+
+int main(int argc, char **argv) {
+    unsigned wrap, raw, width;
+    int settings = 0;
+    FILE *file = argc == 2 ? fopen(argv[1], "rb") : NULL;
+    size_t len = file ? fread(input, 1, sizeof input - 1, file) : 0;
+    if (sscanf((char *)input, "wrap raw width\n%u %u %u%n", &wrap, &raw, &width, &settings) != 3 || input[settings] != '\n') {
+        fprintf(stderr, "usage: caller INPUT, which begins with the settings\n");
+        return 2;
+    }
+    const uint8_t *sheet = input + settings + 1;
+    len -= (size_t)settings + 1;
+
+    tables_check_result c = tables_check(sheet, len);
+    if (refused(c.number, c.line)) return 1;
+    printf("check: accepted\n");
+
+    tables_measure_result m = tables_measure((const uint8_t *)" a  b ", 6, wrap, false);
+    if (refused(m.number, m.line)) return 1;
+    printf("measure \" a  b \": size %u, least %u, prefix %u\n", m.size, m.least, m.prefix);
+
+    tables_estimates_result e = tables_estimates(sheet, len, wrap, PLACES(size), PLACES(least), PLACES(prefix));
+    if (refused(e.number, e.line)) return 1;
+    printf("estimates: %u lines; line 1 has size %u, least %u, prefix %u\n", e.lines, size[0], least[0], prefix[0]);
+
+    uint32_t line = first_table(sheet, len);
+    tables_grid_result g = tables_grid(sheet, len, line, PLACES(cell), PLACES(first), PLACES(span), PLACES(row), PLACES(row_end));
+    if (refused(g.number, g.line)) return 1;
+    printf("grid of line %u: %u rows, %u entries, %u columns\n", line, g.rows, g.entries, g.columns);
+
+    tables_layout_result l = tables_layout(sheet, len, line, wrap, raw, width, PLACES(column), PLACES(x), PLACES(wide));
+    if (refused(l.number, l.line)) return 1;
+    printf("layout: %s, %u columns, %u wide\n", l.way == TABLES_DOWN ? "down" : "sideways", l.columns, l.width);
+    for (uint32_t i = 0; i < l.columns; i++) printf("column %u: width %u\n", i, column[i]);
+    for (uint32_t r = 0, i = 0; r < g.rows; r++)
+        for (; i < row_end[r]; i++) printf("row %u, cell %u: x %u, width %u\n", row[r], cell[i], x[i], wide[i]);
+    return 0;
+}
