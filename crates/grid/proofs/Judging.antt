@@ -8,7 +8,7 @@ use native.Mathlib.Omega.{arith}
 use lib.ListN.{length, take, drop, length-append, length-map}
 use lib.Seq.{drop-drop, drop-append-add}
 use Rattle.lists.specs.Lists.{over}
-use Rattle.lists.specs.Limits.{maxLines, maxEntries}
+use Rattle.lists.specs.Limits.{maxEntries}
 use Rattle.edges.specs.Edges.{allAt, rowsFrom, rowsEnds}
 use Rattle.edges.specs.declared.Numbered.the-variants.{Done, Missing}
 use Rattle.cells.specs.Cells as cells
@@ -85,9 +85,9 @@ module _ (table : List cells.Row) {placed : Positions} {rl₀ l₀ s₀ e₀ rl 
   held-ends = front (tableEnds table) e₀ e r (known .3 ∙ sym (ends-length 0 (allRows table))) (held .ends)
 
   -- they can be numbered
-  pub ready : length table + length (allCells table) ≤ maxLines → maxEntries ≤ length s → maxLines ≤ length e → {first span : List ℕ}
+  pub ready : length table + length (allCells table) ≤ length e → maxEntries ≤ length s → {first span : List ℕ}
       → maxEntries ≤ length first → maxEntries ≤ length span → RowsReady o r n s e first span
-  ready few ws es ws′ ws″ = record {
+  ready few ws ws′ ws″ = record {
     some = omega (arith, known .2, known .3, rows-more table);
     ends-in = omega (arith, known .3, rows-count table);
     wide-in = omega (arith, known .1, known .4);
@@ -159,9 +159,9 @@ module _ {rs : List cells.Row} {first₀ span₀ rows₀ row₀ cend₀ first₁
   positioned : PositionsDone rs placed row₁ line₀ wide₀ end₀ row₂ line wide end
   positioned = subst (λ (t : List cells.Row). PositionsDone t placed row₁ line₀ wide₀ end₀ row₂ line wide end) (rebuilt w) p
 
-  pub placed-ready : length rs + length (allCells rs) ≤ maxLines → maxEntries ≤ length wide → maxLines ≤ length end → maxEntries ≤ length first₁ → maxEntries ≤ length span₁
+  pub placed-ready : length rs + length (allCells rs) ≤ length end → maxEntries ≤ length wide → maxEntries ≤ length first₁ → maxEntries ≤ length span₁
       → PlacedReady placed wide end first₁ span₁
-  placed-ready few a b c d = record { ready = λ o r m q. ready rs positioned o r m q few a b c d }
+  placed-ready few a b c = record { ready = λ o r m q. ready rs positioned o r m q few a b c }
 
   module _ {answer : Judged} {first span : List ℕ} (g : PlacedJudged placed wide end first₁ span₁ answer first span) where
     judged-answer : (q : Positions) → placed ≡ q → answer ≡ judgedOf rs

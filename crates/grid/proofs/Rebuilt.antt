@@ -17,18 +17,18 @@ use Rattle.positions.specs.Slices.{tableOf, Rising, Ready}
 use Rattle.grid.specs.Judging.{Lined}
 use Rattle.positions.proofs.TableSlices.{table-listed, listed-rises}
 
--- room for the positions of a table
-pub record Positioning (rl l s e left at wide nl na nw : List ℕ) : Type 0 where
-  pub row-line-room : maxLines ≤ length rl
+-- room for the positions of a table with n rows and cells
+pub record Positioning (n : ℕ) (rl l s e left at wide nl na nw : List ℕ) : Type 0 where
+  pub row-line-room : n ≤ length rl
   pub line-room : maxEntries ≤ length l
   pub span-room : maxEntries ≤ length s
-  pub row-end-room : maxLines ≤ length e
-  pub left-room : maxLines ≤ length left
-  pub at-room : maxLines ≤ length at
-  pub wide-room : maxLines ≤ length wide
-  pub next-left-room : maxLines ≤ length nl
-  pub next-at-room : maxLines ≤ length na
-  pub next-wide-room : maxLines ≤ length nw
+  pub row-end-room : n ≤ length e
+  pub left-room : n ≤ length left
+  pub at-room : n ≤ length at
+  pub wide-room : n ≤ length wide
+  pub next-left-room : n ≤ length nl
+  pub next-at-room : n ≤ length na
+  pub next-wide-room : n ≤ length nw
 
 -- a list that is written over the front of a buffer is found there
 pub front : (l o₀ o : List ℕ) (n : ℕ) → n ≡ length l → o ≡ over l o₀ → take n o ≡ l
@@ -55,31 +55,37 @@ module _ {rs : List Row} {line₀ span₀ rows₀ row₀ end₀ line span rows r
       subst (λ (l : List ℕ). Rising 0 (take count end) (length l)) (sym front-lines)
       (subst (λ (l : List ℕ). Rising 0 l (length (map lineOf (allCells rs)))) (sym front-ends) (listed-rises rs))
 
-  pub listed-in : length rs + length (allCells rs) ≤ maxLines → (cells ≤ maxLines) × (count ≤ maxLines)
+  pub listed-in : {m : ℕ} → length rs + length (allCells rs) ≤ m → (cells ≤ m) × (count ≤ m)
   listed-in h = omega (arith, w .cells-are, w .rows-are)
 
   -- its positions can be made
-  pub listed-ready : length rs + length (allCells rs) ≤ maxLines → cells ≤ length line → cells ≤ length span → cells ≤ length rows → count ≤ length end
-      → {rl l s e left at wide nl na nw : List ℕ} → Positioning rl l s e left at wide nl na nw
+  pub listed-ready : {m : ℕ} → length rs + length (allCells rs) ≤ m → m ≤ maxLines
+      → cells ≤ length line → cells ≤ length span → cells ≤ length rows → count ≤ length end
+      → {rl l s e left at wide nl na nw : List ℕ} → Positioning m rl l s e left at wide nl na nw
       → Ready (take cells line) (take cells span) (take cells rows) (take count end) rl l s e left at wide nl na nw
-  listed-ready few a b d f z = record {
-    originals = record {
-      rising = rebuilt-rises;
-      spans-length = length-take-le cells span b ∙ sym (length-take-le cells line a);
-      rows-length = length-take-le cells rows d ∙ sym (length-take-le cells line a);
-      few = omega (arith, length-take-le count end f, length-take-le cells line a, w .cells-are, w .rows-are);
-      line-room = z .line-room;
-      span-room = z .span-room;
-      row-end-room = z .row-end-room;
-      left-room = z .left-room;
-      at-room = z .at-room;
-      wide-room = z .wide-room;
-      next-left-room = z .next-left-room;
-      next-at-room = z .next-at-room;
-      next-wide-room = z .next-wide-room;
-    };
-    row-line-room = z .row-line-room;
-  }
+  listed-ready few short a b d f z =
+      let u = length-take-le count end f in
+      let v = length-take-le cells line a in
+      let x = w .cells-are in
+      let y = w .rows-are in
+      record {
+        originals = record {
+          rising = rebuilt-rises;
+          spans-length = length-take-le cells span b ∙ sym v;
+          rows-length = length-take-le cells rows d ∙ sym v;
+          few = omega arith;
+          line-room = z .line-room;
+          span-room = z .span-room;
+          row-end-room = omega (arith, z .row-end-room);
+          left-room = omega (arith, z .left-room);
+          at-room = omega (arith, z .at-room);
+          wide-room = omega (arith, z .wide-room);
+          next-left-room = omega (arith, z .next-left-room);
+          next-at-room = omega (arith, z .next-at-room);
+          next-wide-room = omega (arith, z .next-wide-room);
+        };
+        row-line-room = omega (arith, z .row-line-room);
+      }
 
 -- ---- how many
 
@@ -98,12 +104,7 @@ held-few depth cols rows at =
       length-held depth cols rows,
     )
 
--- so they are few
-pub lined-few : {depth cols rows : List ℕ} → Lined depth cols rows → (at : ℕ)
-    → length (heldRows depth cols rows at) + length (allCells (heldRows depth cols rows at)) ≤ maxLines
-lined-few {depth} {cols} {rows} l at = omega (arith, held-few depth cols rows at, l .short)
-
--- and the table at a place can be listed
+-- the table at a place can be listed
 pub lined-ready : {depth cols rows : List ℕ} → Lined depth cols rows → {at : ℕ} → at < length depth → {line span rows′ row end : List ℕ}
     → length depth ≤ length line → length depth ≤ length span → length depth ≤ length rows′ → length depth ≤ length row → length depth ≤ length end
     → TableReady depth cols rows at line span rows′ row end

@@ -90,19 +90,19 @@ pub record Lined (depth cols rows : List ℕ) : Type 0 where
   pub step : (k : ℕ) → k + 1 < length depth → getD depth (k + 1) 0 ≤ getD depth k 0 + 1
   pub narrow : (k : ℕ) → getD cols k 0 ≤ maxCols
 
--- the lent slices have the places of a sheet's entries, and of its lines
-pub record Room (wide cell-rows cell-end left hang-at hang next-left next-at next-wide line first′ span row end : List ℕ) : Type 0 where
+-- the lent slices have the places of a sheet's entries, and of n lines
+pub record Room (n : ℕ) (wide cell-rows cell-end left hang-at hang next-left next-at next-wide line first′ span row end : List ℕ) : Type 0 where
   pub wide-room : maxEntries ≤ length wide
   pub line-room : maxEntries ≤ length line
   pub first-room : maxEntries ≤ length first′
   pub span-room : maxEntries ≤ length span
-  pub cell-rows-room : maxLines ≤ length cell-rows
-  pub cell-end-room : maxLines ≤ length cell-end
-  pub left-room : maxLines ≤ length left
-  pub hang-at-room : maxLines ≤ length hang-at
-  pub hang-room : maxLines ≤ length hang
-  pub next-left-room : maxLines ≤ length next-left
-  pub next-at-room : maxLines ≤ length next-at
-  pub next-wide-room : maxLines ≤ length next-wide
-  pub row-room : maxLines ≤ length row
-  pub end-room : maxLines ≤ length end
+  pub cell-rows-room : n ≤ length cell-rows
+  pub cell-end-room : n ≤ length cell-end
+  pub left-room : n ≤ length left
+  pub hang-at-room : n ≤ length hang-at
+  pub hang-room : n ≤ length hang
+  pub next-left-room : n ≤ length next-left
+  pub next-at-room : n ≤ length next-at
+  pub next-wide-room : n ≤ length next-wide
+  pub row-room : n ≤ length row
+  pub end-room : n ≤ length end

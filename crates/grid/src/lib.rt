@@ -2,6 +2,7 @@
 use edges::Numbered;
 use positions::Positions;
 ghost use mathlib.Core.Path.{_≡_};
+ghost use mathlib.Core.Bool.{true};
 ghost use Prim.Native.Nat.{ℕ, _≤_, _<_, max};
 ghost use lib.ListN.{length, take};
 ghost use Rattle.edges.specs.Edges.{isEdge, rowsFrom, RowsFit};
@@ -36,6 +37,7 @@ fn number_rows(
     span: &mut [u32],
 ) -> Numbered
     requires { ⌜ length (now words) ≡ 65 ⌝ }
+    requires { ⌜ isEdge (now words) 0 ≡ true ⌝ }
     requires { ⌜ RowsFit 0 (now ends) (now wide) ⌝ }
     requires { ⌜ (length (now wide) ≤ length (now first)) × (length (now wide) ≤ length (now span)) ⌝ }
     ensures { λ r. ⌜ RowsNumbered (isEdge (now (words .entry))) (rowsFrom 0 (now (ends .entry)) (now (wide .entry))) (now (first .entry)) (now (span .entry)) r (now (first .exit)) (now (span .exit)) ⌝ }
@@ -141,7 +143,7 @@ pub fn table_grid(
 ) -> Judged
     requires { ⌜ at < length (now depth) ⌝ }
     requires { ⌜ Lined (now depth) (now cols) (now rows) ⌝ }
-    requires { ⌜ Room (now wide) (now «cell_rows») (now «cell_end») (now left) (now «hang_at») (now hang) (now «next_left») (now «next_at») (now «next_wide»)
+    requires { ⌜ Room (length (now depth)) (now wide) (now «cell_rows») (now «cell_end») (now left) (now «hang_at») (now hang) (now «next_left») (now «next_at») (now «next_wide»)
         (now line) (now first) (now span) (now «row_line») (now «row_end») ⌝ }
     ensures { λ r. ⌜ GridJudged (heldRows (now (depth .entry)) (now (cols .entry)) (now (rows .entry)) at) r
         (now (line .entry)) (now (first .entry)) (now (span .entry)) (now («row_line» .entry)) (now («row_end» .entry))

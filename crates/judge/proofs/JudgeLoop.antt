@@ -340,7 +340,7 @@ module _ {wide₀ cell-rows₀ cell-end₀ left₀ hang-at₀ hang₀ next-left�
         span-of-same = e15 ∙ z .span-of-same;
       }
 
-  pub room-same : Room wide₀ cell-rows₀ cell-end₀ left₀ hang-at₀ hang₀ next-left₀ next-at₀ next-wide₀ line₀ first₀ span₀ row-line₀ row-end₀ → Room wide cell-rows cell-end left hang-at hang next-left next-at next-wide line first span row-line row-end
+  pub room-same : {m : ℕ} → Room m wide₀ cell-rows₀ cell-end₀ left₀ hang-at₀ hang₀ next-left₀ next-at₀ next-wide₀ line₀ first₀ span₀ row-line₀ row-end₀ → Room m wide cell-rows cell-end left hang-at hang next-left next-at next-wide line first span row-line row-end
   room-same r =
       record {
         wide-room = rw (z .wide-same) (r .wide-room);

@@ -85,7 +85,7 @@ fn keep_table(
 ) -> u32
     requires { ⌜ at < length (now depth) ⌝ }
     requires { ⌜ Lined (now depth) (now cols) (now rows) ⌝ }
-    requires { ⌜ Room (now wide) (now «cell_rows») (now «cell_end») (now left) (now «hang_at») (now hang) (now «next_left») (now «next_at») (now «next_wide»)
+    requires { ⌜ Room (length (now depth)) (now wide) (now «cell_rows») (now «cell_end») (now left) (now «hang_at») (now hang) (now «next_left») (now «next_at») (now «next_wide»)
         (now line) (now first) (now span) (now «row_line») (now «row_end») ⌝ }
     requires { ⌜ (length (now depth) ≤ length (now «first_of»)) × (length (now depth) ≤ length (now «span_of»)) ⌝ }
     ensures { λ r. ⌜ TableStored (heldRows (now (depth .entry)) (now (cols .entry)) (now (rows .entry)) at) at r
@@ -143,7 +143,7 @@ pub fn judge_tables(
 ) -> Verdict
     requires { ⌜ Nests (now depth) (now kind) ⌝ }
     requires { ⌜ Lined (now depth) (now cols) (now rows) ⌝ }
-    requires { ⌜ Room (now wide) (now «cell_rows») (now «cell_end») (now left) (now «hang_at») (now hang) (now «next_left») (now «next_at») (now «next_wide»)
+    requires { ⌜ Room (length (now depth)) (now wide) (now «cell_rows») (now «cell_end») (now left) (now «hang_at») (now hang) (now «next_left») (now «next_at») (now «next_wide»)
         (now line) (now first) (now span) (now «row_line») (now «row_end») ⌝ }
     requires { ⌜ (length (now depth) ≤ length (now «first_of»)) × (length (now depth) ≤ length (now «span_of»)) ⌝ }
     ensures { λ r. ⌜ TablesJudged (now (depth .entry)) (now (kind .entry)) (now (cols .entry)) (now (rows .entry)) r (now («first_of» .exit)) (now («span_of» .exit)) ⌝ }

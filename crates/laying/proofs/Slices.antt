@@ -49,8 +49,8 @@ unfolding TilesAll flat All
 rows-whole n [] t = tt
 rows-whole n (r ∷ rows) t = all-append (Whole n) r (flat rows) (row-whole n 0 r (t .0) (t .1)) (rows-whole n rows (t .2))
 
-module _ {lines fs ss ends sizes leasts : List ℕ} {width : ℕ} {zs₀ ls₀ cs₀ cl₀ column₀ xs₀ wides₀ : List ℕ}
-    (p : LayableTable lines fs ss ends sizes leasts width zs₀ ls₀ cs₀ cl₀ column₀ xs₀ wides₀)
+module _ {lines fs ss ends sizes leasts : List ℕ} {width : ℕ} {cs₀ cl₀ column₀ xs₀ wides₀ : List ℕ}
+    (p : LayableTable lines fs ss ends sizes leasts width cs₀ cl₀ column₀ xs₀ wides₀)
     {zs ls : List ℕ} (ez : zs ≡ map (figureOf sizes) lines) (el : ls ≡ map (figureOf leasts) lines) where
   boxes-are : boxes fs ss zs ls ≡ entryBoxes lines fs ss sizes leasts
   boxes-are = rw (ez, el) (entry-boxes lines fs ss sizes leasts (p .firsts-length))
@@ -75,6 +75,12 @@ module _ {lines fs ss ends sizes leasts : List ℕ} {width : ℕ} {zs₀ ls₀ c
   entry-whole : (i : ℕ) → i < length fs → (1 ≤ getD ss i 0) × (getD fs i 0 + getD ss i 0 ≤ length column₀) × (getD ls i 0 ≤ getD zs i 0)
   entry-whole i h = let w = rw (box-at fs ss zs ls i h) at (whole i h) in (w .some, w .ends, w .low)
 
+  sizes-length : length zs ≡ length fs
+  sizes-length = omega (arith, ap length ez, length-map lines (figureOf sizes), p .firsts-length)
+
+  leasts-length : length ls ≡ length fs
+  leasts-length = omega (arith, ap length el, length-map lines (figureOf leasts), p .firsts-length)
+
   -- what the columns ask for
   pub layable : Layable fs ss zs ls cs₀ cl₀ column₀
   layable =
@@ -82,11 +88,11 @@ module _ {lines fs ss ends sizes leasts : List ℕ} {width : ℕ} {zs₀ ls₀ c
         entries =
             record {
               spans-length = omega (arith, p .spans-length, p .firsts-length);
-              figures-length = omega (arith, ap length ez, length-map lines (figureOf sizes), p .firsts-length);
+              figures-length = sizes-length;
               some = λ i h. entry-whole i h .0;
               ends = λ i h. omega (arith, entry-whole i h .1, p .sizes-length);
             };
-        lows-length = omega (arith, ap length el, length-map lines (figureOf leasts), p .firsts-length);
+        lows-length = leasts-length;
         low = λ i h. entry-whole i h .2;
         columns =
             record {
@@ -100,12 +106,11 @@ module _ {lines fs ss ends sizes leasts : List ℕ} {width : ℕ} {zs₀ ls₀ c
     counted : LaidOut (boxes fs ss zs ls) (length column₀) raw width cs cl column laid
     counted = rw (p .sizes-length) at q
 
-    -- what placing asks for
-    pub places : AllRows (laid .way) fs ss ends column width xs₀ wides₀
+    -- what placing asks for: it writes over the figures
+    pub places : AllRows (laid .way) fs ss ends column width zs ls
     places =
-        placeable fs ss zs ls ends (length column₀) raw width cs cl column laid counted ascends tiles xs₀ wides₀
-        (omega (arith, p .spans-length, p .firsts-length)) (omega (arith, p .xs-length, p .firsts-length))
-        (omega (arith, p .wides-length, p .firsts-length)) (p .columns) (omega (arith, p .small)) (λ e. p .small)
+        placeable fs ss zs ls ends (length column₀) raw width cs cl column laid counted ascends tiles zs ls
+        (omega (arith, p .spans-length, p .firsts-length)) sizes-length leasts-length (p .columns) (omega (arith, p .small)) (λ e. p .small)
 
     -- the answer
     pub laid-table : {xs wides : List ℕ} → Written (placeRows (laid .way) column width (rowsBy 0 ends (boxes fs ss [] []))) xs wides →

@@ -33,14 +33,12 @@ module _ {g : List GridRow} {all : List Done} {lines firsts spans ends sizes lea
   entries : length lines ≡ length (entriesOf g)
   entries = ap length (p .lines-are) ∙ length-map (entriesOf g) shownLine
 
-  pub table-layable : {width : ℕ} {zs ls cs cl column xs wides : List ℕ} → Room (length (entriesOf g)) columns zs ls cs cl column xs wides →
-      columns ≤ maxPosition → width ≤ maxWidth → LayableTable lines firsts spans ends sizes leasts width zs ls cs cl column xs wides
+  pub table-layable : {width : ℕ} {cs cl column xs wides : List ℕ} → Room (length (entriesOf g)) columns cs cl column xs wides →
+      columns ≤ maxPosition → width ≤ maxWidth → LayableTable lines firsts spans ends sizes leasts width cs cl column xs wides
   table-layable r few small =
       record {
         firsts-length = ap length (p .firsts-are) ∙ length-map (entriesOf g) firstOf ∙ sym entries;
         spans-length = ap length (p .spans-are) ∙ length-map (entriesOf g) spanOf ∙ sym entries;
-        entry-sizes-length = r .entry-sizes-length ∙ sym entries;
-        entry-leasts-length = r .entry-leasts-length ∙ sym entries;
         xs-length = r .xs-length ∙ sym entries;
         wides-length = r .wides-length ∙ sym entries;
         sizes-length = r .column-sizes-length ∙ sym (r .column-length);

@@ -52,9 +52,7 @@ pub record Listed (g : List GridRow) (all : List Done) (lines firsts spans ends 
   pub leasts-are : leasts ≡ map leastOf all
 
 -- places to write to: one for each entry, one for each column
-pub record Room (entries columns : ℕ) (entry-sizes entry-leasts column-sizes column-leasts column xs wides : List ℕ) : Type 0 where
-  pub entry-sizes-length : length entry-sizes ≡ entries
-  pub entry-leasts-length : length entry-leasts ≡ entries
+pub record Room (entries columns : ℕ) (column-sizes column-leasts column xs wides : List ℕ) : Type 0 where
   pub column-sizes-length : length column-sizes ≡ columns
   pub column-leasts-length : length column-leasts ≡ columns
   pub column-length : length column ≡ columns

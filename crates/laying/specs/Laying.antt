@@ -30,13 +30,11 @@ pub record Figured (lines figures out : List ℕ) : Type 0 where
   pub within : (i : ℕ) → i < length lines → getD lines i 0 ≤ length figures
 
 -- a table's slices. Entries: lines, first columns and spans, and rows that tile the columns. Lines of the sheet: sizes and leasts. Places
--- for the figures of entries, for those of columns, and for the results.
+-- for the figures of columns, and for the results.
 pub record LayableTable (lines firsts spans ends sizes leasts : List ℕ) (width : ℕ)
-    (entry-sizes entry-leasts column-sizes column-leasts column xs wides : List ℕ) : Type 0 where
+    (column-sizes column-leasts column xs wides : List ℕ) : Type 0 where
   pub firsts-length : length firsts ≡ length lines
   pub spans-length : length spans ≡ length lines
-  pub entry-sizes-length : length entry-sizes ≡ length lines
-  pub entry-leasts-length : length entry-leasts ≡ length lines
   pub xs-length : length xs ≡ length lines
   pub wides-length : length wides ≡ length lines
   pub sizes-length : length column-sizes ≡ length column

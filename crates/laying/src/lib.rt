@@ -37,7 +37,8 @@ fn entry_figures(line: &[u32], figure: &[u32], out: &mut [u32])
     }
 }
 
-// Ports `render_table_tree`: the columns' widths, and then the place of each entry. The slices from entry_size to leasts are room to work in.
+// Ports `render_table_tree`: the columns' widths, and then the place of each entry. The slices sizes and leasts are room to work in. x and
+// wide are too at first: they hold the entries' figures, which nothing asks for once the columns are laid, so that no other room is needed.
 pub fn lay_table(
     line: &[u32],
     first: &[u32],
@@ -47,8 +48,6 @@ pub fn lay_table(
     least: &[u32],
     raw: u32,
     width: u32,
-    entry_size: &mut [u32],
-    entry_least: &mut [u32],
     sizes: &mut [u32],
     leasts: &mut [u32],
     column: &mut [u32],
@@ -56,24 +55,14 @@ pub fn lay_table(
     wide: &mut [u32],
 ) -> widths::Laid
     requires { ⌜ LayableTable (now line) (now first) (now span) (now «row_end») (now size) (now least) width
-        (now «entry_size») (now «entry_least») (now sizes) (now leasts) (now column) (now x) (now wide) ⌝ }
+        (now sizes) (now leasts) (now column) (now x) (now wide) ⌝ }
     ensures { λ r. ⌜ LaidTable (length (now (column .entry)))
         (rowsBy 0 (now («row_end» .entry)) (entryBoxes (now (line .entry)) (now (first .entry)) (now (span .entry)) (now (size .entry)) (now (least .entry))))
         raw width (now (column .exit)) (now (x .exit)) (now (wide .exit)) r ⌝ }
 {
-    entry_figures(line, size, entry_size);
-    entry_figures(line, least, entry_least);
-    let laid = widths::lay_columns(
-        first,
-        span,
-        entry_size,
-        entry_least,
-        raw,
-        width,
-        sizes,
-        leasts,
-        column,
-    );
+    entry_figures(line, size, x);
+    entry_figures(line, least, wide);
+    let laid = widths::lay_columns(first, span, x, wide, raw, width, sizes, leasts, column);
     let way = laid.way;
     placing::place(way, first, span, row_end, column, width, x, wide);
     laid

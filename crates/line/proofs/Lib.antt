@@ -3,6 +3,8 @@ pub mod OnField
 pub mod Digits
 pub mod Signs
 pub mod Keys
+pub mod Names
+pub mod Zeros
 pub mod Fed
 pub mod Parsing
 pub mod Judging

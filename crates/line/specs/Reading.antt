@@ -1,11 +1,12 @@
 -- Reading a line field by field, at places of the sheet: what the reader's inner functions answer. These are definitions; nothing is assumed.
+use mathlib.Core.Path.{_≡_}
 use mathlib.Core.Bool.{Bool, false, cond, _&&_}
 use mathlib.Core.List.{List, [], _∷_, map}
-use Prim.Native.Nat.{ℕ, suc, _+_, _-_, _*_}
+use Prim.Native.Nat.{ℕ, suc, _+_, _-_, _*_, _/_, _%_, _≤_}
 use lib.Dec.{leb, ltb, eqb}
 use lib.ListN.{length, drop}
 use Rattle.lists.specs.Limits.{maxDepth}
-use Rattle.text.specs.Decimal.{Number, plain, minus, shifted}
+use Rattle.text.specs.Decimal.{Number, plain, minus, shift, shifted}
 use Rattle.line.specs.Kinds.{kindOf, kindNames, kindCount, cellKind}
 use Rattle.line.specs.Numbers.{Numeral, numeral, unwritten, numberOf, isDigit, upTo, magnitude}
 use Rattle.line.specs.Fields.{Field, field, endless, untilBlank, blank, nFits}
@@ -47,10 +48,11 @@ digitsRead most v at (b ∷ bs) =
     cond (eqb b blank) (Sound v (at + 1))
     (cond (isDigit b && leb (v * 10 + (b - 48)) most) (digitsRead most (v * 10 + (b - 48)) (at + 1) bs) Unsound)
 
--- nothing but the space after a 0
-unfoldable pub zeroRead : ℕ → List ℕ → FieldRead
-zeroRead at [] = Unsound
-zeroRead at (b ∷ bs) = cond (eqb b blank) (Sound 0 (at + 1)) Unsound
+-- a single digit, and the space after it
+unfoldable pub isLone : List ℕ → Bool
+isLone [] = false
+isLone (b ∷ []) = false
+isLone (b ∷ c ∷ bs) = isDigit b && eqb c blank
 
 -- a name as a number: 1, and then each letter as a digit of base 32. A name that goes on after nine letters has none.
 abbrev pub isLetter : ℕ → Bool
@@ -83,6 +85,18 @@ keyPlace k (m ∷ ms) = cond (eqb k m) 0 (suc (keyPlace k ms))
 unfoldable pub kindKeys : List ℕ
 kindKeys = map (keyOf 1) kindNames
 
+-- four bytes as one number, the first lowest
+pub record Four (a b c d four : ℕ) : Type 0 where
+  pub first : a ≡ four % 256
+  pub second : b ≡ four / 256 % 256
+  pub third : c ≡ four / 65536 % 256
+  pub fourth : d ≡ four / 16777216
+
+-- four such bytes stand at a place, and then the rest, up to another place at least
+pub record Spelt (four : ℕ) (s : List ℕ) (at next : ℕ) (rest : List ℕ) : Type 0 where
+  pub inside : next ≤ length s
+  pub is : drop at s ≡ four % 256 ∷ four / 256 % 256 ∷ four / 65536 % 256 ∷ four / 16777216 ∷ rest
+
 -- the largest span that a line of a kind may have, where a cell may have `most`
 unfoldable pub spanLimit : ℕ → ℕ → ℕ
 spanLimit kind most = cond (eqb kind cellKind) most 0
@@ -92,12 +106,24 @@ abbrev pub onSound : FieldRead → (ℕ → ℕ → FieldsRead) → FieldsRead
 onSound (Sound v next) g = g v next
 onSound Unsound g = Broken
 
+-- the fields n, cols and rows of a line of this depth and kind, from a place of the sheet on
+unfoldable pub restRead : List ℕ → ℕ → ℕ → ℕ → FieldsRead
+restRead s depth kind at =
+    onSound (numberRead (nFits kind) shifted at (drop at s)) (λ number a₁.
+    onSound (numberRead (upTo (spanLimit kind 1000)) magnitude a₁ (drop a₁ s)) (λ cols a₂.
+    onSound (numberRead (upTo (spanLimit kind 65534)) magnitude a₂ (drop a₂ s)) (λ rows a₃.
+    Whole (record { depth = depth; kind = kind; number = number; cols = cols; rows = rows; from = a₃ }))))
+
+-- these three are 0
+pub record Zeros (s : List ℕ) (kind at : ℕ) : Type 0 where
+  pub inside : at + 6 ≤ length s
+  pub number : numberRead (nFits kind) shifted at (drop at s) ≡ Sound shift (at + 2)
+  pub cols : numberRead (upTo (spanLimit kind 1000)) magnitude (at + 2) (drop (at + 2) s) ≡ Sound 0 (at + 4)
+  pub rows : numberRead (upTo (spanLimit kind 65534)) magnitude (at + 4) (drop (at + 4) s) ≡ Sound 0 (at + 6)
+
 -- the five fields of the line that starts at a place of the sheet, where each is well formed and in its range
 unfoldable pub fieldsRead : List ℕ → ℕ → FieldsRead
 fieldsRead s at =
     onSound (numberRead (upTo maxDepth) magnitude at (drop at s)) (λ depth a₁.
     onSound (kindRead a₁ (drop a₁ s)) (λ kind a₂.
-    onSound (numberRead (nFits kind) shifted a₂ (drop a₂ s)) (λ number a₃.
-    onSound (numberRead (upTo (spanLimit kind 1000)) magnitude a₃ (drop a₃ s)) (λ cols a₄.
-    onSound (numberRead (upTo (spanLimit kind 65534)) magnitude a₄ (drop a₄ s)) (λ rows a₅.
-    Whole (record { depth = depth; kind = kind; number = number; cols = cols; rows = rows; from = a₅ }))))))
+    restRead s depth kind a₂))

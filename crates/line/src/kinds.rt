@@ -1,10 +1,16 @@
 // The kinds of lines, and the field that names one.
 ghost use mathlib.Core.Path.{_≡_};
+ghost use mathlib.Core.Bool.{true};
+ghost use mathlib.Core.List.{_∷_};
 ghost use Prim.Native.Nat.{_+_, _-_, _*_, _≤_, _<_};
 ghost use lib.ListN.{drop};
-ghost use Rattle.line.specs.Reading.{nineLetters, keyFrom, keyPlace, kindKeys, kindRead};
+ghost use Rattle.line.specs.Fields.{blank};
+ghost use Rattle.line.specs.Reading.{Spelt, nineLetters, keyFrom, keyPlace, kindKeys, kindRead};
 use super::FieldRead;
 use super::between;
+use super::fours::four_at;
+
+pub const TEXT: u32 = 0;
 
 pub const IMG: u32 = 1;
 
@@ -14,7 +20,16 @@ pub const HEAD: u32 = 10;
 
 pub const OL: u32 = 14;
 
+pub const ROW: u32 = 21;
+
 pub const CELL: u32 = 22;
+
+// `text`, `cell`, and `row` with its space, as `four_at` takes them.
+const TEXT_NAME: u32 = 1954047348;
+
+const CELL_NAME: u32 = 1819043171;
+
+const ROW_NAME: u32 = 544698226;
 
 // The least key of nine letters, which the longest name has.
 const NINE_LETTERS: u64 = 35184372088832;
@@ -98,10 +113,33 @@ fn kind_of(key: u64) -> u32
     }
 }
 
-// The kind that the field at a place names.
+// Whether these four bytes and a space stand at a place.
+fn name_at(bytes: &[u8], at: usize, four: u32) -> bool
+    ensures { λ r. ⌜ (r ≡ true → Spelt four (now (bytes .entry)) at (at + 5) (blank ∷ drop (at + 5) (now (bytes .entry)))) ⌝ }
+{
+    if !four_at(bytes, at, four) {
+        return false;
+    }
+    let end = at + 4;
+    if end >= bytes.len() {
+        return false;
+    }
+    bytes[end] == b' '
+}
+
+// The kind that the field at a place names. The commonest names are looked for first.
 pub fn kind_at(bytes: &[u8], at: usize) -> FieldRead
     ensures { λ r. ⌜ r ≡ kindRead at (drop at (now (bytes .entry))) ⌝ }
 {
+    if name_at(bytes, at, CELL_NAME) {
+        return FieldRead::Sound(CELL, at + 5);
+    }
+    if name_at(bytes, at, TEXT_NAME) {
+        return FieldRead::Sound(TEXT, at + 5);
+    }
+    if four_at(bytes, at, ROW_NAME) {
+        return FieldRead::Sound(ROW, at + 4);
+    }
     let k = key_at(bytes, at);
     let kind = kind_of(k.key);
     if kind >= KINDS {

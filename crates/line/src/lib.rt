@@ -1,17 +1,20 @@
 // One line of a sheet. The format is our own: the Rust has no counterpart.
+mod fours;
 pub mod kinds;
 pub mod numbers;
 
 ghost use mathlib.Core.Path.{_≡_};
 ghost use Prim.Native.Nat.{_≤_, _<_, _+_};
-ghost use mathlib.Core.Bool.{_&&_, _||_};
+ghost use mathlib.Core.Bool.{true, _&&_, _||_};
 ghost use lib.Dec.{leb, eqb};
 ghost use lib.ListN.{length};
 ghost use Rattle.lists.specs.Limits.{maxBytes};
 ghost use Rattle.text.specs.Bytes.{Classes};
-ghost use Rattle.line.specs.Reading.{fieldsRead, spanLimit};
+ghost use Rattle.line.specs.Reading.{spanLimit, Zeros, restRead, fieldsRead};
 ghost use Rattle.line.specs.Kinds.{hasText};
 ghost use Rattle.line.specs.LineAt.{lineAt, pieceAt};
+use fours::four_at;
+use text::decimal::SHIFT;
 
 // What is kept of a node line. The list's first number is shifted up by 1,000,000,000; own is the size of the line's own text, 2 more for
 // img; the text lies between the places from and to of the sheet; the next line starts at next.
@@ -60,6 +63,9 @@ const MAX_COLS: u32 = 1000;
 
 const MAX_ROWS: u32 = 65534;
 
+// `0 0 ` as `four_at` takes it.
+const TWO_ZEROS: u32 = 540024880;
+
 // Whether a byte is from low to high.
 fn between(low: u8, b: u8, high: u8) -> bool
     ensures { λ r. ⌜ r ≡ leb low b && leb b high ⌝ }
@@ -89,17 +95,34 @@ fn span_limit(kind: u32, most: u32) -> u32
     if kind == kinds::CELL { most } else { 0 }
 }
 
-// The five fields of the line at a place, each with the place where the next one starts.
-fn fields_at(bytes: &[u8], at: usize) -> FieldsRead
-    ensures { λ r. ⌜ r ≡ fieldsRead (now (bytes .entry)) at ⌝ }
+// Whether n, cols and rows, which stand at a place, are all 0, as on most lines but cells. A heading's n is not.
+fn zeros_at(bytes: &[u8], at: usize, kind: u32) -> bool
+    ensures { λ r. ⌜ (r ≡ true → Zeros (now (bytes .entry)) kind at) ⌝ }
 {
-    let FieldRead::Sound(depth, at_kind) = numbers::natural_at(bytes, at, lists::MAX_DEPTH) else {
-        return FieldsRead::Broken;
-    };
-    let FieldRead::Sound(kind, at_n) = kinds::kind_at(bytes, at_kind) else {
-        return FieldsRead::Broken;
-    };
-    let FieldRead::Sound(number, at_cols) = numbers::n_at(bytes, at_n, kind) else {
+    if kind == kinds::HEAD {
+        return false;
+    }
+    if !four_at(bytes, at, TWO_ZEROS) {
+        return false;
+    }
+    four_at(bytes, at + 2, TWO_ZEROS)
+}
+
+// The last three fields of a line of this depth and kind, from a place on, each with the place where the next one starts.
+fn rest_at(bytes: &[u8], at: usize, depth: u32, kind: u32) -> FieldsRead
+    ensures { λ r. ⌜ r ≡ restRead (now (bytes .entry)) depth kind at ⌝ }
+{
+    if zeros_at(bytes, at, kind) {
+        return FieldsRead::Whole(Fields {
+            depth: depth,
+            kind: kind,
+            number: SHIFT,
+            cols: 0,
+            rows: 0,
+            from: at + 6,
+        });
+    }
+    let FieldRead::Sound(number, at_cols) = numbers::n_at(bytes, at, kind) else {
         return FieldsRead::Broken;
     };
     let most_cols = span_limit(kind, MAX_COLS);
@@ -118,6 +141,19 @@ fn fields_at(bytes: &[u8], at: usize) -> FieldsRead
         rows: rows,
         from: from,
     })
+}
+
+// The five fields of the line at a place.
+fn fields_at(bytes: &[u8], at: usize) -> FieldsRead
+    ensures { λ r. ⌜ r ≡ fieldsRead (now (bytes .entry)) at ⌝ }
+{
+    let FieldRead::Sound(depth, at_kind) = numbers::natural_at(bytes, at, lists::MAX_DEPTH) else {
+        return FieldsRead::Broken;
+    };
+    let FieldRead::Sound(kind, at_n) = kinds::kind_at(bytes, at_kind) else {
+        return FieldsRead::Broken;
+    };
+    rest_at(bytes, at_n, depth, kind)
 }
 
 // A text, which is so many bytes long, stands only on text, img and svg.

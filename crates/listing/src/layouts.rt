@@ -1,20 +1,18 @@
 // How each table of a sheet is laid out.
 ghost use Prim.Native.Nat.{_≤_};
 ghost use lib.ListN.{length};
-ghost use Rattle.lists.specs.Limits.{maxLines};
+ghost use Rattle.lists.specs.Limits.{maxWidth};
+ghost use Rattle.grid.specs.Judging.{Lined, Room};
+ghost use Rattle.arranging.specs.Layouts.{AllMeasured, LayoutRoom};
 ghost use Rattle.listing.specs.Listing.{Place};
 use super::entries::entries;
 use super::entries::numbered;
 use super::lines::number;
 use super::lines::two;
 use super::lines::words;
-use lists::MAX_ENTRIES;
-use lists::MAX_LINES;
-use lists::MAX_POSITION;
+use arranging::Arranged;
 use settings::Given;
 use sheet::nesting::TABLE;
-use tables::Gridded;
-use tables::LaidOut;
 use widths::Way;
 
 // Puts the letter of a way between two spaces.
@@ -29,7 +27,7 @@ fn letter(out: &mut [u8], at: usize, way: Way) -> usize
 }
 
 // Puts the first two lines of a table: its line, its way, its columns and its width.
-fn opening(out: &mut [u8], at: usize, line: u32, way: Way, columns: u32, width: u32) -> usize
+pub fn heading(out: &mut [u8], at: usize, line: u32, way: Way, columns: u32, width: u32) -> usize
     requires { ⌜ Place (now out) at ⌝ }
     ensures { λ r. ⌜ Place (now (out .exit)) r ⌝ }
 {
@@ -40,11 +38,13 @@ fn opening(out: &mut [u8], at: usize, line: u32, way: Way, columns: u32, width: 
 }
 
 // Puts the columns' widths, and each entry that is printed with its start and its width.
-fn cells(
+pub fn cells(
     out: &mut [u8],
     at: usize,
-    sheet: &[u8],
-    line: u32,
+    rows: u32,
+    row: &[u32],
+    row_end: &[u32],
+    cell: &[u32],
     columns: u32,
     column: &[u32],
     x: &[u32],
@@ -53,84 +53,182 @@ fn cells(
     requires { ⌜ Place (now out) at ⌝ }
     ensures { λ r. ⌜ Place (now (out .exit)) r ⌝ }
 {
-    let mut cell = [0u32; MAX_ENTRIES];
-    let mut first = [0u32; MAX_ENTRIES];
-    let mut span = [0u32; MAX_ENTRIES];
-    let mut row = [0u32; MAX_LINES];
-    let mut row_end = [0u32; MAX_LINES];
-    let Gridded::Grid {
-        rows,
-        entries: _,
-        columns: _,
-    } = tables::grid(
-        sheet,
-        line,
-        &mut cell,
-        &mut first,
-        &mut span,
-        &mut row,
-        &mut row_end,
-    )
-    else {
-        return at;
-    };
     let at_columns = words(out, at, b"column width\n");
     let at_heading = numbered(out, at_columns, column, columns);
     let at_entries = words(out, at_heading, b"row cell x width\n");
-    entries(out, at_entries, &row, &row_end, rows, &cell, x, wide)
+    entries(out, at_entries, row, row_end, rows, cell, x, wide)
 }
 
-// Puts the layout of the table on a line. It is put only of an accepted sheet and of a table's line, which no call refuses.
-fn table(out: &mut [u8], at: usize, sheet: &[u8], line: u32, given: Given) -> usize
+// Puts the layout of the table on a line. It is put only of an accepted sheet, none of whose tables is refused.
+fn table(
+    out: &mut [u8],
+    at: usize,
+    line: u32,
+    given: Given,
+    depth: &[u32],
+    cols: &[u32],
+    rows: &[u32],
+    size: &[u32],
+    least: &[u32],
+    cell_rows: &mut [u32],
+    cell_end: &mut [u32],
+    left: &mut [u32],
+    hang_at: &mut [u32],
+    hang: &mut [u32],
+    next_left: &mut [u32],
+    next_at: &mut [u32],
+    next_wide: &mut [u32],
+    cell: &mut [u32],
+    first: &mut [u32],
+    span: &mut [u32],
+    row: &mut [u32],
+    row_end: &mut [u32],
+    sizes: &mut [u32],
+    leasts: &mut [u32],
+    column: &mut [u32],
+    x: &mut [u32],
+    wide: &mut [u32],
+) -> usize
     requires { ⌜ Place (now out) at ⌝ }
+    requires { ⌜ (1 ≤ line) × (line ≤ length (now depth)) ⌝ }
+    requires { ⌜ given .width ≤ maxWidth ⌝ }
+    requires { ⌜ Lined (now depth) (now cols) (now rows) ⌝ }
+    requires { ⌜ AllMeasured (length (now depth)) (now size) (now least) ⌝ }
+    requires { ⌜ Room (length (now depth)) (now x) (now «cell_rows») (now «cell_end») (now left) (now «hang_at») (now hang)
+        (now «next_left») (now «next_at») (now «next_wide») (now cell) (now first) (now span) (now row) (now «row_end») ⌝ }
+    requires { ⌜ LayoutRoom (now sizes) (now leasts) (now column) (now wide) ⌝ }
     ensures { λ r. ⌜ Place (now (out .exit)) r ⌝ }
 {
-    let mut column = [0u32; MAX_POSITION];
-    let mut x = [0u32; MAX_ENTRIES];
-    let mut wide = [0u32; MAX_ENTRIES];
-    let LaidOut::Layout {
+    let Arranged::Table {
         way,
+        rows: count,
+        entries: _,
         columns,
         width,
-    } = tables::layout(
-        sheet,
+    } = arranging::arrange(
+        depth,
+        cols,
+        rows,
+        size,
+        least,
         line,
-        given.wrap,
         given.raw,
         given.width,
-        &mut column,
-        &mut x,
-        &mut wide,
+        cell_rows,
+        cell_end,
+        left,
+        hang_at,
+        hang,
+        next_left,
+        next_at,
+        next_wide,
+        cell,
+        first,
+        span,
+        row,
+        row_end,
+        sizes,
+        leasts,
+        column,
+        x,
+        wide,
     )
     else {
         return at;
     };
-    let next = opening(out, at, line, way, columns, width);
-    cells(out, next, sheet, line, columns, &column, &x, &wide)
+    let next = heading(out, at, line, way, columns, width);
+    cells(
+        out,
+        next,
+        count,
+        row,
+        row_end,
+        cell,
+        columns,
+        column,
+        x,
+        wide,
+    )
 }
 
-// Puts the layout of a line's table, and nothing for a line of another kind.
-fn layout_at(out: &mut [u8], at: usize, sheet: &[u8], kind: u32, line: u32, given: Given) -> usize
+// Puts the layout of every table of a sheet, in the order of their lines. Every table is laid out in the same room, of which nothing is
+// cleared in between.
+pub fn layouts(
+    out: &mut [u8],
+    at: usize,
+    given: Given,
+    kind: &[u32],
+    depth: &[u32],
+    cols: &[u32],
+    rows: &[u32],
+    size: &[u32],
+    least: &[u32],
+    cell_rows: &mut [u32],
+    cell_end: &mut [u32],
+    left: &mut [u32],
+    hang_at: &mut [u32],
+    hang: &mut [u32],
+    next_left: &mut [u32],
+    next_at: &mut [u32],
+    next_wide: &mut [u32],
+    cell: &mut [u32],
+    first: &mut [u32],
+    span: &mut [u32],
+    row: &mut [u32],
+    row_end: &mut [u32],
+    sizes: &mut [u32],
+    leasts: &mut [u32],
+    column: &mut [u32],
+    x: &mut [u32],
+    wide: &mut [u32],
+) -> usize
     requires { ⌜ Place (now out) at ⌝ }
-    ensures { λ r. ⌜ Place (now (out .exit)) r ⌝ }
-{
-    if kind != TABLE {
-        return at;
-    }
-    table(out, at, sheet, line, given)
-}
-
-// Puts the layout of every table of a sheet, in the order of their lines, by the kinds of all lines.
-pub fn layouts(out: &mut [u8], at: usize, sheet: &[u8], kind: &[u32], given: Given) -> usize
-    requires { ⌜ Place (now out) at ⌝ }
-    requires { ⌜ length (now kind) ≤ maxLines ⌝ }
+    requires { ⌜ length (now kind) ≤ length (now depth) ⌝ }
+    requires { ⌜ given .width ≤ maxWidth ⌝ }
+    requires { ⌜ Lined (now depth) (now cols) (now rows) ⌝ }
+    requires { ⌜ AllMeasured (length (now depth)) (now size) (now least) ⌝ }
+    requires { ⌜ Room (length (now depth)) (now x) (now «cell_rows») (now «cell_end») (now left) (now «hang_at») (now hang)
+        (now «next_left») (now «next_at») (now «next_wide») (now cell) (now first) (now span) (now row) (now «row_end») ⌝ }
+    requires { ⌜ LayoutRoom (now sizes) (now leasts) (now column) (now wide) ⌝ }
     ensures { λ r. ⌜ Place (now (out .exit)) r ⌝ }
 {
     let mut next = at;
     let mut i = 0;
     while i < kind.len() {
-        next = layout_at(out, next, sheet, kind[i], (i + 1) as u32, given);
-        i += 1;
+        if kind[i] == TABLE {
+            next = table(
+                out,
+                next,
+                (i + 1) as u32,
+                given,
+                depth,
+                cols,
+                rows,
+                size,
+                least,
+                cell_rows,
+                cell_end,
+                left,
+                hang_at,
+                hang,
+                next_left,
+                next_at,
+                next_wide,
+                cell,
+                first,
+                span,
+                row,
+                row_end,
+                sizes,
+                leasts,
+                column,
+                x,
+                wide,
+            );
+            i += 1;
+        } else {
+            i += 1;
+        }
     }
     next
 }

@@ -8,7 +8,7 @@ use lib.ListN.{length, take, length-append, length-map}
 use lib.Dec.{ltb}
 use borrow.Author.Tests.{le-ltb, lt-ltb, ltb-true, ltb-false}
 use Rattle.lists.specs.Lists.{over}
-use Rattle.lists.specs.Limits.{maxLines, maxEntries}
+use Rattle.lists.specs.Limits.{maxEntries}
 use Rattle.cells.specs.Cells as cells
 use Rattle.cells.specs.Listed.{allCells}
 use Rattle.rows.specs.Row.{Item, item, lineOf, leftOf, spanOf, hanging, nexts}
@@ -225,15 +225,14 @@ module _ {lines spans rows ends rl₀ l₀ s₀ e₀ left₀ at₀ wide₀ nl₀
           → ExtrasReady k left wide (length ends) n rl₀ e l s
       extras-ready el ew ek es ee =
           let o = q .originals in
-          let f : length ends + length lines ≤ maxLines = o .few in
-          let c : length (allCells T) ≤ length lines = few-cells in
+          let h : k ≤ length lines = omega (arith, got .2, below-count [] T, few-cells) in
           record {
             hang = subst Positive (sym lefts) (positive-lefts hung (below-hang [] T tt));
-            few = omega (arith, got .2, below-count [] T);
-            counted = omega (arith, got .1, originals-small [] T (omega arith), table-count lines spans rows rl₀ 0 ends);
+            few = omega (arith, o .few);
+            counted = omega (arith, got .1, originals-small [] T (omega (arith, few-cells, o .few)), table-count lines spans rows rl₀ 0 ends);
             left-room = omega (arith, o .left-room);
             wide-room = omega (arith, o .wide-room);
-            row-line-room = q .row-line-room;
+            row-line-room = omega (arith, q .row-line-room);
             row-end-room = omega (arith, o .row-end-room);
             line-room = omega (arith, o .line-room);
             span-room = omega (arith, o .span-room);

@@ -49,7 +49,7 @@ pub record Sofar (k₀ : ℕ) (left₀ wide₀ : List ℕ) (first n₀ : ℕ) (r
   pub done : List Row
   pub is : done ++ extras (hangingAt k left wide) ≡ extras (hangingAt k₀ left₀ wide₀)
   pub hang : Positive (take k left)
-  pub few : r + k ≤ maxLines
+  pub few : r + k ≤ first + k₀
   pub counted : n ≤ maxLines * r
   pub rows-are : r ≡ first + length done
   pub entries-are : n ≡ n₀ + entryCount done
@@ -71,7 +71,7 @@ module _ {k₀ : ℕ} {left₀ wide₀ : List ℕ} {first n₀ : ℕ} {rl₀ re�
     done = [];
     is = refl;
     hang = q .hang;
-    few = q .few;
+    few = omega arith;
     counted = q .counted;
     rows-are = omega arith;
     entries-are = omega arith;
@@ -111,10 +111,10 @@ module _ {k₀ : ℕ} {left₀ wide₀ : List ℕ} {first n₀ : ℕ} {rl₀ re�
       H = hangingAt k left wide
 
       left-count : length (take k left) ≡ k
-      left-count = length-take-le k left (omega (arith, z .few, z .left-length, q .left-room))
+      left-count = length-take-le k left (omega (arith, z .few, z .rows-are, z .left-length, q .left-room))
 
       wide-count : length (take k wide) ≡ k
-      wide-count = length-take-le k wide (omega (arith, z .few, z .wide-length, q .wide-room))
+      wide-count = length-take-le k wide (omega (arith, z .few, z .rows-are, z .wide-length, q .wide-room))
 
       count : length H ≡ k
       unfolding hangingAt
@@ -136,7 +136,7 @@ module _ {k₀ : ℕ} {left₀ wide₀ : List ℕ} {first n₀ : ℕ} {rl₀ re�
         next = extra-first H m (omega (arith, count)) least-is ∙ ap (λ (hs : List Item). row 0 (map (lowered m) H) ∷ extras hs) (sym (w .are))
 
         left-count′ : length (take k′ left′) ≡ k′
-        left-count′ = length-take-le k′ left′ (omega (arith, w .few, z .few, z .left-length, q .left-room))
+        left-count′ = length-take-le k′ left′ (omega (arith, w .few, z .few, z .rows-are, z .left-length, q .left-room))
 
         pub fewer : k′ < k
         unfolding hangingAt
@@ -196,7 +196,7 @@ module _ {k₀ : ℕ} {left₀ wide₀ : List ℕ} {first n₀ : ℕ} {rl₀ re�
               (ap (map leftOf) (sym (w .are)) ∙ hanging-lefts (take k′ left′) [] (take k′ wide′))
               (positive-lefts (nexts (map (lowered m) H)) (nexts-hang (map (lowered m) H)));
           few = omega (arith, z .few, fewer);
-          counted = omega (arith, z .counted, z .few);
+          counted = omega (arith, z .counted, z .few, q .few);
           rows-are = omega (arith, z .rows-are, length-append (z .done) (R ∷ []));
           entries-are = omega (arith, z .entries-are, count-more);
           row-lines =

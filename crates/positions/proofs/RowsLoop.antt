@@ -176,7 +176,6 @@ module _ {lines spans rows ends l₀ s₀ e₀ left₀ at₀ wide₀ nl₀ na₀
           let u : first ≤ end = cells-in .0 in
           let v : end ≤ length lines = cells-in .1 in
           let w : k ≤ first = b .few in
-          let x : length ends + length lines ≤ maxLines = q .few in
           record {
             rises = u;
             lines-in = v;
@@ -331,7 +330,7 @@ module _ {lines spans rows ends l₀ s₀ e₀ left₀ at₀ wide₀ nl₀ na₀
             };
             ends-are =
                 ee ∙ ap₂ (λ (x : List ℕ) (j : ℕ). set x j (n + m)) (z .ends-are) (z .rows-are ∙ sym (ends-length 0 (z .done)))
-                ∙ sym (over-push (entryEnds 0 (z .done)) e₀ (n + m) (omega (arith, z .rows-are, ends-length 0 (z .done), q .row-end-room, q .few)))
+                ∙ sym (over-push (entryEnds 0 (z .done)) e₀ (n + m) (omega (arith, z .rows-are, ends-length 0 (z .done), q .row-end-room)))
                 ∙ ap (λ (d : List ℕ). over d e₀) (sym ends-more);
           }
 

@@ -122,8 +122,8 @@ pub record OriginalsDone (table : List cells.Row) (r : Originals) (l₀ s₀ e�
   pub answer : r ≡ originalsOf table
   pub written : endsPast (originalRows table) ≡ false → RowsWritten table l₀ s₀ e₀ l s e left wide
 
--- what the original rows take: cells in slices of one length, each row's up to its end, few enough of both, and slices with the places of a
--- sheet
+-- what the original rows take: cells in slices of one length, each row's up to its end, few enough of both, and slices with room for as many
+-- as there are rows and cells, the entries' with the places of a sheet's entries
 pub record OriginalsReady (lines spans rows ends l s e left at wide nl na nw : List ℕ) : Type 0 where
   pub rising : Rising 0 ends (length lines)
   pub spans-length : length spans ≡ length lines
@@ -131,13 +131,13 @@ pub record OriginalsReady (lines spans rows ends l s e left at wide nl na nw : L
   pub few : length ends + length lines ≤ maxLines
   pub line-room : maxEntries ≤ length l
   pub span-room : maxEntries ≤ length s
-  pub row-end-room : maxLines ≤ length e
-  pub left-room : maxLines ≤ length left
-  pub at-room : maxLines ≤ length at
-  pub wide-room : maxLines ≤ length wide
-  pub next-left-room : maxLines ≤ length nl
-  pub next-at-room : maxLines ≤ length na
-  pub next-wide-room : maxLines ≤ length nw
+  pub row-end-room : length ends + length lines ≤ length e
+  pub left-room : length ends + length lines ≤ length left
+  pub at-room : length ends + length lines ≤ length at
+  pub wide-room : length ends + length lines ≤ length wide
+  pub next-left-room : length ends + length lines ≤ length nl
+  pub next-at-room : length ends + length lines ≤ length na
+  pub next-wide-room : length ends + length lines ≤ length nw
 
 -- ---- extra rows
 
@@ -169,15 +169,16 @@ abbrev pub Positive : List ℕ → Type 0
 Positive [] = Unit {0}
 Positive (x ∷ xs) = (1 ≤ x) × Positive xs
 
--- what the extra rows of the first k that hang take, after `first` rows and n entries
+-- what the extra rows of the first k that hang take, after `first` rows and n entries: the k in their slices, and room for k rows more, since
+-- each extra row ends at least one that hangs
 pub record ExtrasReady (k : ℕ) (left wide : List ℕ) (first n : ℕ) (rl re l s : List ℕ) : Type 0 where
   pub hang : Positive (take k left)
   pub few : first + k ≤ maxLines
   pub counted : n ≤ maxLines * first
-  pub left-room : maxLines ≤ length left
-  pub wide-room : maxLines ≤ length wide
-  pub row-line-room : maxLines ≤ length rl
-  pub row-end-room : maxLines ≤ length re
+  pub left-room : k ≤ length left
+  pub wide-room : k ≤ length wide
+  pub row-line-room : first + k ≤ length rl
+  pub row-end-room : first + k ≤ length re
   pub line-room : maxEntries ≤ length l
   pub span-room : maxEntries ≤ length s
 
@@ -210,7 +211,8 @@ pub record PositionsDone (table : List cells.Row) (r : Positions) (rl₀ l₀ s�
   pub answer : r ≡ positionsOf table
   pub written : (originals rows entries : ℕ) → r ≡ Rows originals rows entries → Positioned table rl₀ l₀ s₀ e₀ rl l s e
 
--- what all rows take: what the original rows take, and row lines with the places of a sheet
+-- what all rows take: what the original rows take, and row lines with room for as many as there are rows and cells, since no more rows hang
+-- below the last than there are cells
 pub record Ready (lines spans rows ends rl l s e left at wide nl na nw : List ℕ) : Type 0 where
   pub originals : OriginalsReady lines spans rows ends l s e left at wide nl na nw
-  pub row-line-room : maxLines ≤ length rl
+  pub row-line-room : length ends + length lines ≤ length rl

@@ -1,14 +1,14 @@
 -- What is asked before the lines: the line feeds, counted place by place, the heading, compared byte by byte, and the refusals 8 and 1.
 -- Assumes nothing.
 use mathlib.Core.Path.{_≡_, refl, sym, ap, _∙_}
-use mathlib.Core.Bool.{Bool, true, false}
+use mathlib.Core.Bool.{Bool, true, false, cond}
 use mathlib.Core.List.{List, [], _∷_, _++_}
 use Prim.Native.Nat.{ℕ, suc, _+_, _-_, _≤_, _<_}
 use native.Mathlib.Numerals.{add-one}
 use native.Mathlib.Omega.{arith}
 use lib.Dec.{eqb, ltb}
 use lib.ListN.{length, getD, take, drop, length-take, take-append-drop, drop-of-length-le}
-use lib.Seq.{drop-cons, getD-take, length-take-le}
+use lib.Seq.{drop-cons, drop-drop, getD-take, length-take-le}
 use borrow.Author.Tests.{eq-eqb, ne-eqb, eqb-true, ltb-false}
 use Rattle.lists.specs.Limits.{maxBytes, maxFeeds}
 use Rattle.lists.specs.Refusals.{first}
@@ -39,6 +39,24 @@ pub feeds-append : (a b : List ℕ) → feeds (a ++ b) ≡ feeds a + feeds b
 unfolding feeds
 feeds-append [] b = omega arith
 feeds-append (x ∷ a) b = omega (arith, feeds-append a b)
+
+-- those from a place on are those up to another place and those from there on
+pub feeds-block : (s : List ℕ) (i e : ℕ) → i ≤ e → feeds (drop i s) ≡ feeds (take (e - i) (drop i s)) + feeds (drop e s)
+feeds-block s i e h =
+    let n : i + (e - i) ≡ e = omega arith in
+    ap feeds (sym (take-append-drop (e - i) (drop i s)))
+    ∙ feeds-append (take (e - i) (drop i s)) (drop (e - i) (drop i s))
+    ∙ ap (λ (l : List ℕ). feeds (take (e - i) (drop i s)) + feeds l) (drop-drop (e - i) i s ∙ ap (λ (k : ℕ). drop k s) n)
+
+-- no more than there are bytes
+pub feeds-few : (s : List ℕ) → feeds s ≤ length s
+unfolding feeds
+feeds-few [] = omega arith
+feeds-few (b ∷ bs) = go (eqb b feed) (feeds-few bs)
+  where
+    go : (t : Bool) → feeds bs ≤ length bs → cond t 1 0 + feeds bs ≤ suc (length bs)
+    go true h = omega arith
+    go false h = omega arith
 
 -- two lists of bytes, from a place on
 

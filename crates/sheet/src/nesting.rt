@@ -15,8 +15,6 @@ pub const TABLE: u32 = 19;
 
 pub const BODY: u32 = 20;
 
-pub const ROW: u32 = 21;
-
 pub const FRAG: u32 = 23;
 
 // Text, img, svg, break and frag have no children.
@@ -53,9 +51,9 @@ pub fn may_hold(parent: u32, child: u32) -> bool
         return child == BODY;
     }
     if parent == BODY {
-        return child == ROW;
+        return child == kinds::ROW;
     }
-    if parent == ROW {
+    if parent == kinds::ROW {
         return child == kinds::CELL;
     }
     !is_frame(child)

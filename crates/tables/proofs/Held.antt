@@ -55,11 +55,9 @@ module _ {t n : ℕ} {g : List GridRow} {columns : ℕ} {cell first′ span row 
       record {
         few-entries = omega (arith, h .few-entries);
         few-columns = omega (arith, h .few-columns);
-        table = λ zs ls cs cl a b d e.
+        table = λ cs cl d e.
             table-layable listed t columns refl (h .tiles) (rw (m .count) l) (m .fits)
             (record {
-              entry-sizes-length = a ∙ k;
-              entry-leasts-length = b ∙ k;
               column-sizes-length = d ∙ c;
               column-leasts-length = e ∙ c;
               column-length = c;

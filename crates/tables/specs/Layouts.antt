@@ -51,8 +51,8 @@ pub record LayoutRoom (column x wide : List ℕ) : Type 0 where
 pub record Layable (lines firsts spans ends sizes leasts : List ℕ) (width : ℕ) (column xs wides : List ℕ) : Type 0 where
   pub few-entries : length lines ≤ maxEntries
   pub few-columns : length column ≤ maxLines
-  pub table : (zs ls cs cl : List ℕ) → length zs ≡ length lines → length ls ≡ length lines → length cs ≡ length column → length cl ≡ length column
-      → LayableTable lines firsts spans ends sizes leasts width zs ls cs cl column xs wides
+  pub table : (cs cl : List ℕ) → length cs ≡ length column → length cl ≡ length column
+      → LayableTable lines firsts spans ends sizes leasts width cs cl column xs wides
 
 -- the rows of boxes of a grid, with the figures of all lines
 abbrev pub gridBoxes : List GridRow → List ℕ → List ℕ → List (List Box)

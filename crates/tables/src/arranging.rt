@@ -38,11 +38,8 @@ fn lay_entries(
         (rowsBy 0 (now («row_end» .entry)) (entryBoxes (now (cell .entry)) (now (first .entry)) (now (span .entry)) (now (size .entry)) (now (least .entry))))
         raw width (now (column .exit)) (now (x .exit)) (now (wide .exit)) r ⌝ }
 {
-    let mut entry_size = [0u32; 8192];
-    let mut entry_least = [0u32; 8192];
     let mut sizes = [0u32; 4096];
     let mut leasts = [0u32; 4096];
-    let n = cell.len();
     let columns = column.len();
     laying::lay_table(
         cell,
@@ -53,8 +50,6 @@ fn lay_entries(
         least,
         raw,
         width,
-        &mut entry_size[..n],
-        &mut entry_least[..n],
         &mut sizes[..columns],
         &mut leasts[..columns],
         column,

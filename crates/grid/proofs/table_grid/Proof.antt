@@ -6,9 +6,8 @@ use Prim.Native.Nat.{_+_, _≤_}
 use native.Mathlib.Omega.{arith}
 use lib.ListN.{length}
 use lib.Seq.{length-take-le}
-use Rattle.lists.specs.Limits.{maxLines}
 use Rattle.cells.specs.Listed.{allCells, heldRows}
-use Rattle.grid.proofs.Rebuilt.{listed-in, listed-ready, lined-few, lined-ready}
+use Rattle.grid.proofs.Rebuilt.{held-few, listed-in, listed-ready, lined-ready}
 use Rattle.grid.proofs.Judging.{placed-ready, judged}
 use Rattle.grid.proofs.table_grid.Statement.{statement}
 use Rattle.grid.proofs.table_grid.Tie as tie
@@ -27,15 +26,15 @@ placing c = c .before .before .before .before .before .before .before .before .b
 abbrev numbering : tie.After-slice-known31 → tie.After-placed-grid
 numbering c = c .before .before .before .before
 
--- rows and cells are few, so they lie within the slices
-few : (c : tie.After-list-rows) → length (heldRows (entry c .args .depth .now) (entry c .args .cols .now) (entry c .args .rows .now) (entry c .args .at)) + length (allCells (heldRows (entry c .args .depth .now) (entry c .args .cols .now) (entry c .args .rows .now) (entry c .args .at))) ≤ maxLines
-few c = lined-few (entry c .pre .1 .0) (entry c .args .at)
+-- there are no more rows and cells than lines, so they lie within the slices
+few : (c : tie.After-list-rows) → length (heldRows (entry c .args .depth .now) (entry c .args .cols .now) (entry c .args .rows .now) (entry c .args .at)) + length (allCells (heldRows (entry c .args .depth .now) (entry c .args .cols .now) (entry c .args .rows .now) (entry c .args .at))) ≤ length (entry c .args .depth .now)
+few c = held-few (entry c .args .depth .now) (entry c .args .cols .now) (entry c .args .rows .now) (entry c .args .at)
 
 fits-first : (c : tie.After-list-rows) → c .list-rows .result .cells ≤ length (c .list-rows .last .1 .1 .1 .1 .0)
-fits-first c = omega (arith, listed-in (c .list-rows .ensures) (few c), entry c .pre .1 .1 .first-room, c .list-rows .kept .1 .1 .1 .1 .0)
+fits-first c = omega (arith, listed-in (c .list-rows .ensures) (few c), entry c .pre .1 .0 .short, entry c .pre .1 .1 .first-room, c .list-rows .kept .1 .1 .1 .1 .0)
 
 fits-span : (c : tie.After-list-rows) → c .list-rows .result .cells ≤ length (c .list-rows .last .1 .1 .1 .1 .1 .0)
-fits-span c = omega (arith, listed-in (c .list-rows .ensures) (few c), entry c .pre .1 .1 .span-room, c .list-rows .kept .1 .1 .1 .1 .1 .0)
+fits-span c = omega (arith, listed-in (c .list-rows .ensures) (few c), entry c .pre .1 .0 .short, entry c .pre .1 .1 .span-room, c .list-rows .kept .1 .1 .1 .1 .1 .0)
 
 fits-cell-rows : (c : tie.After-list-rows) → c .list-rows .result .cells ≤ length (c .list-rows .last .1 .1 .1 .1 .1 .1 .0)
 fits-cell-rows c = omega (arith, listed-in (c .list-rows .ensures) (few c), entry c .pre .1 .1 .cell-rows-room, c .list-rows .kept .1 .1 .1 .1 .1 .1 .0)
@@ -48,7 +47,7 @@ list-rows-requires c κs =
     let s = (c .before .before .before .before .before .before .before .before .before .before .before .before .before .before .before .before .before .before .before .before .before .before) in
     let r = s .pre .1 .1 in
     let h = s .pre .1 .0 .short in
-    lined-ready (s .pre .1 .0) (s .pre .0) (omega (arith, r .first-room)) (omega (arith, r .span-room)) (omega (arith, r .cell-rows-room)) (omega (arith, r .row-room)) (omega (arith, r .cell-end-room))
+    lined-ready (s .pre .1 .0) (s .pre .0) (omega (arith, r .first-room)) (omega (arith, r .span-room)) (r .cell-rows-room) (r .row-room) (r .cell-end-room)
 
 slice-reshare-prefix-position-rows : tie.Need-slice-reshare-prefix-position-rows
 slice-reshare-prefix-position-rows c = fits-first (c .before .before .before .before .before .before .before .before .before .before)
@@ -78,7 +77,7 @@ position-rows-requires : tie.Need-position-rows-requires
 position-rows-requires c κs =
     let w = (c .before .before .before .before .before .before .before .before .before .before .before .before .before .before .before .before .before .before .before .before .before .before .before .before) in
     let r = entry w .pre .1 .1 in
-    listed-ready (w .list-rows .ensures) (few w) (fits-first w) (fits-span w) (fits-cell-rows w) (fits-cell-end w)
+    listed-ready (w .list-rows .ensures) (few w) (entry w .pre .1 .0 .short) (fits-first w) (fits-span w) (fits-cell-rows w) (fits-cell-end w)
     (record {
       row-line-room = omega (arith, r .row-room, w .list-rows .kept .1 .1 .1 .1 .1 .1 .1 .0);
       line-room = r .line-room;
@@ -97,7 +96,7 @@ placed-grid-requires c κs =
     let p = (c .before .before .before .before .before .before .before .before .before .before .before .before .before .before .before .before .before .before .before .before .before .before .before .before) in
     let w = (c .before .before .before .before .before .before .before .before .before .before .before .before .before .before .before .before .before .before .before .before .before .before .before .before .before .before .before .before .before .before .before .before .before .before .before .before .before .before .before .before .before .before .before .before .before .before .before .before .before) in
     let r = entry w .pre .1 .1 in
-    placed-ready (w .list-rows .ensures) (p .position-rows .ensures) (few w) (omega (arith, r .wide-room, p .position-rows .kept .1 .1 .1 .1 .1 .1 .0)) (omega (arith, r .end-room, p .position-rows .kept .1 .1 .1 .1 .1 .1 .1 .0))
+    placed-ready (w .list-rows .ensures) (p .position-rows .ensures) (omega (arith, few w, r .end-room, p .position-rows .kept .1 .1 .1 .1 .1 .1 .1 .0)) (omega (arith, r .wide-room, p .position-rows .kept .1 .1 .1 .1 .1 .1 .0))
     (omega (arith, r .first-room, w .list-rows .kept .1 .1 .1 .1 .0)) (omega (arith, r .span-room, w .list-rows .kept .1 .1 .1 .1 .1 .0))
 
 same-length : tie.Need-same-length

@@ -16,7 +16,7 @@ lay-columns-requires : tie.Need-lay-columns-requires
 lay-columns-requires c κs =
     let second = c .before .before .before .before .before .before .before in
     let first = second .before .before .before .before in
-    layable (first .before .before .before .before .before .before .before .before .before .before .before .before .before .before .before .pre)
+    layable (first .before .before .before .before .before .before .before .before .before .before .before .before .before .pre)
     (first .entry-figures .ensures) (second .entry-figures2 .ensures)
 
 place-requires : tie.Need-place-requires
@@ -24,7 +24,7 @@ place-requires c κs =
     let columns = c .before .before .before .before .before .before .before .before .before in
     let second = columns .before .before .before .before .before .before .before .before in
     let first = second .before .before .before .before in
-    places (first .before .before .before .before .before .before .before .before .before .before .before .before .before .before .before .pre)
+    places (first .before .before .before .before .before .before .before .before .before .before .before .before .before .pre)
     (first .entry-figures .ensures) (second .entry-figures2 .ensures) (columns .lay-columns .ensures)
 
 same-length : tie.Need-same-length
@@ -42,20 +42,15 @@ same-length-4 c = search needs
 same-length-5 : tie.Need-same-length-5
 same-length-5 c = search needs
 
-same-length-6 : tie.Need-same-length-6
-same-length-6 c = search needs
-
-same-length-7 : tie.Need-same-length-7
-same-length-7 c = search needs
-
 returns : tie.Need-returns
 returns c =
     let placed = c .before .before .before .before in
     let columns = placed .before .before .before .before .before .before .before .before .before .before in
     let second = columns .before .before .before .before .before .before .before .before in
     let first = second .before .before .before .before in
-    laid-table (first .before .before .before .before .before .before .before .before .before .before .before .before .before .before .before .pre)
-    (first .entry-figures .ensures) (second .entry-figures2 .ensures) (columns .lay-columns .ensures) (placed .place .ensures)
+    laid-table (first .before .before .before .before .before .before .before .before .before .before .before .before .before .pre)
+    (first .entry-figures .ensures) (second .entry-figures2 .ensures) (columns .lay-columns .ensures)
+    (placed .place .ensures)
 
 pub lay-table-spec : {M : Type 1} → statement M
 lay-table-spec =
@@ -70,6 +65,4 @@ lay-table-spec =
     same-length-3
     same-length-4
     same-length-5
-    same-length-6
-    same-length-7
     returns)

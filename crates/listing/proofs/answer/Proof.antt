@@ -1,5 +1,5 @@
--- `listing::answer` meets its contract. The one fact that the search lacks is that the sheet starts within the input, which holds of all
--- settings that are read (`settings-in-range`). Assumes nothing.
+-- `listing::answer` meets its contract. What the search lacks is that the sheet starts within the input and that the width is in its range, which
+-- holds of all settings that are read (`settings-in-range`). Assumes nothing.
 use mathlib.Core.Path.{sym, _∙_}
 use native.Mathlib.Omega.{arith}
 use borrow.Author.Needs.{needs}
@@ -25,17 +25,22 @@ same-length c = search needs
 returns : tie.Need-returns
 returns c = search needs
 
-sub-checked : tie.Need-sub-checked
-sub-checked c = settings-in-range _ _ (sym (c .before .before .before .before .settings .ensures) ∙ c .before .before .given .given .1) .sheet
+sub-opened : tie.Need-sub-opened
+sub-opened c = settings-in-range _ _ (sym ((c .before .before .before .before) .settings .ensures) ∙ (c .before .before) .given .given .1) .sheet
 
-part-checked-start : tie.Need-part-checked-start
-part-checked-start c = omega (arith, settings-in-range _ _ (sym (c .before .before .before .before .settings .ensures) ∙ c .before .before .given .given .1) .sheet)
+part-opened-start : tie.Need-part-opened-start
+part-opened-start c =
+    omega (arith, settings-in-range _ _ (sym ((c .before .before .before .before) .settings .ensures) ∙ (c .before .before) .given .given .1) .sheet)
 
-part-checked-end : tie.Need-part-checked-end
-part-checked-end c = search needs
+part-opened-end : tie.Need-part-opened-end
+part-opened-end c = search needs
 
-checked-requires : tie.Need-checked-requires
-checked-requires c κs = search needs
+opened-requires : tie.Need-opened-requires
+opened-requires c κs = (
+  (c .before .before .before .before .before .before .before .before) .pre,
+  settings-in-range _ _ (sym ((c .before .before .before .before .before)
+      .settings .ensures) ∙ (c .before .before .before) .given .given .1) .width,
+)
 
 same-length-2 : tie.Need-same-length-2
 same-length-2 c = search needs
@@ -53,9 +58,9 @@ answer-spec =
     refusal-requires
     same-length
     returns
-    sub-checked
-    part-checked-start
-    part-checked-end
-    checked-requires
+    sub-opened
+    part-opened-start
+    part-opened-end
+    opened-requires
     same-length-2
     returns-2)

@@ -48,7 +48,32 @@ slice-aggregate-judge-tables-14 c = search needs
 
 judge-tables-requires : tie.Need-judge-tables-requires
 judge-tables-requires c κs =
-    ((c .before .before .before .before .before .before .before .before .before .before .before .before .before .before .before .before .before .before .before .before .before .before) .pre .nests, ((c .before .before .before .before .before .before .before .before .before .before .before .before .before .before .before .before .before .before .before .before .before .before) .pre .lined, (record { wide-room = omega arith; line-room = omega arith; first-room = omega arith; span-room = omega arith; cell-rows-room = omega arith; cell-end-room = omega arith; left-room = omega arith; hang-at-room = omega arith; hang-room = omega arith; next-left-room = omega arith; next-at-room = omega arith; next-wide-room = omega arith; row-room = omega arith; end-room = omega arith }, (c .before .before .before .before .before .before .before .before .before .before .before .before .before .before .before .before .before .before .before .before .before .before) .pre .room)))
+    let p = (c .before .before .before .before .before .before .before .before .before .before .before .before .before .before .before .before .before .before .before .before .before .before) .pre in
+    let few = p .lined .short in (
+      p .nests,
+      (
+        p .lined,
+        (
+          record {
+            wide-room = omega arith;
+            line-room = omega arith;
+            first-room = omega arith;
+            span-room = omega arith;
+            cell-rows-room = omega arith;
+            cell-end-room = omega arith;
+            left-room = omega arith;
+            hang-at-room = omega arith;
+            hang-room = omega arith;
+            next-left-room = omega arith;
+            next-at-room = omega arith;
+            next-wide-room = omega arith;
+            row-room = omega arith;
+            end-room = omega arith;
+          },
+          p .room,
+        ),
+      ),
+    )
 
 same-length : tie.Need-same-length
 same-length c = search needs

@@ -26,7 +26,7 @@ put-fillers-requires : tie.Need-put-fillers-requires Inv-loop μ-loop
 put-fillers-requires c κs =
     let z = (c .before .before .before .before .before) .loop .inv in
     let q = (c .before .before .before .before .before .before .before .before .before .before .before .before) .pre in
-    omega (arith, (c .before .before .before .before) .loop-test .taken, (c .before .before .before) .place .ensures .room, z .few, z .wide-length, z .line-length, z .span-length, q .wide-room, q .line-room, q .span-room)
+    omega (arith, (c .before .before .before .before) .loop-test .taken, (c .before .before .before) .place .ensures .room, z .few, z .rows-are, z .wide-length, z .line-length, z .span-length, q .wide-room, q .line-room, q .span-room)
 
 add-n : tie.Need-add-n Inv-loop μ-loop
 add-n c = search needs
@@ -53,15 +53,15 @@ least-requires : tie.Need-least-requires Inv-loop μ-loop
 least-requires c κs =
     let z = (c .before .before .before .before .before .before .before .before .before .before .before) .loop .inv in
     let q = (c .before .before .before .before .before .before .before .before .before .before .before .before .before .before .before .before .before .before) .pre in
-    omega (arith, (c .before .before .before .before .before .before .before .before .before .before) .loop-test .taken, z .few, z .left-length, q .left-room)
+    omega (arith, (c .before .before .before .before .before .before .before .before .before .before) .loop-test .taken, z .few, z .rows-are, z .left-length, q .left-room)
 
 take-off-requires : tie.Need-take-off-requires Inv-loop μ-loop
 take-off-requires c κs =
     let z = (c .before .before .before .before .before .before .before .before .before .before .before .before .before .before) .loop .inv in
     let q = (c .before .before .before .before .before .before .before .before .before .before .before .before .before .before .before .before .before .before .before .before .before) .pre in (
       omega (arith, (c .before .before) .least .ensures, least-one q z ((c .before .before .before .before .before .before .before .before .before .before .before .before .before) .loop-test .taken)),
-      omega (arith, z .few, z .left-length, q .left-room),
-      omega (arith, z .few, z .wide-length, q .wide-room),
+      omega (arith, z .few, z .rows-are, z .left-length, q .left-room),
+      omega (arith, z .few, z .rows-are, z .wide-length, q .wide-room),
     )
 
 loop-less : tie.Need-loop-less Inv-loop μ-loop

@@ -112,14 +112,14 @@ carry-requires c κs =
     let o = (c .before .before .before .before .before .before .before .before .before .before .before .before .before .before .before .before .before .before .before) .one-row in
     let e = cells-in q b h in (
       (
-        omega (arith, w .1, e .1, q .few, q .next-left-room, b .next-left-length, o .kept .1 .1 .1 .1 .1 .1 .1 .1 .1 .1 .1 .1 .0),
-        omega (arith, w .1, e .1, q .few, q .next-at-room, b .next-at-length, o .kept .1 .1 .1 .1 .1 .1 .1 .1 .1 .1 .1 .1 .1 .0),
-        omega (arith, w .1, e .1, q .few, q .next-wide-room, b .next-wide-length, o .kept .1 .1 .1 .1 .1 .1 .1 .1 .1 .1 .1 .1 .1 .1 .0),
+        omega (arith, w .1, e .1, q .next-left-room, b .next-left-length, o .kept .1 .1 .1 .1 .1 .1 .1 .1 .1 .1 .1 .1 .0),
+        omega (arith, w .1, e .1, q .next-at-room, b .next-at-length, o .kept .1 .1 .1 .1 .1 .1 .1 .1 .1 .1 .1 .1 .1 .0),
+        omega (arith, w .1, e .1, q .next-wide-room, b .next-wide-length, o .kept .1 .1 .1 .1 .1 .1 .1 .1 .1 .1 .1 .1 .1 .1 .0),
       ),
       (
-        omega (arith, w .1, e .1, q .few, q .left-room, b .left-length),
-        omega (arith, w .1, e .1, q .few, q .at-room, b .at-length),
-        omega (arith, w .1, e .1, q .few, q .wide-room, b .wide-length),
+        omega (arith, w .1, e .1, q .left-room, b .left-length),
+        omega (arith, w .1, e .1, q .at-room, b .at-length),
+        omega (arith, w .1, e .1, q .wide-room, b .wide-length),
       ),
     )
 

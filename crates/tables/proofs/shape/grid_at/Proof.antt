@@ -42,7 +42,29 @@ slice-aggregate-table-grid-9 c = search needs
 table-grid-requires : tie.Need-table-grid-requires
 table-grid-requires c κs =
     let p = (c .before .before .before .before .before .before .before .before .before .before .before .before .before .before .before .before .before .before .before .before .before .before) .pre .0 in
-    (omega (arith, p .from-one, p .within), (p .lined, search needs))
+    let few = p .lined .short in
+    let room = (c .before .before .before .before .before .before .before .before .before .before .before .before .before .before .before .before .before .before .before .before .before .before) .pre .1 in (
+      omega (arith, p .from-one, p .within),
+      (
+        p .lined,
+        record {
+          wide-room = omega arith;
+          line-room = omega (arith, room .cell-room);
+          first-room = omega (arith, room .first-room);
+          span-room = omega (arith, room .span-room);
+          cell-rows-room = omega arith;
+          cell-end-room = omega arith;
+          left-room = omega arith;
+          hang-at-room = omega arith;
+          hang-room = omega arith;
+          next-left-room = omega arith;
+          next-at-room = omega arith;
+          next-wide-room = omega arith;
+          row-room = omega (arith, room .row-room);
+          end-room = omega (arith, room .end-room);
+        },
+      ),
+    )
 
 shaped-requires : tie.Need-shaped-requires
 shaped-requires c κs =

@@ -1,0 +1,4 @@
+pub mod Shapes
+pub mod Held
+pub mod Fronts
+pub mod Arranging
