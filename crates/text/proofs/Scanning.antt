@@ -3,14 +3,14 @@
 use mathlib.Core.Path.{_≡_, refl, sym, ap, _∙_}
 use mathlib.Core.Bool.{Bool, true, false, cond}
 use mathlib.Core.List.{List, [], _∷_}
-use Prim.Native.Nat.{ℕ, suc, _+_, _-_, _≤_, _<_}
+use Prim.Native.Nat.{ℕ, zero, suc, _+_, _-_, _*_, _/_, _≤_, _<_}
 use native.Mathlib.Nat.{add-zero, zero-add, add-assoc}
 use native.Mathlib.Numerals.{add-one}
 use native.Mathlib.Omega.{arith}
-use lib.Dec.{ltb}
+use lib.Dec.{ltb, eqb}
 use lib.ListN.{length, getD, drop, length-drop, drop-of-length-le}
 use lib.Seq.{drop-cons}
-use borrow.Author.Tests.{eqb-true, eq-eqb, ne-eqb, lt-ltb, le-ltb}
+use borrow.Author.Tests.{eqb-true, eqb-false, eq-eqb, ne-eqb, lt-ltb, le-ltb}
 use Rattle.text.specs.Bytes.{classOf, space, refused, isSpace}
 use Rattle.text.specs.Text.{readable, trimStart, trimEnd, keep, widths, runs, begins, total}
 use Rattle.text.specs.Inner.{restOf}
@@ -54,6 +54,27 @@ module _ (t : List ℕ) (i : ℕ) (h : i < length t) (sum gap : ℕ) where
       → pass sum gap (drop i t) ≡ pass (sum + (classOf (getD t i 0) + gap)) 0 (drop (i + 1) t)
   unfolding pass readable inner
   pass-wide r s = rw (add-one, drop-cons t i 0 h) (simp (ne-eqb _ _ r, ne-eqb _ _ s, add-assoc))
+
+  -- both in one: a space has the class 3, and a character a smaller one
+  pub pass-turn : (k : ℕ) → k ≡ classOf (getD t i 0) / 3 → classOf (getD t i 0) ≤ 3
+      → pass sum gap (drop i t) ≡ pass (sum + (1 - k) * (classOf (getD t i 0) + gap)) k (drop (i + 1) t)
+  pass-turn k e few = go (eqb (classOf (getD t i 0)) space) refl
+    where
+      go : (b : Bool) → eqb (classOf (getD t i 0)) space ≡ b
+          → pass sum gap (drop i t) ≡ pass (sum + (1 - k) * (classOf (getD t i 0) + gap)) k (drop (i + 1) t)
+      go true q =
+          let j : classOf (getD t i 0) ≡ space = eqb-true _ _ q in
+          let one : k ≡ 1 = omega arith in
+          pass-space j ∙ rw one (ap (λ (m : ℕ). pass m 1 (drop (i + 1) t)) (omega arith))
+      go false q =
+          let j : classOf (getD t i 0) ≡ space → ⊥ = eqb-false _ _ q in
+          let none : k ≡ 0 = omega arith in
+          pass-wide (λ r. omega arith) j ∙ rw none (ap (λ (m : ℕ). pass m 0 (drop (i + 1) t)) (omega arith))
+
+-- what a turn adds is no more than the byte's width and the gap
+pub turn-small : (k x : ℕ) → (1 - k) * x ≤ x
+turn-small zero x = omega arith
+turn-small (suc k) x = let z : 1 - suc k ≡ 0 = omega arith in rw z (omega arith)
 
 pub pass-end : (t : List ℕ) (i : ℕ) → length t ≤ i → (sum gap : ℕ) → pass sum gap (drop i t) ≡ Size sum
 unfolding pass readable inner
