@@ -7,13 +7,16 @@ use lib.Dec.{leb, ltb, eqb}
 use lib.ListN.{length, drop}
 use Rattle.lists.specs.Limits.{maxDepth}
 use Rattle.text.specs.Decimal.{Number, plain, minus, shift, shifted}
-use Rattle.line.specs.Kinds.{kindOf, kindNames, kindCount, cellKind}
+use Rattle.line.specs.Kinds.{kindOf, kindNames, kindCount, cellKind, hasText}
 use Rattle.line.specs.Numbers.{Numeral, numeral, unwritten, numberOf, isDigit, upTo, magnitude}
 use Rattle.line.specs.Fields.{Field, field, endless, untilBlank, blank, nFits}
+use Rattle.line.specs.LineAt.{pieceAt}
 use Rattle.line.specs.declared.FieldRead.{FieldRead}
 use Rattle.line.specs.declared.FieldRead.the-variants.{Sound, Unsound}
 use Rattle.line.specs.declared.FieldsRead.{FieldsRead}
 use Rattle.line.specs.declared.FieldsRead.the-variants.{Whole, Broken}
+use Rattle.line.specs.declared.LineRead.{LineRead}
+use Rattle.line.specs.declared.LineRead.the-variants.{BadFields, BadByte}
 use Rattle.line.specs.declared.kinds.Key.{Key}
 
 -- the bytes up to the first space, if there is one
@@ -127,3 +130,7 @@ fieldsRead s at =
     onSound (numberRead (upTo maxDepth) magnitude at (drop at s)) (λ depth a₁.
     onSound (kindRead a₁ (drop a₁ s)) (λ kind a₂.
     restRead s depth kind a₂))
+
+-- the answer where a byte of the text is refused, at a place: 3 on a kind that has a text, where a line feed ends it, else 2
+unfoldable pub refusedAt : List ℕ → ℕ → ℕ → LineRead
+refusedAt s at kind = cond (hasText kind && pieceAt s at .ended) BadByte BadFields
