@@ -34,6 +34,15 @@ pub record LayoutRoom (sizes leasts column wide : List ℕ) : Type 0 where
   pub column-room : maxPosition ≤ length column
   pub wide-room : maxEntries ≤ length wide
 
+-- what is lent for one table alone: the places of its columns and entries
+pub record TableRoom (cell first′ span column x wide : List ℕ) : Type 0 where
+  pub cell-room : maxEntries ≤ length cell
+  pub first-room : maxEntries ≤ length first′
+  pub span-room : maxEntries ≤ length span
+  pub column-room : maxPosition ≤ length column
+  pub x-room : maxEntries ≤ length x
+  pub wide-room : maxEntries ≤ length wide
+
 -- a table's figures stand in the front of the slices, which can be laid out
 pub record FrontLayable (rows entries columns : ℕ) (lines firsts spans ends sizes leasts : List ℕ) (width : ℕ)
     (column-sizes column-leasts column xs wides : List ℕ) : Type 0 where
@@ -77,3 +86,10 @@ pub record ArrangedAt (table : List cells.Row) (t n : ℕ) (size least : List �
   pub held : passes (tableChecks t table) ≡ true → GridHeld t n (gridOf table) (columnsOf table) cell first′ span row end
   pub laid : passes (tableChecks t table) ≡ true
       → LaidGrid (gridOf table) (columnsOf table) (gridBoxes (gridOf table) size least) raw width column x wide
+
+-- the same, where the lines and the ends of the rows are not handed over
+pub record TableArranged (table : List cells.Row) (t n : ℕ) (size least : List ℕ) (raw width : ℕ) (r : Arranged)
+    (cell first′ span column x wide : List ℕ) : Type 0 where
+  pub row : List ℕ
+  pub end : List ℕ
+  pub arranged : ArrangedAt table t n size least raw width r cell first′ span row end column x wide

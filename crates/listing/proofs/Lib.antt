@@ -1,3 +1,2 @@
--- Laws of a measured sheet, for laying out its tables one after the other.
+-- Laws of the slices that the tables of a sheet are laid out in, one after the other.
 pub mod Lengths
-pub mod Measured

@@ -11,6 +11,7 @@ ghost use Rattle.io.specs.Counts.{Counts};
 ghost use Rattle.lists.specs.Limits.{maxLines, maxWidth};
 ghost use Rattle.grid.specs.Judging.{Lined};
 ghost use Rattle.arranging.specs.Layouts.{AllMeasured};
+ghost use Rattle.opening.specs.Opened.{EntriesRoom};
 ghost use Rattle.listing.specs.Listing.{Place};
 use lists::MAX_ENTRIES;
 use lists::MAX_LINES;
@@ -91,7 +92,8 @@ fn checked(out: &mut [u8], at: usize, sheet: &[u8], given: Given) -> usize
     }
 }
 
-// Puts the layout of every table of an accepted sheet, from its lines and their estimates. All tables are laid out in the same arrays.
+// Puts the layout of every table of an accepted sheet, from its lines and their estimates. All tables are laid out in the same arrays; those
+// for a table's entries are lent.
 fn laid(
     out: &mut [u8],
     at: usize,
@@ -102,12 +104,17 @@ fn laid(
     rows: &[u32],
     size: &[u32],
     least: &[u32],
+    cell: &mut [u32],
+    first: &mut [u32],
+    span: &mut [u32],
+    x: &mut [u32],
 ) -> usize
     requires { ⌜ Place (now out) at ⌝ }
     requires { ⌜ length (now kind) ≤ length (now depth) ⌝ }
     requires { ⌜ given .width ≤ maxWidth ⌝ }
     requires { ⌜ Lined (now depth) (now cols) (now rows) ⌝ }
     requires { ⌜ AllMeasured (length (now depth)) (now size) (now least) ⌝ }
+    requires { ⌜ EntriesRoom (now x) (now cell) (now first) (now span) ⌝ }
     ensures { λ r. ⌜ Place (now (out .exit)) r ⌝ }
 {
     let mut cell_rows = [0u32; MAX_LINES];
@@ -120,10 +127,6 @@ fn laid(
     let mut next_wide = [0u32; MAX_LINES];
     let mut row = [0u32; MAX_LINES];
     let mut row_end = [0u32; MAX_LINES];
-    let mut cell = [0u32; MAX_ENTRIES];
-    let mut first = [0u32; MAX_ENTRIES];
-    let mut span = [0u32; MAX_ENTRIES];
-    let mut x = [0u32; MAX_ENTRIES];
     let mut wide = [0u32; MAX_ENTRIES];
     let mut sizes = [0u32; MAX_POSITION];
     let mut leasts = [0u32; MAX_POSITION];
@@ -146,15 +149,15 @@ fn laid(
         &mut next_left,
         &mut next_at,
         &mut next_wide,
-        &mut cell,
-        &mut first,
-        &mut span,
+        cell,
+        first,
+        span,
         &mut row,
         &mut row_end,
         &mut sizes,
         &mut leasts,
         &mut column,
-        &mut x,
+        x,
         &mut wide,
     )
 }
@@ -177,6 +180,10 @@ fn opened(out: &mut [u8], at: usize, sheet: &[u8], given: Given) -> usize
     let mut size = [0u32; MAX_LINES];
     let mut least = [0u32; MAX_LINES];
     let mut prefix = [0u32; MAX_LINES];
+    let mut cell = [0u32; MAX_ENTRIES];
+    let mut first = [0u32; MAX_ENTRIES];
+    let mut span = [0u32; MAX_ENTRIES];
+    let mut x = [0u32; MAX_ENTRIES];
     let read = opening::measure_sheet(
         sheet,
         false,
@@ -193,6 +200,10 @@ fn opened(out: &mut [u8], at: usize, sheet: &[u8], given: Given) -> usize
         &mut size,
         &mut least,
         &mut prefix,
+        &mut x,
+        &mut cell,
+        &mut first,
+        &mut span,
     );
     match read {
         Reading::Refused {
@@ -209,6 +220,10 @@ fn opened(out: &mut [u8], at: usize, sheet: &[u8], given: Given) -> usize
             &rows[..n],
             &size[..n],
             &least[..n],
+            &mut cell,
+            &mut first,
+            &mut span,
+            &mut x,
         ),
     }
 }

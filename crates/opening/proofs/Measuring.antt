@@ -14,11 +14,12 @@ use Rattle.text.specs.declared.Estimate.{Estimate}
 use Rattle.line.specs.Fields.{Line, ownSize}
 use Rattle.sheet.specs.Sheet.{sheetLines}
 use Rattle.sheet.specs.Nesting.{Nested}
+use Rattle.sheet.specs.Steps.{roomFor}
 use Rattle.sheet.specs.Reading.{depthOf, kindOfLine, numberOfLine}
 use Rattle.sheet.specs.declared.Reading.{Reading}
 use Rattle.sheet.specs.declared.Reading.the-variants.{Lines, Refused}
 use Rattle.sheet.proofs.Nests.{accepted-nested}
-use Rattle.sheet.proofs.Bounds.{accepted-lines, accepted-own}
+use Rattle.sheet.proofs.Bounds.{accepted-lines, accepted-room, accepted-own}
 use Rattle.estimates.specs.Estimates.{none, estimates}
 use Rattle.estimates.specs.Sheet.{Slices, slices, Sheet, walkedOf}
 use Rattle.estimates.specs.Meets.{Buffers, buffers, Lent, Estimated, estBy}
@@ -107,12 +108,11 @@ module _ {asks : Bool} {s : List ℕ} {line n : ℕ} {depth kind number cols row
       walkable figures (accepted-nested s n r) (accepted-lines s n r .1) (lines-numbered s) (w .kept n refl) (opened-grids asks s line n answers)
       (accepted-own s n r) (length-take-le n first′ fi ∙ q) (length-take-le n span si ∙ q)
 
-  pub measure-ready : (size least prefix : List ℕ) → maxLines ≤ length depth → maxLines ≤ length kind → maxLines ≤ length number → maxLines ≤ length own
-      → maxLines ≤ length first′ → maxLines ≤ length span → FiguresRoom size least prefix → MeasureReady n depth kind number own first′ span size least prefix
+  pub measure-ready : (size least prefix : List ℕ) → roomFor s ≤ length depth → roomFor s ≤ length kind → roomFor s ≤ length number
+      → roomFor s ≤ length own → roomFor s ≤ length first′ → roomFor s ≤ length span → FiguresRoom (roomFor s) size least prefix
+      → MeasureReady n depth kind number own first′ span size least prefix
   measure-ready size least prefix dr kr nr wr fr pr g =
-      let q = opened-count asks s line n answers in
-      let few = accepted-lines s n (opened-reads asks s line n answers) .1 in
-      let i : n ≤ maxLines = omega arith in
+      let i = accepted-room s n (opened-reads asks s line n answers) in
       let a = g .size-room in
       let b = g .least-room in
       let c = g .prefix-room in

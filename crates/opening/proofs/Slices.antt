@@ -1,10 +1,10 @@
 -- The slices that a read sheet fills: what they hold, and what judging the tables takes. Assumes nothing.
 use mathlib.Core.Path.{_≡_, refl, sym, ap, _∙_}
 use mathlib.Core.Bool.{true}
-use mathlib.Core.List.{List, map}
+use mathlib.Core.List.{List, _++_, map}
 use Prim.Native.Nat.{ℕ, _+_, _≤_, _<_}
 use native.Mathlib.Omega.{arith}
-use lib.ListN.{length, getD, take, length-map, List·getD-map}
+use lib.ListN.{length, getD, take, drop, length-append, length-map, take-append-drop, List·getD-map}
 use lib.Seq.{length-take-le}
 use Rattle.lists.specs.Limits.{maxLines}
 use Rattle.lists.specs.Lists.{over}
@@ -19,11 +19,12 @@ use Rattle.sheet.specs.declared.Reading.{Reading}
 use Rattle.sheet.specs.declared.Reading.the-variants.{Lines}
 use Rattle.sheet.proofs.Ranges.{Ranged}
 use Rattle.sheet.proofs.Nests.{lines-ranged, accepted-nested}
-use Rattle.sheet.proofs.Bounds.{accepted-lines}
+use Rattle.sheet.proofs.Bounds.{accepted-lines, accepted-room}
 use Rattle.grid.specs.Judging.{Lined}
+use Rattle.grid.specs.Judging as judging
 use Rattle.judge.specs.Kept.{Nests, HoldsKinds}
 use Rattle.opening.specs.Opening.{Holds}
-use Rattle.opening.specs.Opened.{LinesRoom, GridsRoom, SheetRead, FrontReady}
+use Rattle.opening.specs.Opened.{LinesRoom, GridsRoom, EntriesRoom, SheetRead, FrontReady}
 use Rattle.opening.proofs.Answers.{holds-front}
 
 -- a figure of each line, written over the front of a slice
@@ -94,14 +95,16 @@ module _ {s : List ℕ} {n : ℕ} {depth kind number cols rows own : List ℕ} (
   abbrev accepts : readingOf s ≡ Lines n
   accepts = sym (w .answer)
 
-  pub front-ready : (first′ span : List ℕ) → maxLines ≤ length depth → maxLines ≤ length kind → maxLines ≤ length cols → maxLines ≤ length rows
-      → GridsRoom first′ span → FrontReady n depth kind cols rows first′ span
-  front-ready first′ span dr kr cr rr g =
-      let (q, few) = accepted-lines s n accepts in
+  -- its lines lie within the room that is asked for
+  pub lines-in : n ≤ roomFor s
+  lines-in = accepted-room s n accepts
+
+  pub front-ready : (first′ span : List ℕ) → roomFor s ≤ length depth → roomFor s ≤ length kind → roomFor s ≤ length cols → roomFor s ≤ length rows
+      → roomFor s ≤ length first′ → roomFor s ≤ length span → FrontReady n depth kind cols rows first′ span
+  front-ready first′ span dr kr cr rr fr sr =
+      let few = accepted-lines s n accepts .1 in
       let h = holds-front n w in
-      let i : n ≤ maxLines = omega arith in
-      let f = g .first-room in
-      let p = g .span-room in
+      let i = lines-in in
       let long-depth = length-take-le n depth (omega arith) in
       record {
         depth-in = omega arith;
@@ -118,17 +121,73 @@ module _ {s : List ℕ} {n : ℕ} {depth kind number cols rows own : List ℕ} (
       }
 
 -- room for the lines is room for reading
-pub reading-room : (s depth kind number cols rows own from to : List ℕ) → LinesRoom depth kind number cols rows own
-    → maxLines ≤ length from → maxLines ≤ length to → Room (roomFor s) (slices depth kind number cols rows own from to)
-reading-room s depth kind number cols rows own from to w f t =
-    let h : roomFor s ≤ maxLines = omega arith in
+pub reading-room : {m : ℕ} {depth kind number cols rows own from to : List ℕ} → LinesRoom m depth kind number cols rows own → GridsRoom m from to
+    → Room m (slices depth kind number cols rows own from to)
+reading-room w g =
     record {
-      depth = omega arith;
-      kind = omega arith;
-      number = omega arith;
-      cols = omega arith;
-      rows = omega arith;
-      own = omega arith;
-      from = omega arith;
-      to = omega arith;
+      depth = w .depth-room;
+      kind = w .kind-room;
+      number = w .number-room;
+      cols = w .cols-room;
+      rows = w .rows-room;
+      own = w .own-room;
+      from = g .first-room;
+      to = g .span-room;
     }
+
+-- room for n lines is room for fewer
+pub room-less : {m n : ℕ} {wide cell-rows cell-end left hang-at hang next-left next-at next-wide line first′ span row end : List ℕ} → m ≤ n
+    → judging.Room n wide cell-rows cell-end left hang-at hang next-left next-at next-wide line first′ span row end
+    → judging.Room m wide cell-rows cell-end left hang-at hang next-left next-at next-wide line first′ span row end
+room-less h r =
+    record {
+      wide-room = r .wide-room;
+      line-room = r .line-room;
+      first-room = r .first-room;
+      span-room = r .span-room;
+      cell-rows-room = omega (arith, r .cell-rows-room);
+      cell-end-room = omega (arith, r .cell-end-room);
+      left-room = omega (arith, r .left-room);
+      hang-at-room = omega (arith, r .hang-at-room);
+      hang-room = omega (arith, r .hang-room);
+      next-left-room = omega (arith, r .next-left-room);
+      next-at-room = omega (arith, r .next-at-room);
+      next-wide-room = omega (arith, r .next-wide-room);
+      row-room = omega (arith, r .row-room);
+      end-room = omega (arith, r .end-room);
+    }
+
+-- a slice that stays as long as it was has the room that it had
+pub still : {m a b : ℕ} → b ≡ a → m ≤ a → m ≤ b
+still e h = omega arith
+
+-- and so has one of which a front was lent
+pub front-same : (n : ℕ) (a f : List ℕ) → length f ≡ length (take n a) → length (f ++ drop n a) ≡ length a
+front-same n a f e = omega (arith, length-append f (drop n a), length-append (take n a) (drop n a), ap length (take-append-drop n a))
+
+-- lent room for entries is, with ten arrays of n places, room for as many lines
+pub room-with : {m n : ℕ} {wide cell-rows cell-end left hang-at hang next-left next-at next-wide line first′ span row end : List ℕ} → m ≤ n
+    → EntriesRoom wide line first′ span → length cell-rows ≡ n → length cell-end ≡ n → length left ≡ n → length hang-at ≡ n → length hang ≡ n
+    → length next-left ≡ n → length next-at ≡ n → length next-wide ≡ n → length row ≡ n → length end ≡ n
+    → judging.Room m wide cell-rows cell-end left hang-at hang next-left next-at next-wide line first′ span row end
+room-with h e a b c d f g i j k l =
+    record {
+      wide-room = e .wide-room;
+      line-room = e .cell-room;
+      first-room = e .first-room;
+      span-room = e .span-room;
+      cell-rows-room = still a h;
+      cell-end-room = still b h;
+      left-room = still c h;
+      hang-at-room = still d h;
+      hang-room = still f h;
+      next-left-room = still g h;
+      next-at-room = still i h;
+      next-wide-room = still j h;
+      row-room = still k h;
+      end-room = still l h;
+    }
+
+-- no sheet asks for more room than the most lines
+pub room-most : (s : List ℕ) → roomFor s ≤ maxLines
+room-most s = omega arith

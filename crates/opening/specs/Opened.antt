@@ -5,7 +5,7 @@ use mathlib.Core.List.{List, _∷_}
 use Prim.Native.Nat.{ℕ, _-_, _≤_, _<_}
 use lib.Dec.{leb, eqb}
 use lib.ListN.{length, getD, take}
-use Rattle.lists.specs.Limits.{maxLines}
+use Rattle.lists.specs.Limits.{maxEntries}
 use Rattle.lists.specs.Refusals.{Check, check, first}
 use Rattle.line.specs.Kinds.{tableKind}
 use Rattle.line.specs.Fields.{Line}
@@ -29,23 +29,30 @@ tableAmong kinds line = leb 1 line && leb line (length kinds) && eqb (getD kinds
 unfoldable pub asksAmiss : Bool → List ℕ → ℕ → Bool
 asksAmiss asks kinds line = cond asks (not (tableAmong kinds line)) false
 
--- each slice has a place for each line that a sheet may have
-pub record LinesRoom (depth kind number cols rows own : List ℕ) : Type 0 where
-  pub depth-room : maxLines ≤ length depth
-  pub kind-room : maxLines ≤ length kind
-  pub number-room : maxLines ≤ length number
-  pub cols-room : maxLines ≤ length cols
-  pub rows-room : maxLines ≤ length rows
-  pub own-room : maxLines ≤ length own
+-- each slice has a place for each of m lines
+pub record LinesRoom (m : ℕ) (depth kind number cols rows own : List ℕ) : Type 0 where
+  pub depth-room : m ≤ length depth
+  pub kind-room : m ≤ length kind
+  pub number-room : m ≤ length number
+  pub cols-room : m ≤ length cols
+  pub rows-room : m ≤ length rows
+  pub own-room : m ≤ length own
 
-pub record GridsRoom (first′ span : List ℕ) : Type 0 where
-  pub first-room : maxLines ≤ length first′
-  pub span-room : maxLines ≤ length span
+pub record GridsRoom (m : ℕ) (first′ span : List ℕ) : Type 0 where
+  pub first-room : m ≤ length first′
+  pub span-room : m ≤ length span
 
-pub record FiguresRoom (size least prefix : List ℕ) : Type 0 where
-  pub size-room : maxLines ≤ length size
-  pub least-room : maxLines ≤ length least
-  pub prefix-room : maxLines ≤ length prefix
+pub record FiguresRoom (m : ℕ) (size least prefix : List ℕ) : Type 0 where
+  pub size-room : m ≤ length size
+  pub least-room : m ≤ length least
+  pub prefix-room : m ≤ length prefix
+
+-- each slice has a place for each entry of a table
+pub record EntriesRoom (wide cell first′ span : List ℕ) : Type 0 where
+  pub wide-room : maxEntries ≤ length wide
+  pub cell-room : maxEntries ≤ length cell
+  pub first-room : maxEntries ≤ length first′
+  pub span-room : maxEntries ≤ length span
 
 -- the answer of reading, and what the slices hold then
 pub record SheetRead (s : List ℕ) (r : Reading) (depth kind number cols rows own : List ℕ) : Type 0 where

@@ -1,10 +1,16 @@
-// A sheet opened: it is read, every table of it is judged, and its lines are measured. All calls begin with this.
+// A sheet opened: it is read, every table of it is judged, and its lines are measured. All calls begin with this. What is cleared once serves
+// every table.
+mod rooms; // room to work in, of two sizes
+
 ghost use mathlib.Core.Path.{_≡_};
-ghost use lib.ListN.{take};
-ghost use Rattle.judge.specs.Kept.{TablesJudged};
+ghost use Prim.Native.Nat.{_≤_};
+ghost use lib.ListN.{length, take};
+ghost use Rattle.lists.specs.Limits.{maxPosition};
+ghost use Rattle.sheet.specs.Steps.{roomFor};
+ghost use Rattle.grid.specs.Judging.{Room};
 ghost use Rattle.estimates.specs.Sheet.{slices, walkedOf};
 ghost use Rattle.estimates.specs.Meets.{buffers, Estimated};
-ghost use Rattle.opening.specs.Opened.{tableAmong, asksAmiss, LinesRoom, GridsRoom, FiguresRoom, SheetRead, TablesReady, FrontReady, TablesOpened, Opened, MeasureReady, SheetMeasured};
+ghost use Rattle.opening.specs.Opened.{tableAmong, asksAmiss, LinesRoom, GridsRoom, FiguresRoom, EntriesRoom, SheetRead, TablesReady, FrontReady, TablesOpened, Opened, MeasureReady, SheetMeasured};
 use lists::Verdict;
 use sheet::Reading;
 
@@ -32,7 +38,7 @@ fn asks_amiss(asks: bool, kind: &[u32], line: u32) -> bool
     false
 }
 
-// Reads a sheet. Where the texts lie in it is not kept.
+// Reads a sheet. Where its texts lie is not kept: from and to are room to work in.
 fn read_sheet(
     bytes: &[u8],
     depth: &mut [u32],
@@ -41,13 +47,14 @@ fn read_sheet(
     cols: &mut [u32],
     rows: &mut [u32],
     own: &mut [u32],
+    from: &mut [u32],
+    to: &mut [u32],
 ) -> Reading
-    requires { ⌜ LinesRoom (now depth) (now kind) (now number) (now cols) (now rows) (now own) ⌝ }
+    requires { ⌜ LinesRoom (roomFor (now bytes)) (now depth) (now kind) (now number) (now cols) (now rows) (now own) ⌝ }
+    requires { ⌜ GridsRoom (roomFor (now bytes)) (now from) (now to) ⌝ }
     ensures { λ r. ⌜ SheetRead (now (bytes .entry)) r (now (depth .exit)) (now (kind .exit)) (now (number .exit)) (now (cols .exit)) (now (rows .exit)) (now (own .exit)) ⌝ }
 {
     let classes = text::bytes::classes();
-    let mut from = [0u32; 4096];
-    let mut to = [0u32; 4096];
     sheet::read(
         &classes,
         bytes,
@@ -57,63 +64,13 @@ fn read_sheet(
         cols,
         rows,
         own,
-        &mut from,
-        &mut to,
+        from,
+        to,
     )
 }
 
-// Judges every table in turn, and keeps the first column and the span of each cell, and of each table how many columns it has. The arrays are
-// room to work in: they are cleared once for the call, and each table leaves in them what it likes.
-fn judge_all(
-    depth: &[u32],
-    kind: &[u32],
-    cols: &[u32],
-    rows: &[u32],
-    first_of: &mut [u32],
-    span_of: &mut [u32],
-) -> Verdict
-    requires { ⌜ TablesReady (now depth) (now kind) (now cols) (now rows) (now «first_of») (now «span_of») ⌝ }
-    ensures { λ r. ⌜ TablesJudged (now (depth .entry)) (now (kind .entry)) (now (cols .entry)) (now (rows .entry)) r (now («first_of» .exit)) (now («span_of» .exit)) ⌝ }
-{
-    let mut wide = [0u32; 8192];
-    let mut cell_rows = [0u32; 4096];
-    let mut cell_end = [0u32; 4096];
-    let mut left = [0u32; 4096];
-    let mut hang_at = [0u32; 4096];
-    let mut hang = [0u32; 4096];
-    let mut next_left = [0u32; 4096];
-    let mut next_at = [0u32; 4096];
-    let mut next_wide = [0u32; 4096];
-    let mut line = [0u32; 8192];
-    let mut first = [0u32; 8192];
-    let mut span = [0u32; 8192];
-    let mut row_line = [0u32; 4096];
-    let mut row_end = [0u32; 4096];
-    judge::judge_tables(
-        depth,
-        kind,
-        cols,
-        rows,
-        &mut wide,
-        &mut cell_rows,
-        &mut cell_end,
-        &mut left,
-        &mut hang_at,
-        &mut hang,
-        &mut next_left,
-        &mut next_at,
-        &mut next_wide,
-        &mut line,
-        &mut first,
-        &mut span,
-        &mut row_line,
-        &mut row_end,
-        first_of,
-        span_of,
-    )
-}
-
-// What is asked of the lines after reading: 10 for a line that is no table, then every table in turn.
+// What is asked of the lines after reading: 10 for a line that is no table, then every table in turn. Of each grid the first column and the
+// span of each cell are kept, and how many columns there are; the slices from wide to row_end are room to work in.
 fn open_lines(
     asks: bool,
     line: u32,
@@ -121,9 +78,25 @@ fn open_lines(
     kind: &[u32],
     cols: &[u32],
     rows: &[u32],
+    wide: &mut [u32],
+    cell_rows: &mut [u32],
+    cell_end: &mut [u32],
+    left: &mut [u32],
+    hang_at: &mut [u32],
+    hang: &mut [u32],
+    next_left: &mut [u32],
+    next_at: &mut [u32],
+    next_wide: &mut [u32],
+    cell: &mut [u32],
+    first: &mut [u32],
+    span: &mut [u32],
+    row: &mut [u32],
+    row_end: &mut [u32],
     first_of: &mut [u32],
     span_of: &mut [u32],
 ) -> Reading
+    requires { ⌜ Room (length (now depth)) (now wide) (now «cell_rows») (now «cell_end») (now left) (now «hang_at») (now hang) (now «next_left») (now «next_at») (now «next_wide»)
+        (now cell) (now first) (now span) (now row) (now «row_end») ⌝ }
     requires { ⌜ TablesReady (now depth) (now kind) (now cols) (now rows) (now «first_of») (now «span_of») ⌝ }
     ensures { λ r. ⌜ TablesOpened asks line (now (depth .entry)) (now (kind .entry)) (now (cols .entry)) (now (rows .entry)) r (now («first_of» .exit)) (now («span_of» .exit)) ⌝ }
 {
@@ -133,7 +106,28 @@ fn open_lines(
             line: 0,
         };
     }
-    match judge_all(depth, kind, cols, rows, first_of, span_of) {
+    match judge::judge_tables(
+        depth,
+        kind,
+        cols,
+        rows,
+        wide,
+        cell_rows,
+        cell_end,
+        left,
+        hang_at,
+        hang,
+        next_left,
+        next_at,
+        next_wide,
+        cell,
+        first,
+        span,
+        row,
+        row_end,
+        first_of,
+        span_of,
+    ) {
         Verdict::Accepted => Reading::Lines(depth.len()),
         Verdict::Refused {
             number: refusal,
@@ -154,9 +148,25 @@ fn open_front(
     kind: &[u32],
     cols: &[u32],
     rows: &[u32],
+    wide: &mut [u32],
+    cell_rows: &mut [u32],
+    cell_end: &mut [u32],
+    left: &mut [u32],
+    hang_at: &mut [u32],
+    hang: &mut [u32],
+    next_left: &mut [u32],
+    next_at: &mut [u32],
+    next_wide: &mut [u32],
+    cell: &mut [u32],
+    first: &mut [u32],
+    span: &mut [u32],
+    row: &mut [u32],
+    row_end: &mut [u32],
     first_of: &mut [u32],
     span_of: &mut [u32],
 ) -> Reading
+    requires { ⌜ Room n (now wide) (now «cell_rows») (now «cell_end») (now left) (now «hang_at») (now hang) (now «next_left») (now «next_at») (now «next_wide»)
+        (now cell) (now first) (now span) (now row) (now «row_end») ⌝ }
     requires { ⌜ FrontReady n (now depth) (now kind) (now cols) (now rows) (now «first_of») (now «span_of») ⌝ }
     ensures { λ r. ⌜ TablesOpened asks line (take n (now (depth .entry))) (take n (now (kind .entry))) (take n (now (cols .entry))) (take n (now (rows .entry))) r (take n (now («first_of» .exit))) (take n (now («span_of» .exit))) ⌝ }
 {
@@ -167,12 +177,108 @@ fn open_front(
         &kind[..n],
         &cols[..n],
         &rows[..n],
+        wide,
+        cell_rows,
+        cell_end,
+        left,
+        hang_at,
+        hang,
+        next_left,
+        next_at,
+        next_wide,
+        cell,
+        first,
+        span,
+        row,
+        row_end,
         &mut first_of[..n],
         &mut span_of[..n],
     )
 }
 
-// Opens a sheet: reads it, asks for the line if a call asks for one, and judges its tables. Place k of each slice then holds line k + 1.
+// Opens a sheet in room that is lent: reads it, asks for the line if a call asks for one, and judges its tables. The slices from cell_rows to
+// next_wide, wide and cell to row_end are room to work in, as much as the sheet asks for.
+pub fn open_in(
+    bytes: &[u8],
+    asks: bool,
+    line: u32,
+    depth: &mut [u32],
+    kind: &mut [u32],
+    number: &mut [u32],
+    cols: &mut [u32],
+    rows: &mut [u32],
+    own: &mut [u32],
+    first_of: &mut [u32],
+    span_of: &mut [u32],
+    wide: &mut [u32],
+    cell_rows: &mut [u32],
+    cell_end: &mut [u32],
+    left: &mut [u32],
+    hang_at: &mut [u32],
+    hang: &mut [u32],
+    next_left: &mut [u32],
+    next_at: &mut [u32],
+    next_wide: &mut [u32],
+    cell: &mut [u32],
+    first: &mut [u32],
+    span: &mut [u32],
+    row: &mut [u32],
+    row_end: &mut [u32],
+) -> Reading
+    requires { ⌜ LinesRoom (roomFor (now bytes)) (now depth) (now kind) (now number) (now cols) (now rows) (now own) ⌝ }
+    requires { ⌜ GridsRoom (roomFor (now bytes)) (now «first_of») (now «span_of») ⌝ }
+    requires { ⌜ Room (roomFor (now bytes)) (now wide) (now «cell_rows») (now «cell_end») (now left) (now «hang_at») (now hang) (now «next_left») (now «next_at») (now «next_wide»)
+        (now cell) (now first) (now span) (now row) (now «row_end») ⌝ }
+    ensures { λ r. ⌜ Opened asks (now (bytes .entry)) line r (now (depth .exit)) (now (kind .exit)) (now (number .exit)) (now (cols .exit)) (now (rows .exit)) (now (own .exit)) (now («first_of» .exit)) (now («span_of» .exit)) ⌝ }
+{
+    match read_sheet(
+        bytes,
+        depth,
+        kind,
+        number,
+        cols,
+        rows,
+        own,
+        first_of,
+        span_of,
+    ) {
+        Reading::Refused {
+            number: refusal,
+            line: at,
+        } => Reading::Refused {
+            number: refusal,
+            line: at,
+        },
+        Reading::Lines(n) => open_front(
+            n,
+            asks,
+            line,
+            depth,
+            kind,
+            cols,
+            rows,
+            wide,
+            cell_rows,
+            cell_end,
+            left,
+            hang_at,
+            hang,
+            next_left,
+            next_at,
+            next_wide,
+            cell,
+            first,
+            span,
+            row,
+            row_end,
+            first_of,
+            span_of,
+        ),
+    }
+}
+
+// Opens a sheet: reads it, asks for the line if a call asks for one, and judges its tables. Place k of each slice then holds line k + 1. The
+// slices from wide to span are room to work in. Slices for a small sheet ask for little room.
 pub fn open_sheet(
     bytes: &[u8],
     asks: bool,
@@ -185,21 +291,52 @@ pub fn open_sheet(
     own: &mut [u32],
     first_of: &mut [u32],
     span_of: &mut [u32],
+    wide: &mut [u32],
+    cell: &mut [u32],
+    first: &mut [u32],
+    span: &mut [u32],
 ) -> Reading
-    requires { ⌜ LinesRoom (now depth) (now kind) (now number) (now cols) (now rows) (now own) ⌝ }
-    requires { ⌜ GridsRoom (now «first_of») (now «span_of») ⌝ }
+    requires { ⌜ LinesRoom (roomFor (now bytes)) (now depth) (now kind) (now number) (now cols) (now rows) (now own) ⌝ }
+    requires { ⌜ GridsRoom (roomFor (now bytes)) (now «first_of») (now «span_of») ⌝ }
+    requires { ⌜ EntriesRoom (now wide) (now cell) (now first) (now span) ⌝ }
     ensures { λ r. ⌜ Opened asks (now (bytes .entry)) line r (now (depth .exit)) (now (kind .exit)) (now (number .exit)) (now (cols .exit)) (now (rows .exit)) (now (own .exit)) (now («first_of» .exit)) (now («span_of» .exit)) ⌝ }
 {
-    match read_sheet(bytes, depth, kind, number, cols, rows, own) {
-        Reading::Refused {
-            number: refusal,
-            line: at,
-        } => Reading::Refused {
-            number: refusal,
-            line: at,
-        },
-        Reading::Lines(n) => open_front(n, asks, line, depth, kind, cols, rows, first_of, span_of),
+    if depth.len() <= lists::SMALL_LINES {
+        return rooms::open_small(
+            bytes,
+            asks,
+            line,
+            depth,
+            kind,
+            number,
+            cols,
+            rows,
+            own,
+            first_of,
+            span_of,
+            wide,
+            cell,
+            first,
+            span,
+        );
     }
+    rooms::open_large(
+        bytes,
+        asks,
+        line,
+        depth,
+        kind,
+        number,
+        cols,
+        rows,
+        own,
+        first_of,
+        span_of,
+        wide,
+        cell,
+        first,
+        span,
+    )
 }
 
 // Measures the lines in the first n places of the slices.
@@ -215,12 +352,13 @@ fn measure_front(
     size: &mut [u32],
     least: &mut [u32],
     prefix: &mut [u32],
+    leasts: &mut [u32],
 )
+    requires { ⌜ maxPosition ≤ length (now leasts) ⌝ }
     requires { ⌜ MeasureReady n (now depth) (now kind) (now number) (now own) (now «first_of») (now «span_of») (now size) (now least) (now prefix) ⌝ }
     ensures { λ _. ⌜ Estimated (walkedOf wrap (slices (take n (now (depth .entry))) (take n (now (kind .entry))) (take n (now (number .entry))) (take n (now (own .entry))) (take n (now («first_of» .entry))) (take n (now («span_of» .entry)))))
         (buffers (now (size .entry)) (now (least .entry)) (now (prefix .entry))) (buffers (now (size .exit)) (now (least .exit)) (now (prefix .exit))) ⌝ }
 {
-    let mut leasts = [0u32; 4096];
     estimates::estimate_all(
         &depth[..n],
         &kind[..n],
@@ -231,7 +369,7 @@ fn measure_front(
         size,
         least,
         prefix,
-        &mut leasts,
+        leasts,
         wrap,
     );
 }
@@ -253,10 +391,15 @@ pub fn measure_sheet(
     size: &mut [u32],
     least: &mut [u32],
     prefix: &mut [u32],
+    wide: &mut [u32],
+    cell: &mut [u32],
+    first: &mut [u32],
+    span: &mut [u32],
 ) -> Reading
-    requires { ⌜ LinesRoom (now depth) (now kind) (now number) (now cols) (now rows) (now own) ⌝ }
-    requires { ⌜ GridsRoom (now «first_of») (now «span_of») ⌝ }
-    requires { ⌜ FiguresRoom (now size) (now least) (now prefix) ⌝ }
+    requires { ⌜ LinesRoom (roomFor (now bytes)) (now depth) (now kind) (now number) (now cols) (now rows) (now own) ⌝ }
+    requires { ⌜ GridsRoom (roomFor (now bytes)) (now «first_of») (now «span_of») ⌝ }
+    requires { ⌜ FiguresRoom (roomFor (now bytes)) (now size) (now least) (now prefix) ⌝ }
+    requires { ⌜ EntriesRoom (now wide) (now cell) (now first) (now span) ⌝ }
     ensures { λ r. ⌜ SheetMeasured asks (now (bytes .entry)) line wrap r (now (depth .exit)) (now (kind .exit)) (now (number .exit)) (now (cols .exit)) (now (rows .exit)) (now (own .exit)) (now («first_of» .exit)) (now («span_of» .exit)) (now (size .exit)) (now (least .exit)) (now (prefix .exit)) ⌝ }
 {
     match open_sheet(
@@ -271,6 +414,10 @@ pub fn measure_sheet(
         own,
         first_of,
         span_of,
+        wide,
+        cell,
+        first,
+        span,
     ) {
         Reading::Refused {
             number: refusal,
@@ -292,6 +439,7 @@ pub fn measure_sheet(
                 size,
                 least,
                 prefix,
+                wide,
             );
             Reading::Lines(n)
         }

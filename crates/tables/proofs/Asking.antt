@@ -2,30 +2,29 @@
 -- sheet is opened, no check applies to it. Assumes nothing.
 use mathlib.Core.Path.{_≡_, refl, sym, ap, _∙_}
 use mathlib.Core.Bool.{true, not, cond, _&&_}
-use mathlib.Core.List.{List, [], _∷_, map}
+use mathlib.Core.List.{List, [], _∷_}
 use Prim.Native.Nat.{ℕ, zero, suc, _+_, _-_, _≤_, _<_}
 use native.Mathlib.Nat.{not-suc-le-zero}
 use native.Mathlib.Omega.{arith}
 use lib.Dec.{leb, eqb}
-use lib.ListN.{length, getD, take, drop, length-map, List·getD-map}
+use lib.ListN.{length, getD, take, drop}
 use lib.Seq.{drop-cons}
 use borrow.Author.Tests.{leb-true, eqb-true, eq-eqb, not-true, not-false}
-use Rattle.lists.specs.Limits.{maxLines}
 use Rattle.lists.specs.Refusals.{passes}
 use Rattle.line.specs.Kinds.{tableKind}
 use Rattle.line.specs.Fields.{Line, noLine}
 use Rattle.sheet.specs.Sheet.{sheetLines}
-use Rattle.sheet.specs.Nesting.{Nested}
+use Rattle.sheet.specs.Reading.{depthOf}
 use Rattle.sheet.proofs.First.{both-true, passes-append}
-use Rattle.sheet.proofs.Ranges.{Ranged}
 use Rattle.sheet.proofs.Nests.{lines-ranged, accepted-nested}
 use Rattle.cells.specs.Cells.{bodiesOf, resolved}
 use Rattle.cells.specs.Listed.{heldRows, HoldsLines}
 use Rattle.cells.proofs.Lines.{held-rows}
 use Rattle.grid.specs.Grid.{tableChecks, tableRows, tablesChecks}
-use Rattle.grid.specs.Judging.{Lined}
+use Rattle.judge.specs.Kept.{HoldsKinds}
+use Rattle.arranging.specs.Tables.{TableAsked}
 use Rattle.opening.specs.Opening.{isTable, everyTable, Holds}
-use Rattle.tables.specs.Tables.{TableAsked}
+use Rattle.opening.proofs.Slices.{at, long, lined}
 use Rattle.tables.proofs.Openings.{Passed}
 
 -- every table passes, so this one does
@@ -70,27 +69,7 @@ asked-passes s line n p =
     let (a, b) = both-true (not (not (isTable (sheetLines s) line))) (passes (everyTable s)) (p .more) in
     tables-pass 1 (line - 1) line (sheetLines s) (omega (arith, t .from-one)) b (omega (arith, t .from-one, t .within)) (t .kind)
 
--- the figure of a line at a place, by the slice that holds it
-at : (f : Line → ℕ) (ls : List Line) (l : List ℕ) → l ≡ map f ls → f noLine ≡ 0 → (k : ℕ) → getD l k 0 ≡ f (getD ls k noLine)
-at f ls l e z k = ap (λ (m : List ℕ). getD m k 0) e ∙ ap (getD (map f ls) k) (sym z) ∙ List·getD-map f ls k noLine
-
-long : (f : Line → ℕ) (ls : List Line) (l : List ℕ) → l ≡ map f ls → length l ≡ length ls
-long f ls l e = ap length e ∙ length-map ls f
-
 module _ {ls : List Line} {depth cols rows : List ℕ} (h : HoldsLines ls depth cols rows) where
-  lined : length ls ≤ maxLines → Nested ls → ((k : ℕ) → Ranged (getD ls k noLine)) → Lined depth cols rows
-  lined few nested ranged =
-      let d = at (λ l. l .depth) ls depth (h .depths) refl in
-      let n = long (λ l. l .depth) ls depth (h .depths) in
-      record {
-        short = omega arith;
-        cols-length = long (λ l. l .cols) ls cols (h .all-cols) ∙ sym n;
-        rows-length = long (λ l. l .rows) ls rows (h .all-rows) ∙ sym n;
-        shallow = λ k. omega (arith, d k, nested .shallow k);
-        step = λ k g. omega (arith, d k, d (k + 1), nested .step k (omega arith));
-        narrow = λ k. omega (arith, at (λ l. l .cols) ls cols (h .all-cols) refl k, ranged k .wide);
-      }
-
   -- the rows of the table in a line
   pub table-held : (line : ℕ) → 1 ≤ line → line ≤ length ls → heldRows depth cols rows (line - 1) ≡ tableRows line (drop (line - 1) ls)
   unfolding tableRows
@@ -100,30 +79,33 @@ module _ {ls : List Line} {depth cols rows : List ℕ} (h : HoldsLines ls depth 
       let q : drop (line - 1) ls ≡ getD ls (line - 1) noLine ∷ drop line ls =
       drop-cons ls (line - 1) noLine (omega arith) ∙ ap (λ (m : ℕ). getD ls (line - 1) noLine ∷ drop m ls) j in
       held-rows ls depth cols rows (line - 1) h
-      ∙ ap (λ (d : ℕ). resolved (bodiesOf d (line - 1 + 1) (drop (line - 1 + 1) ls))) (at (λ l. l .depth) ls depth (h .depths) refl (line - 1))
+      ∙ ap (λ (d : ℕ). resolved (bodiesOf d (line - 1 + 1) (drop (line - 1 + 1) ls))) (at depthOf ls depth (h .depths) refl (line - 1))
       ∙ ap (λ (m : ℕ). resolved (bodiesOf (getD ls (line - 1) noLine .depth) m (drop m ls))) k
       ∙ sym (ap (tableRows line) q)
 
 module _ {s : List ℕ} {line n : ℕ} {depth kind number cols rows own : List ℕ} (p : Passed true s line n) (o : Holds (sheetLines s) depth kind number cols rows own) where
-  pub holds-lines : HoldsLines (sheetLines s) (take n depth) (take n cols) (take n rows)
-  holds-lines =
+  holds-kinds : HoldsKinds (sheetLines s) (take n depth) (take n kind) (take n cols) (take n rows)
+  holds-kinds =
       record {
-        depths = ap (λ (m : ℕ). take m depth) (p .count) ∙ o .depths;
-        all-cols = ap (λ (m : ℕ). take m cols) (p .count) ∙ o .all-cols;
-        all-rows = ap (λ (m : ℕ). take m rows) (p .count) ∙ o .all-rows;
+        figures = record {
+          depths = ap (λ (m : ℕ). take m depth) (p .count) ∙ o .depths;
+          all-cols = ap (λ (m : ℕ). take m cols) (p .count) ∙ o .all-cols;
+          all-rows = ap (λ (m : ℕ). take m rows) (p .count) ∙ o .all-rows;
+        };
+        kinds = ap (λ (m : ℕ). take m kind) (p .count) ∙ o .kinds;
       }
 
   pub held-length : length (take n depth) ≡ length (sheetLines s)
-  held-length = long (λ l. l .depth) (sheetLines s) (take n depth) (holds-lines .depths)
+  held-length = long depthOf (sheetLines s) (take n depth) (holds-kinds .figures .depths)
 
   pub table-asked : TableAsked (take n depth) (take n cols) (take n rows) line
   table-asked =
       let t = asked-table s line n p in
       record {
-        lined = lined holds-lines (omega (arith, p .count, p .few)) (accepted-nested s n (p .reading)) (lines-ranged s);
+        lined = lined holds-kinds (accepted-nested s n (p .reading)) (omega (arith, p .count, p .few)) (lines-ranged s);
         from-one = t .from-one;
         within = omega (arith, t .within, held-length);
       }
 
   pub asked-rows : heldRows (take n depth) (take n cols) (take n rows) (line - 1) ≡ tableRows line (drop (line - 1) (sheetLines s))
-  asked-rows = let t = asked-table s line n p in table-held holds-lines line (t .from-one) (t .within)
+  asked-rows = let t = asked-table s line n p in table-held (holds-kinds .figures) line (t .from-one) (t .within)

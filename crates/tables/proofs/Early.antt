@@ -1,6 +1,6 @@
 -- The arguments' refusals as one number, asked before the sheet: the call's answer is the same, and where there is none the buffers are long
 -- enough. Each by the cases of the tests. Assumes nothing.
-use mathlib.Core.Path.{_≡_, refl, ap, _∙_}
+use mathlib.Core.Path.{_≡_, refl, ap, ap₂, _∙_}
 use mathlib.Core.Bool.{Bool, true, false, cond, _||_}
 use mathlib.Core.List.{List, [], _∷_}
 use Prim.Native.Nat.{ℕ, zero, suc, _≤_}
@@ -87,8 +87,8 @@ fits refused accepted count none (suc k) ds r most room e h f =
     let q = rw (ne-eqb (suc k) 0 (λ z. omega arith)) at e in
     let z : count r ≡ 0 = ap count q ∙ none (suc k) 0 in omega arith
 
--- what a lent buffer holds after the first places were copied into it
-pub leaving : (o xs slice : List ℕ) {n m : ℕ} {t u : Bool} {after : List ℕ} → t ≡ u → n ≡ m → after ≡ padded (length o) (take n slice)
-    → take m slice ≡ cond t xs [] → after ≡ padded (length o) (cond u xs [])
-leaving o xs slice p q w v =
-    w ∙ ap (padded (length o)) (ap (λ (k : ℕ). take k slice) q ∙ v ∙ ap (λ (b : Bool). cond b xs []) p)
+-- what a lent buffer holds in the end, of which the first places were kept
+pub leaving : (o xs slice : List ℕ) {n m : ℕ} {t u : Bool} {after : List ℕ} → t ≡ u → n ≡ m → length slice ≡ length o
+    → after ≡ padded (length slice) (take n slice) → take m slice ≡ cond t xs [] → after ≡ padded (length o) (cond u xs [])
+leaving o xs slice p q same w v =
+    w ∙ ap₂ padded same (ap (λ (k : ℕ). take k slice) q ∙ v ∙ ap (λ (b : Bool). cond b xs []) p)

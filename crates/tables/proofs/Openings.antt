@@ -8,10 +8,11 @@ use lib.ListN.{length}
 use Rattle.lists.specs.Limits.{maxLines}
 use Rattle.lists.specs.Refusals.{first, passes, verdictOf}
 use Rattle.sheet.specs.Sheet.{sheetChecks, sheetLines}
+use Rattle.sheet.specs.Steps.{roomFor}
 use Rattle.sheet.specs.Reading.{readingOf}
 use Rattle.sheet.specs.declared.Reading.the-variants.{Lines, Refused}
 use Rattle.sheet.proofs.First.{both-true, first-passes, first-accepts, first-told, first-carries, passes-append}
-use Rattle.sheet.proofs.Bounds.{accepted-lines}
+use Rattle.sheet.proofs.Bounds.{accepted-lines, accepted-room}
 use Rattle.opening.specs.Opening.{asked, openChecks, openedOf}
 use Rattle.tables.specs.Calls.{checkChecks}
 use Rattle.tables.specs.Inner.{verdictIn}
@@ -25,6 +26,7 @@ module _ (asks : Bool) (s : List ℕ) (line : ℕ) where
     pub reading : readingOf s ≡ Lines n
     pub count : n ≡ length (sheetLines s)
     pub few : n ≤ maxLines
+    pub room : n ≤ roomFor s
 
   pub passed : (n : ℕ) → openedOf asks s line ≡ Lines n → Passed n
   unfolding openedOf readingOf
@@ -40,6 +42,7 @@ module _ (asks : Bool) (s : List ℕ) (line : ℕ) where
         reading = r;
         count = accepted-lines s n r .0;
         few = omega (arith, accepted-lines s n r);
+        room = accepted-room s n r;
       }
 
   -- a refused one has not

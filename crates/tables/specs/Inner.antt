@@ -1,19 +1,23 @@
 -- What the functions within the calls answer. These are definitions; nothing is assumed.
 use mathlib.Core.Path.{_≡_}
-use mathlib.Core.Bool.{not, _||_}
+use mathlib.Core.Bool.{true, not, _||_}
 use mathlib.Core.List.{List, [], _∷_, map}
 use Prim.Native.Nat.{ℕ, _≤_}
 use lib.Dec.{eqb}
 use lib.ListN.{length, take}
 use Rattle.lists.specs.Limits.{maxLines, maxEntries}
-use Rattle.lists.specs.Refusals.{Check, check, first}
+use Rattle.lists.specs.Refusals.{Check, check, first, passes}
 use Rattle.lists.specs.declared.Verdict.{Verdict}
 use Rattle.lists.specs.declared.Verdict.the-variants.{Accepted, Refused as Refuses}
 use Rattle.sheet.specs.Sheet.{sheetLines}
 use Rattle.sheet.specs.declared.Reading.{Reading}
 use Rattle.sheet.specs.declared.Reading.the-variants.{Lines, Refused}
-use Rattle.grid.specs.Grid.{shownLine, entriesOf, rowEnds}
+use Rattle.cells.specs.Cells as cells
+use Rattle.grid.specs.Grid.{shownLine, gridOf, columnsOf, entriesOf, rowEnds, tableChecks}
+use Rattle.grid.specs.declared.Judged.{Judged}
+use Rattle.grid.specs.declared.Judged.the-variants.{Grid as Shaped, Refused as Unshaped}
 use Rattle.estimates.specs.Estimates.{estimates}
+use Rattle.arranging.specs.Tables.{GridHeld}
 use Rattle.tables.specs.Calls.{wrapCheck, settingsCheck, anyShorter, rowsAt, columnsAt}
 use Rattle.tables.specs.Answers.{ifPasses, sizeOf, leastOf, prefixOf, firstOf, spanOf, rowLine}
 use Rattle.tables.specs.declared.Estimated.{Estimated}
@@ -66,6 +70,11 @@ pub record EstimatesFound (cs : List Check) (s : List ℕ) (wrap : ℕ) (r : Est
   pub leasts : take (measuredCount r) least ≡ ifPasses cs (map leastOf (estimates wrap (sheetLines s)))
   pub prefixes : take (measuredCount r) prefix ≡ ifPasses cs (map prefixOf (estimates wrap (sheetLines s)))
 
+-- a judged table in the words of `grid`; its line is the refusal's
+unfoldable pub shapedIn : ℕ → Judged → Gridded
+shapedIn line (Shaped rows entries columns) = Grid rows entries columns
+shapedIn line (Unshaped number) = NoGrid number line
+
 -- how many entries and rows a grid has
 unfoldable pub entryTotal : Gridded → ℕ
 entryTotal (Grid rows entries columns) = entries
@@ -75,13 +84,18 @@ unfoldable pub rowTotal : Gridded → ℕ
 rowTotal (Grid rows entries columns) = rows
 rowTotal (NoGrid number line) = 0
 
--- the slices have the places of a table's entries, and of its rows
+-- the lent buffers have the places of a table's entries, and of its rows
 pub record GridRoom (cell first′ span row end : List ℕ) : Type 0 where
-  pub cell-room : length cell ≡ maxEntries
-  pub first-room : length first′ ≡ maxEntries
-  pub span-room : length span ≡ maxEntries
-  pub row-room : length row ≡ maxLines
-  pub end-room : length end ≡ maxLines
+  pub cell-room : maxEntries ≤ length cell
+  pub first-room : maxEntries ≤ length first′
+  pub span-room : maxEntries ≤ length span
+  pub row-room : maxLines ≤ length row
+  pub end-room : maxLines ≤ length end
+
+-- the grid of the table in a line of n lines, or the first refusal that applies to it
+pub record GridAt (table : List cells.Row) (line n : ℕ) (r : Gridded) (cell first′ span row end : List ℕ) : Type 0 where
+  pub answer : r ≡ first NoGrid (Grid (length (gridOf table)) (length (entriesOf (gridOf table))) (columnsOf table)) (tableChecks line table)
+  pub held : passes (tableChecks line table) ≡ true → GridHeld line n (gridOf table) (columnsOf table) cell first′ span row end
 
 -- the grid found, or the first refusal; its entries and rows stand in the first places
 pub record GridFound (cs : List Check) (s : List ℕ) (line : ℕ) (r : Gridded) (cell first′ span row end : List ℕ) : Type 0 where

@@ -1,7 +1,6 @@
 pub mod Calls
 pub mod Answers
 pub mod Inner
-pub mod Tables
 pub mod Layouts
 pub mod Cases
 pub mod Sheets

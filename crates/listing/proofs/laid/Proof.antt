@@ -46,22 +46,11 @@ slice-aggregate-layouts-13 c = search needs
 slice-aggregate-layouts-14 : tie.Need-slice-aggregate-layouts-14
 slice-aggregate-layouts-14 c = search needs
 
-slice-aggregate-layouts-15 : tie.Need-slice-aggregate-layouts-15
-slice-aggregate-layouts-15 c = search needs
-
-slice-aggregate-layouts-16 : tie.Need-slice-aggregate-layouts-16
-slice-aggregate-layouts-16 c = search needs
-
-slice-aggregate-layouts-17 : tie.Need-slice-aggregate-layouts-17
-slice-aggregate-layouts-17 c = search needs
-
-slice-aggregate-layouts-18 : tie.Need-slice-aggregate-layouts-18
-slice-aggregate-layouts-18 c = search needs
-
 layouts-requires : tie.Need-layouts-requires
 layouts-requires c κs =
-    let p = (c .before .before .before .before .before .before .before .before .before .before .before .before .before .before .before .before .before .before .before .before .before .before .before .before .before .before) .pre in
-    let few = p .1 .1 .1 .0 .short in (
+    let p = (c .before .before .before .before .before .before .before .before .before .before .before .before .before .before .before .before .before .before .before .before .before .before .before .before .before .before .before .before .before .before) .pre in
+    let few = p .1 .1 .1 .0 .short in
+    let lent = p .1 .1 .1 .1 .1 in (
       p .0,
       (
         p .1 .0,
@@ -70,23 +59,23 @@ layouts-requires c κs =
           (
             p .1 .1 .1 .0,
             (
-              p .1 .1 .1 .1,
+              p .1 .1 .1 .1 .0,
               (
                 record {
-                  wide-room = omega arith;
-                  line-room = omega arith;
-                  first-room = omega arith;
-                  span-room = omega arith;
-                  cell-rows-room = omega arith;
-                  cell-end-room = omega arith;
-                  left-room = omega arith;
-                  hang-at-room = omega arith;
-                  hang-room = omega arith;
-                  next-left-room = omega arith;
-                  next-at-room = omega arith;
-                  next-wide-room = omega arith;
-                  row-room = omega arith;
-                  end-room = omega arith;
+                  wide-room = lent .wide-room;
+                  line-room = lent .cell-room;
+                  first-room = lent .first-room;
+                  span-room = lent .span-room;
+                  cell-rows-room = few;
+                  cell-end-room = few;
+                  left-room = few;
+                  hang-at-room = few;
+                  hang-room = few;
+                  next-left-room = few;
+                  next-at-room = few;
+                  next-wide-room = few;
+                  row-room = few;
+                  end-room = few;
                 },
                 record { sizes-room = omega arith; leasts-room = omega arith; column-room = omega arith; wide-room = omega arith },
               ),
@@ -97,10 +86,22 @@ layouts-requires c κs =
     )
 
 same-length : tie.Need-same-length
-same-length c = search needs
+same-length c = (c .before .before .before .before .before .before .before .before .before .before .before .before .before .before .before .before .before .before .before .before .before .before .before .before) .layouts .kept .0
+
+same-length-2 : tie.Need-same-length-2
+same-length-2 c = (c .before .before .before .before .before .before .before .before .before .before .before .before .before .before .before .before .before .before .before .before .before .before .before .before) .layouts .kept .1 .1 .1 .1 .1 .1 .1 .1 .1 .1 .1 .1 .1 .1 .1 .1 .1 .0
+
+same-length-3 : tie.Need-same-length-3
+same-length-3 c = (c .before .before .before .before .before .before .before .before .before .before .before .before .before .before .before .before .before .before .before .before .before .before .before .before) .layouts .kept .1 .1 .1 .1 .1 .1 .1 .1 .1 .1 .1 .1 .1 .1 .1 .1 .1 .1 .0
+
+same-length-4 : tie.Need-same-length-4
+same-length-4 c = (c .before .before .before .before .before .before .before .before .before .before .before .before .before .before .before .before .before .before .before .before .before .before .before .before) .layouts .kept .1 .1 .1 .1 .1 .1 .1 .1 .1 .1 .1 .1 .1 .1 .1 .1 .1 .1 .1 .0
+
+same-length-5 : tie.Need-same-length-5
+same-length-5 c = (c .before .before .before .before .before .before .before .before .before .before .before .before .before .before .before .before .before .before .before .before .before .before .before .before) .layouts .kept .1 .1 .1 .1 .1 .1 .1 .1 .1 .1 .1 .1 .1 .1 .1 .1 .1 .1 .1 .1 .1 .1 .1 .1 .1 .0
 
 returns : tie.Need-returns
-returns c = search needs
+returns c = (c .before .before .before .before .before .before .before .before .before .before .before .before .before .before .before .before .before .before .before .before .before .before .before .before) .layouts .ensures
 
 pub laid-spec : {M : Type 1} → statement M
 laid-spec =
@@ -120,10 +121,10 @@ laid-spec =
     slice-aggregate-layouts-12
     slice-aggregate-layouts-13
     slice-aggregate-layouts-14
-    slice-aggregate-layouts-15
-    slice-aggregate-layouts-16
-    slice-aggregate-layouts-17
-    slice-aggregate-layouts-18
     layouts-requires
     same-length
+    same-length-2
+    same-length-3
+    same-length-4
+    same-length-5
     returns)

@@ -1,89 +1,72 @@
--- `tables::estimates` meets its contract: what is found is copied into the lent buffers, which are long enough where there is something to
--- copy. Assumes nothing.
+-- `tables::estimates` meets its contract: what is found stays in the front of the lent buffers, which are long enough where something is
+-- found. Assumes nothing.
+use mathlib.Core.Path.{_∙_}
 use native.Mathlib.Omega.{arith}
-use Rattle.tables.proofs.Measuring.{rooms, answered}
 use borrow.Author.Needs.{needs}
+use Rattle.tables.proofs.Measuring.{figures-fit, rooms, answered}
 use Rattle.tables.proofs.estimates.Statement.{statement}
 use Rattle.tables.proofs.estimates.Tie as tie
+
+-- the ways back to the calls
+abbrev finds : tie.After-slice-known9 → tie.After-find-estimates
+finds c = (c .before .before .before .before .before .before .before .before .before .before .before .before .before .before .before .before .before .before .before)
+
+abbrev asks : tie.After-find-estimates → tie.After-of-estimates
+asks c = (c .before .before .before .before)
 
 of-estimates-requires : tie.Need-of-estimates-requires
 of-estimates-requires c κs = search needs
 
-slice-aggregate-find-estimates : tie.Need-slice-aggregate-find-estimates
-slice-aggregate-find-estimates c = search needs
-
-slice-aggregate-find-estimates-2 : tie.Need-slice-aggregate-find-estimates-2
-slice-aggregate-find-estimates-2 c = search needs
-
-slice-aggregate-find-estimates-3 : tie.Need-slice-aggregate-find-estimates-3
-slice-aggregate-find-estimates-3 c = search needs
-
 find-estimates-requires : tie.Need-find-estimates-requires
-find-estimates-requires c κs = search needs
+find-estimates-requires c κs = figures-fit ((c .before .before .before .before .before .before .before .before) .args .wrap) _ _ _ _ ((c .before .before .before) .of-estimates .ensures)
 
 measured-count-requires : tie.Need-measured-count-requires
 measured-count-requires c κs = search needs
 
-slice-aggregate-copy-out : tie.Need-slice-aggregate-copy-out
-slice-aggregate-copy-out c = search needs
+keep-front-requires : tie.Need-keep-front-requires
+keep-front-requires c κs =
+    let f = (c .before .before .before .before .before .before .before .before) in
+    let room = rooms (asks f .of-estimates .ensures) (f .find-estimates .ensures) in
+    omega (arith, room .0, (c .before) .measured-count .ensures, f .find-estimates .kept .1 .1 .1 .0)
 
-copy-out-requires : tie.Need-copy-out-requires
-copy-out-requires c κs =
-    let m = (c .before .before) .measured-count .ensures in
-    let found = (c .before .before .before .before .before .before) .find-estimates .ensures in
-    let room = rooms ((c .before .before .before .before .before .before .before .before .before .before) .of-estimates .ensures) found in
-    (omega (arith, found .few), omega (arith, room .0))
+keep-front-requires-2 : tie.Need-keep-front-requires-2
+keep-front-requires-2 c κs =
+    let f = (c .before .before .before .before .before .before .before .before .before .before .before .before) in
+    let room = rooms (asks f .of-estimates .ensures) (f .find-estimates .ensures) in
+    omega (arith, room .1, (c .before .before .before .before .before) .measured-count .ensures, f .find-estimates .kept .1 .1 .1 .1 .0)
 
-slice-aggregate-copy-out-2 : tie.Need-slice-aggregate-copy-out-2
-slice-aggregate-copy-out-2 c = search needs
-
-copy-out-requires-2 : tie.Need-copy-out-requires-2
-copy-out-requires-2 c κs =
-    let m = (c .before .before .before .before .before .before .before) .measured-count .ensures in
-    let found = (c .before .before .before .before .before .before .before .before .before .before .before) .find-estimates .ensures in
-    let room = rooms ((c .before .before .before .before .before .before .before .before .before .before .before .before .before .before .before) .of-estimates .ensures) found in
-    (omega (arith, found .few), omega (arith, room .1))
-
-slice-aggregate-copy-out-3 : tie.Need-slice-aggregate-copy-out-3
-slice-aggregate-copy-out-3 c = search needs
-
-copy-out-requires-3 : tie.Need-copy-out-requires-3
-copy-out-requires-3 c κs =
-    let m = (c .before .before .before .before .before .before .before .before .before .before .before .before) .measured-count .ensures in
-    let found = (c .before .before .before .before .before .before .before .before .before .before .before .before .before .before .before .before) .find-estimates .ensures in
-    let room = rooms ((c .before .before .before .before .before .before .before .before .before .before .before .before .before .before .before .before .before .before .before .before) .of-estimates .ensures) found in
-    (omega (arith, found .few), omega (arith, room .2))
+keep-front-requires-3 : tie.Need-keep-front-requires-3
+keep-front-requires-3 c κs =
+    let f = (c .before .before .before .before .before .before .before .before .before .before .before .before .before .before .before .before) in
+    let room = rooms (asks f .of-estimates .ensures) (f .find-estimates .ensures) in
+    omega (arith, room .2, (c .before .before .before .before .before .before .before .before .before) .measured-count .ensures, f .find-estimates .kept .1 .1 .1 .1 .1 .0)
 
 same-length : tie.Need-same-length
-same-length c = search needs
+same-length c = (c .before .before .before .before .before .before .before .before .before .before) .keep-front .kept .0 ∙ finds c .find-estimates .kept .1 .1 .1 .0
 
 same-length-2 : tie.Need-same-length-2
-same-length-2 c = search needs
+same-length-2 c = (c .before .before .before .before .before .before) .keep-front2 .kept .0 ∙ finds c .find-estimates .kept .1 .1 .1 .1 .0
 
 same-length-3 : tie.Need-same-length-3
-same-length-3 c = search needs
+same-length-3 c = (c .before .before) .keep-front3 .kept .0 ∙ finds c .find-estimates .kept .1 .1 .1 .1 .1 .0
 
 returns : tie.Need-returns
 returns c =
-    answered ((c .before .before .before .before .before .before .before .before .before .before .before .before .before .before .before .before .before .before .before .before .before .before .before) .of-estimates .ensures) ((c .before .before .before .before .before .before .before .before .before .before .before .before .before .before .before .before .before .before .before) .find-estimates .ensures) ((c .before .before .before .before .before .before .before .before .before .before .before .before .before .before .before) .measured-count .ensures)
-    ((c .before .before .before .before .before .before .before .before .before .before .before .before) .copy-out .ensures) ((c .before .before .before .before .before .before .before) .copy-out2 .ensures) ((c .before .before) .copy-out3 .ensures)
+    let f = finds c in
+    answered (asks f .of-estimates .ensures) (f .find-estimates .ensures) ((c .before .before .before .before .before .before .before .before .before .before .before .before) .measured-count .ensures)
+    (f .find-estimates .kept .1 .1 .1 .0) (f .find-estimates .kept .1 .1 .1 .1 .0) (f .find-estimates .kept .1 .1 .1 .1 .1 .0)
+    ((c .before .before .before .before .before .before .before .before .before .before) .keep-front .ensures) ((c .before .before .before .before .before .before) .keep-front2 .ensures) ((c .before .before) .keep-front3 .ensures)
 
 pub estimates-spec : {M : Type 1} → statement M
 estimates-spec =
     tie.close
     (tie.spec
     of-estimates-requires
-    slice-aggregate-find-estimates
-    slice-aggregate-find-estimates-2
-    slice-aggregate-find-estimates-3
     find-estimates-requires
     measured-count-requires
-    slice-aggregate-copy-out
-    copy-out-requires
-    slice-aggregate-copy-out-2
-    copy-out-requires-2
-    slice-aggregate-copy-out-3
-    copy-out-requires-3
+    keep-front-requires
+    keep-front-requires-2
+    keep-front-requires-3
     same-length
     same-length-2
     same-length-3
