@@ -1,19 +1,18 @@
 -- The answers of the calls, and what stands in the lent buffers afterwards, refused calls included: the figures, then zeros.
 -- These are definitions; nothing is assumed.
 use mathlib.Core.Path.{_≡_}
-use mathlib.Core.Bool.{true, cond}
-use mathlib.Core.List.{List, [], map}
+use mathlib.Core.Bool.{true}
+use mathlib.Core.List.{List, map}
 use Prim.Native.Nat.{ℕ}
 use lib.ListN.{length}
 use Rattle.lists.specs.Lists.{padded}
 use Rattle.lists.specs.Refusals.{Check, first, passes}
-use Rattle.text.specs.declared.Estimate.{Estimate}
 use Rattle.sheet.specs.Sheet.{sheetLines}
-use Rattle.grid.specs.Grid.{Entry, GridRow, shownLine, entriesOf, rowEnds}
+use Rattle.grid.specs.Grid.{shownLine, entriesOf, rowEnds}
 use Rattle.estimates.specs.Estimates.{estimates}
-use Rattle.placing.specs.Place.{Placed}
 use Rattle.placing.specs.Promise.{Promised}
-use Rattle.tables.specs.Calls.{estimatesChecks, gridChecks, layoutChecks, rowsAt, columnsAt, boxesAt, wayAt, widthsAt, widthAt, placesAt}
+use Rattle.finding.specs.Figures.{ifPasses, sizeOf, leastOf, prefixOf, firstOf, spanOf, rowLine, xOf, widthOf, rowsAt, columnsAt, boxesAt, wayAt, widthsAt, widthAt, placesAt}
+use Rattle.tables.specs.Calls.{estimatesChecks, gridChecks, layoutChecks}
 use Rattle.tables.specs.declared.Estimated.{Estimated}
 use Rattle.tables.specs.declared.Gridded.{Gridded}
 use Rattle.tables.specs.declared.LaidOut.{LaidOut}
@@ -21,22 +20,9 @@ use Rattle.tables.specs.declared.Estimated.the-variants as estimated
 use Rattle.tables.specs.declared.Gridded.the-variants as gridded
 use Rattle.tables.specs.declared.LaidOut.the-variants as laidOut
 
--- the figures of an accepted call; none if it is refused
-abbrev pub ifPasses : List Check → List ℕ → List ℕ
-ifPasses cs xs = cond (passes cs) xs []
-
 -- what a lent buffer of these places holds afterwards
 abbrev pub leaves : List Check → List ℕ → List ℕ → List ℕ
 leaves cs buffer figures = padded (length buffer) (ifPasses cs figures)
-
-abbrev pub sizeOf : Estimate → ℕ
-sizeOf e = e .size
-
-abbrev pub leastOf : Estimate → ℕ
-leastOf e = e .least
-
-abbrev pub prefixOf : Estimate → ℕ
-prefixOf e = e .prefix
 
 -- `estimates`
 unfoldable pub estimatedOf : List ℕ → ℕ → List ℕ → Estimated
@@ -48,15 +34,6 @@ pub record EstimatesAnswer (s : List ℕ) (wrap : ℕ) (lines : List ℕ) (size�
   pub sizes : size ≡ leaves (estimatesChecks s wrap lines) size₀ (map sizeOf (estimates wrap (sheetLines s)))
   pub leasts : least ≡ leaves (estimatesChecks s wrap lines) least₀ (map leastOf (estimates wrap (sheetLines s)))
   pub prefixes : prefix ≡ leaves (estimatesChecks s wrap lines) prefix₀ (map prefixOf (estimates wrap (sheetLines s)))
-
-abbrev pub firstOf : Entry → ℕ
-firstOf e = e .first
-
-abbrev pub spanOf : Entry → ℕ
-spanOf e = e .span
-
-abbrev pub rowLine : GridRow → ℕ
-rowLine r = r .line
 
 -- `grid`
 unfoldable pub griddedOf : List ℕ → ℕ → List ℕ → List ℕ → Gridded
@@ -70,12 +47,6 @@ pub record GridAnswer (s : List ℕ) (line : ℕ) (entries rows : List ℕ) (cel
   pub spans : span ≡ leaves (gridChecks s line entries rows) span₀ (map spanOf (entriesOf (rowsAt s line)))
   pub row-lines : row ≡ leaves (gridChecks s line entries rows) row₀ (map rowLine (rowsAt s line))
   pub row-ends : end ≡ leaves (gridChecks s line entries rows) end₀ (rowEnds 0 (rowsAt s line))
-
-abbrev pub xOf : Placed → ℕ
-xOf p = p .x
-
-abbrev pub widthOf : Placed → ℕ
-widthOf p = p .width
 
 -- `layout`
 unfoldable pub laidOutOf : List ℕ → ℕ → ℕ → ℕ → ℕ → List ℕ → List ℕ → LaidOut

@@ -29,7 +29,8 @@ use Rattle.widths.specs.Widths.{wayOf, finalWidths, nonzero, tableWidth}
 use Rattle.placing.specs.Place.{at, placeSide, placeDown, placeRow, placeRows}
 use Rattle.lists.specs.declared.Verdict.the-variants.{Accepted, Refused}
 use Rattle.widths.specs.declared.Way.the-variants.{Sideways, Down}
-use Rattle.tables.specs.Calls.{checkChecks, columnsAt, wayAt, widthsAt, widthAt, placesAt}
+use Rattle.finding.specs.Figures.{columnsAt, wayAt, widthsAt, widthAt, placesAt}
+use Rattle.tables.specs.Calls.{checkChecks}
 
 -- the example: a cell `abcdefghij` beside a cell `ab`, wrap 3, width 9
 abbrev pub example : List ℕ

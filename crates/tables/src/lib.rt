@@ -1,12 +1,8 @@
-// The public calls. Each asks its arguments first; then it works in the lent buffers and in arrays of its own, and in the end it clears what is
+// The public calls. Each asks its arguments first; then what is found in the sheet stands in the lent buffers, and in the end it clears what is
 // no figure. A refused call clears all.
 mod arguments; // what settings and lengths alone are refused for
-mod checking; // whether a sheet is accepted
-mod estimating; // the estimates of all lines
-mod grids; // the grid of one table
-mod layouts; // the layout of one table
-mod rooms; // small and large sheets
-mod shapes; // the grid of one table, from lines that were read
+mod asking; // what is found in the sheet, unless the arguments are refused
+mod telling; // what is found, in the words of the calls
 
 ghost use mathlib.Core.Path.{_≡_};
 ghost use mathlib.Core.List.{[], _∷_};
@@ -46,10 +42,8 @@ pub enum LaidOut {
 pub fn check(sheet: &[u8]) -> Verdict
     ensures { λ r. ⌜ r ≡ verdictOf (checkChecks (now (sheet .entry))) ⌝ }
 {
-    if rooms::is_small(sheet) {
-        return checking::check_small(sheet);
-    }
-    checking::check_large(sheet)
+    let read = finding::reading(sheet);
+    telling::verdict(read)
 }
 
 // The size, the least width and the prefix of every line of a sheet.
@@ -64,12 +58,12 @@ pub fn estimates(
         (now (size .entry)) (now (least .entry)) (now (prefix .entry)) r (now (size .exit)) (now (least .exit)) (now (prefix .exit)) ⌝ }
 {
     let refusal = arguments::of_estimates(wrap, size.len(), least.len(), prefix.len());
-    let answer = estimating::find_estimates(sheet, wrap, refusal, size, least, prefix);
-    let n = estimating::measured_count(answer);
+    let read = asking::find_estimates(sheet, wrap, refusal, size, least, prefix);
+    let n = telling::line_count(read);
     lists::keep_front(size, n);
     lists::keep_front(least, n);
     lists::keep_front(prefix, n);
-    answer
+    telling::measured(read)
 }
 
 // The grid of the table in a line: the line, the first column and the span of each entry, and the line and the end of each row.
@@ -94,15 +88,15 @@ pub fn grid(
         row.len(),
         row_end.len(),
     );
-    let answer = grids::find_grid(sheet, line, refusal, cell, first, span, row, row_end);
-    let n = grids::entry_count(answer);
-    let m = grids::row_count(answer);
+    let shape = asking::find_grid(sheet, line, refusal, cell, first, span, row, row_end);
+    let n = telling::entry_count(shape);
+    let m = telling::row_count(shape);
     lists::keep_front(cell, n);
     lists::keep_front(first, n);
     lists::keep_front(span, n);
     lists::keep_front(row, m);
     lists::keep_front(row_end, m);
-    answer
+    telling::gridded(shape)
 }
 
 // The layout of the table in a line: the width of each column, and the place and the width of each entry.
@@ -121,11 +115,11 @@ pub fn layout(
         (now (column .entry)) (now (x .entry)) (now (wide .entry)) r (now (column .exit)) (now (x .exit)) (now (wide .exit)) ⌝ }
 {
     let refusal = arguments::of_layout(wrap, raw, width, column.len(), x.len(), wide.len());
-    let found = layouts::find_layout(sheet, line, wrap, raw, width, refusal, column, x, wide);
-    let n = layouts::column_count(found);
-    let m = layouts::place_count(found);
+    let found = asking::find_layout(sheet, line, wrap, raw, width, refusal, column, x, wide);
+    let n = telling::column_count(found);
+    let m = telling::place_count(found);
     lists::keep_front(column, n);
     lists::keep_front(x, m);
     lists::keep_front(wide, m);
-    layouts::laid_out(found)
+    telling::laid_out(found)
 }

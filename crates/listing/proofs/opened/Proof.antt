@@ -4,7 +4,7 @@ use mathlib.Core.Path.{sym}
 use native.Mathlib.Omega.{arith}
 use lib.Seq.{length-take-le}
 use Rattle.opening.proofs.Slices.{room-most}
-use Rattle.tables.proofs.Measured.{sheet-few, sheet-kinds, sheet-lined, sheet-measured}
+use Rattle.finding.proofs.Measured.{sheet-few, sheet-kinds, sheet-lined, sheet-measured}
 use borrow.Author.Needs.{needs}
 use Rattle.listing.proofs.opened.Statement.{statement}
 use Rattle.listing.proofs.opened.Tie as tie

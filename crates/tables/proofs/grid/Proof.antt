@@ -1,21 +1,11 @@
--- `tables::grid` meets its contract: the figures that are found stand in the front of the lent buffers, which are long enough where there are some,
+-- `tables::grid` meets its contract: what is found stands in the front of the lent buffers, which are long enough where something is found,
 -- and the rest of each is cleared. Assumes nothing.
 use mathlib.Core.Path.{_∙_}
 use native.Mathlib.Omega.{arith}
-use borrow.Author.Needs.{needs}
 use Rattle.tables.proofs.Gridding.{grid-fit, grid-rooms, grid-answered}
+use borrow.Author.Needs.{needs}
 use Rattle.tables.proofs.grid.Statement.{statement}
 use Rattle.tables.proofs.grid.Tie as tie
-
--- the ways back: from the end to the counts, from these to what was found, and from that to the arguments
-abbrev counts : tie.After-slice-known15 → tie.After-row-count
-counts c = c .before .before .before .before .before .before .before .before .before .before .before .before .before .before .before .before .before .before .before .before
-
-abbrev found : tie.After-row-count → tie.After-find-grid
-found c = c .before .before .before .before .before .before .before .before .before .before .before .before
-
-abbrev asked : tie.After-find-grid → tie.After-of-grid
-asked c = c .before .before .before .before .before .before
 
 of-grid-requires : tie.Need-of-grid-requires
 of-grid-requires c κs = search needs
@@ -31,57 +21,58 @@ row-count-requires c κs = search needs
 
 keep-front-requires : tie.Need-keep-front-requires
 keep-front-requires c κs =
-    let t = c .before in
-    let f = found t in
-    omega (arith, t .before .entry-count .ensures, grid-rooms (asked f .of-grid .ensures) (f .find-grid .ensures) .0 .0, f .find-grid .kept .1 .1 .1 .0)
+    let n = (c .before .before) .entry-count .ensures in
+    let f = (c .before .before .before .before .before .before .before .before .before .before .before .before .before) .find-grid in
+    omega (arith, grid-rooms ((c .before .before .before .before .before .before .before .before .before .before .before .before .before .before .before .before .before .before .before) .of-grid .ensures) (f .ensures) .0 .0, f .kept .1 .1 .1 .0)
 
 keep-front-requires-2 : tie.Need-keep-front-requires-2
 keep-front-requires-2 c κs =
-    let t = c .before .before .before .before .before in
-    let f = found t in
-    omega (arith, t .before .entry-count .ensures, grid-rooms (asked f .of-grid .ensures) (f .find-grid .ensures) .0 .1, f .find-grid .kept .1 .1 .1 .1 .0)
+    let n = (c .before .before .before .before .before .before) .entry-count .ensures in
+    let f = (c .before .before .before .before .before .before .before .before .before .before .before .before .before .before .before .before .before) .find-grid in
+    omega (arith, grid-rooms ((c .before .before .before .before .before .before .before .before .before .before .before .before .before .before .before .before .before .before .before .before .before .before .before) .of-grid .ensures) (f .ensures) .0 .1, f .kept .1 .1 .1 .1 .0)
 
 keep-front-requires-3 : tie.Need-keep-front-requires-3
 keep-front-requires-3 c κs =
-    let t = c .before .before .before .before .before .before .before .before .before in
-    let f = found t in
-    omega (arith, t .before .entry-count .ensures, grid-rooms (asked f .of-grid .ensures) (f .find-grid .ensures) .0 .2, f .find-grid .kept .1 .1 .1 .1 .1 .0)
+    let n = (c .before .before .before .before .before .before .before .before .before .before) .entry-count .ensures in
+    let f = (c .before .before .before .before .before .before .before .before .before .before .before .before .before .before .before .before .before .before .before .before .before) .find-grid in
+    omega (arith, grid-rooms ((c .before .before .before .before .before .before .before .before .before .before .before .before .before .before .before .before .before .before .before .before .before .before .before .before .before .before .before) .of-grid .ensures) (f .ensures) .0 .2, f .kept .1 .1 .1 .1 .1 .0)
 
 keep-front-requires-4 : tie.Need-keep-front-requires-4
 keep-front-requires-4 c κs =
-    let t = c .before .before .before .before .before .before .before .before .before .before .before .before .before in
-    let f = found t in
-    omega (arith, t .row-count .ensures, grid-rooms (asked f .of-grid .ensures) (f .find-grid .ensures) .1 .0, f .find-grid .kept .1 .1 .1 .1 .1 .1 .0)
+    let n = (c .before .before .before .before .before .before .before .before .before .before .before .before .before) .row-count .ensures in
+    let f = (c .before .before .before .before .before .before .before .before .before .before .before .before .before .before .before .before .before .before .before .before .before .before .before .before .before) .find-grid in
+    omega (arith, grid-rooms ((c .before .before .before .before .before .before .before .before .before .before .before .before .before .before .before .before .before .before .before .before .before .before .before .before .before .before .before .before .before .before .before) .of-grid .ensures) (f .ensures) .1 .0, f .kept .1 .1 .1 .1 .1 .1 .0)
 
 keep-front-requires-5 : tie.Need-keep-front-requires-5
 keep-front-requires-5 c κs =
-    let t = c .before .before .before .before .before .before .before .before .before .before .before .before .before .before .before .before .before in
-    let f = found t in
-    omega (arith, t .row-count .ensures, grid-rooms (asked f .of-grid .ensures) (f .find-grid .ensures) .1 .1, f .find-grid .kept .1 .1 .1 .1 .1 .1 .1 .0)
+    let n = (c .before .before .before .before .before .before .before .before .before .before .before .before .before .before .before .before .before) .row-count .ensures in
+    let f = (c .before .before .before .before .before .before .before .before .before .before .before .before .before .before .before .before .before .before .before .before .before .before .before .before .before .before .before .before .before) .find-grid in
+    omega (arith, grid-rooms ((c .before .before .before .before .before .before .before .before .before .before .before .before .before .before .before .before .before .before .before .before .before .before .before .before .before .before .before .before .before .before .before .before .before .before .before) .of-grid .ensures) (f .ensures) .1 .1, f .kept .1 .1 .1 .1 .1 .1 .1 .0)
+
+gridded-requires : tie.Need-gridded-requires
+gridded-requires c κs = search needs
 
 same-length : tie.Need-same-length
-same-length c = (c .before .before .before .before .before .before .before .before .before .before .before .before .before .before .before .before .before .before) .keep-front .kept .0 ∙ found (counts c) .find-grid .kept .1 .1 .1 .0
+same-length c = (c .before .before .before .before .before .before .before .before .before .before .before .before .before .before .before .before .before .before .before) .keep-front .kept .0 ∙ (c .before .before .before .before .before .before .before .before .before .before .before .before .before .before .before .before .before .before .before .before .before .before .before .before .before .before .before .before .before .before .before .before .before) .find-grid .kept .1 .1 .1 .0
 
 same-length-2 : tie.Need-same-length-2
-same-length-2 c = (c .before .before .before .before .before .before .before .before .before .before .before .before .before .before) .keep-front2 .kept .0 ∙ found (counts c) .find-grid .kept .1 .1 .1 .1 .0
+same-length-2 c = (c .before .before .before .before .before .before .before .before .before .before .before .before .before .before .before) .keep-front2 .kept .0 ∙ (c .before .before .before .before .before .before .before .before .before .before .before .before .before .before .before .before .before .before .before .before .before .before .before .before .before .before .before .before .before .before .before .before .before) .find-grid .kept .1 .1 .1 .1 .0
 
 same-length-3 : tie.Need-same-length-3
-same-length-3 c = (c .before .before .before .before .before .before .before .before .before .before) .keep-front3 .kept .0 ∙ found (counts c) .find-grid .kept .1 .1 .1 .1 .1 .0
+same-length-3 c = (c .before .before .before .before .before .before .before .before .before .before .before) .keep-front3 .kept .0 ∙ (c .before .before .before .before .before .before .before .before .before .before .before .before .before .before .before .before .before .before .before .before .before .before .before .before .before .before .before .before .before .before .before .before .before) .find-grid .kept .1 .1 .1 .1 .1 .0
 
 same-length-4 : tie.Need-same-length-4
-same-length-4 c = (c .before .before .before .before .before .before) .keep-front4 .kept .0 ∙ found (counts c) .find-grid .kept .1 .1 .1 .1 .1 .1 .0
+same-length-4 c = (c .before .before .before .before .before .before .before) .keep-front4 .kept .0 ∙ (c .before .before .before .before .before .before .before .before .before .before .before .before .before .before .before .before .before .before .before .before .before .before .before .before .before .before .before .before .before .before .before .before .before) .find-grid .kept .1 .1 .1 .1 .1 .1 .0
 
 same-length-5 : tie.Need-same-length-5
-same-length-5 c = (c .before .before) .keep-front5 .kept .0 ∙ found (counts c) .find-grid .kept .1 .1 .1 .1 .1 .1 .1 .0
+same-length-5 c = (c .before .before .before) .keep-front5 .kept .0 ∙ (c .before .before .before .before .before .before .before .before .before .before .before .before .before .before .before .before .before .before .before .before .before .before .before .before .before .before .before .before .before .before .before .before .before) .find-grid .kept .1 .1 .1 .1 .1 .1 .1 .0
 
 returns : tie.Need-returns
 returns c =
-    let t = counts c in
-    let f = found t in
-    let k = f .find-grid .kept in
-    grid-answered (asked f .of-grid .ensures) (f .find-grid .ensures) (t .before .entry-count .ensures) (t .row-count .ensures)
-    (k .1 .1 .1 .0) (k .1 .1 .1 .1 .0) (k .1 .1 .1 .1 .1 .0) (k .1 .1 .1 .1 .1 .1 .0) (k .1 .1 .1 .1 .1 .1 .1 .0)
-    ((c .before .before .before .before .before .before .before .before .before .before .before .before .before .before .before .before .before .before) .keep-front .ensures) ((c .before .before .before .before .before .before .before .before .before .before .before .before .before .before) .keep-front2 .ensures) ((c .before .before .before .before .before .before .before .before .before .before) .keep-front3 .ensures) ((c .before .before .before .before .before .before) .keep-front4 .ensures) ((c .before .before) .keep-front5 .ensures)
+    let f = (c .before .before .before .before .before .before .before .before .before .before .before .before .before .before .before .before .before .before .before .before .before .before .before .before .before .before .before .before .before .before .before .before .before) .find-grid in
+    grid-answered ((c .before .before .before .before .before .before .before .before .before .before .before .before .before .before .before .before .before .before .before .before .before .before .before .before .before .before .before .before .before .before .before .before .before .before .before .before .before .before .before) .of-grid .ensures) (f .ensures) ((c) .gridded .ensures) ((c .before .before .before .before .before .before .before .before .before .before .before .before .before .before .before .before .before .before .before .before .before .before) .entry-count .ensures)
+    ((c .before .before .before .before .before .before .before .before .before .before .before .before .before .before .before .before .before .before .before .before .before) .row-count .ensures) (f .kept .1 .1 .1 .0) (f .kept .1 .1 .1 .1 .0) (f .kept .1 .1 .1 .1 .1 .0) (f .kept .1 .1 .1 .1 .1 .1 .0) (f .kept .1 .1 .1 .1 .1 .1 .1 .0)
+    ((c .before .before .before .before .before .before .before .before .before .before .before .before .before .before .before .before .before .before .before) .keep-front .ensures) ((c .before .before .before .before .before .before .before .before .before .before .before .before .before .before .before) .keep-front2 .ensures) ((c .before .before .before .before .before .before .before .before .before .before .before) .keep-front3 .ensures) ((c .before .before .before .before .before .before .before) .keep-front4 .ensures) ((c .before .before .before) .keep-front5 .ensures)
 
 pub grid-spec : {M : Type 1} → statement M
 grid-spec =
@@ -96,6 +87,7 @@ grid-spec =
     keep-front-requires-3
     keep-front-requires-4
     keep-front-requires-5
+    gridded-requires
     same-length
     same-length-2
     same-length-3

@@ -1,0 +1,8 @@
+-- Laws of what is found in a sheet, for the functions here and for the rooms above.
+pub mod Openings
+pub mod Lent
+pub mod Measured
+pub mod Measuring
+pub mod Asking
+pub mod Gridding
+pub mod Laying

@@ -1,0 +1,85 @@
+-- `finding::grids::grid_small` meets its contract: a small sheet asks for no more room than the short arrays have. Assumes nothing.
+use native.Mathlib.Omega.{arith}
+use borrow.Author.Needs.{needs}
+use Rattle.finding.proofs.grids.grid_small.Statement.{statement}
+use Rattle.finding.proofs.grids.grid_small.Tie as tie
+
+-- the way back from the call to the entry, and from the end to the call
+abbrev entry : tie.After-grid-in-arg5 → tie.Start
+entry c = c .before .before .before .before .before .before .before .before .before .before .before .before .before .before .before .before .before .before .before .before
+
+abbrev called : tie.After-slice-known10 → tie.After-grid-in
+called c = c .before .before .before .before .before .before .before .before .before .before .before .before .before .before .before .before .before .before .before
+
+slice-aggregate-grid-in : tie.Need-slice-aggregate-grid-in
+slice-aggregate-grid-in c = search needs
+
+slice-aggregate-grid-in-2 : tie.Need-slice-aggregate-grid-in-2
+slice-aggregate-grid-in-2 c = search needs
+
+slice-aggregate-grid-in-3 : tie.Need-slice-aggregate-grid-in-3
+slice-aggregate-grid-in-3 c = search needs
+
+slice-aggregate-grid-in-4 : tie.Need-slice-aggregate-grid-in-4
+slice-aggregate-grid-in-4 c = search needs
+
+slice-aggregate-grid-in-5 : tie.Need-slice-aggregate-grid-in-5
+slice-aggregate-grid-in-5 c = search needs
+
+slice-aggregate-grid-in-6 : tie.Need-slice-aggregate-grid-in-6
+slice-aggregate-grid-in-6 c = search needs
+
+slice-aggregate-grid-in-7 : tie.Need-slice-aggregate-grid-in-7
+slice-aggregate-grid-in-7 c = search needs
+
+slice-aggregate-grid-in-8 : tie.Need-slice-aggregate-grid-in-8
+slice-aggregate-grid-in-8 c = search needs
+
+slice-aggregate-grid-in-9 : tie.Need-slice-aggregate-grid-in-9
+slice-aggregate-grid-in-9 c = search needs
+
+grid-in-requires : tie.Need-grid-in-requires
+grid-in-requires c κs =
+    let few = entry c .pre .0 in (
+      record { depth-room = few; kind-room = few; number-room = few; cols-room = few; rows-room = few; own-room = few },
+      (record { first-room = few; span-room = few }, (omega arith, entry c .pre .1)),
+    )
+
+same-length : tie.Need-same-length
+same-length c = called c .grid-in .kept .1 .1 .1 .1 .1 .1 .1 .1 .1 .1 .1 .0
+
+same-length-2 : tie.Need-same-length-2
+same-length-2 c = called c .grid-in .kept .1 .1 .1 .1 .1 .1 .1 .1 .1 .1 .1 .1 .0
+
+same-length-3 : tie.Need-same-length-3
+same-length-3 c = called c .grid-in .kept .1 .1 .1 .1 .1 .1 .1 .1 .1 .1 .1 .1 .1 .0
+
+same-length-4 : tie.Need-same-length-4
+same-length-4 c = called c .grid-in .kept .1 .1 .1 .1 .1 .1 .1 .1 .1 .1 .1 .1 .1 .1 .0
+
+same-length-5 : tie.Need-same-length-5
+same-length-5 c = called c .grid-in .kept .1 .1 .1 .1 .1 .1 .1 .1 .1 .1 .1 .1 .1 .1 .1 .0
+
+returns : tie.Need-returns
+returns c = called c .grid-in .ensures
+
+pub grid-small-spec : {M : Type 1} → statement M
+grid-small-spec =
+    tie.close
+    (tie.spec
+    slice-aggregate-grid-in
+    slice-aggregate-grid-in-2
+    slice-aggregate-grid-in-3
+    slice-aggregate-grid-in-4
+    slice-aggregate-grid-in-5
+    slice-aggregate-grid-in-6
+    slice-aggregate-grid-in-7
+    slice-aggregate-grid-in-8
+    slice-aggregate-grid-in-9
+    grid-in-requires
+    same-length
+    same-length-2
+    same-length-3
+    same-length-4
+    same-length-5
+    returns)

@@ -1,0 +1,76 @@
+-- The figures of a sheet's tables and lines. These are definitions; nothing is assumed.
+use mathlib.Core.Bool.{cond}
+use mathlib.Core.List.{List, []}
+use Prim.Native.Nat.{ℕ, _+_, _-_}
+use lib.ListN.{drop}
+use Rattle.lists.specs.Refusals.{Check, passes}
+use Rattle.text.specs.declared.Estimate.{Estimate}
+use Rattle.sheet.specs.Sheet.{sheetLines}
+use Rattle.columns.specs.Boxes.{Box, flat}
+use Rattle.columns.specs.Columns as columns
+use Rattle.columns.specs.Columns.{largest}
+use Rattle.grid.specs.Grid.{Entry, GridRow, gridOf, columnsOf, tableRows}
+use Rattle.estimates.specs.Estimates.{measured, boxRows}
+use Rattle.widths.specs.Widths.{wayOf, finalWidths, tableWidth}
+use Rattle.widths.specs.declared.Way.{Way}
+use Rattle.placing.specs.Place.{Placed, placeRows}
+
+-- the figures where every check passes; else none
+abbrev pub ifPasses : List Check → List ℕ → List ℕ
+ifPasses cs xs = cond (passes cs) xs []
+
+-- of a line
+abbrev pub sizeOf : Estimate → ℕ
+sizeOf e = e .size
+
+abbrev pub leastOf : Estimate → ℕ
+leastOf e = e .least
+
+abbrev pub prefixOf : Estimate → ℕ
+prefixOf e = e .prefix
+
+-- of an entry, of a row, and of an entry's place
+abbrev pub firstOf : Entry → ℕ
+firstOf e = e .first
+
+abbrev pub spanOf : Entry → ℕ
+spanOf e = e .span
+
+abbrev pub rowLine : GridRow → ℕ
+rowLine r = r .line
+
+abbrev pub xOf : Placed → ℕ
+xOf p = p .x
+
+abbrev pub widthOf : Placed → ℕ
+widthOf p = p .width
+
+-- the grid of the table in a line of the sheet, and its columns
+abbrev pub rowsAt : List ℕ → ℕ → List GridRow
+rowsAt s line = gridOf (tableRows line (drop (line - 1) (sheetLines s)))
+
+abbrev pub columnsAt : List ℕ → ℕ → ℕ
+columnsAt s line = columnsOf (tableRows line (drop (line - 1) (sheetLines s)))
+
+-- its rows of boxes: the entries with their cells' estimates at this wrap
+abbrev pub boxesAt : List ℕ → ℕ → ℕ → List (List Box)
+boxesAt s line wrap = boxRows line (measured wrap (line + 1) (drop line (sheetLines s))) (rowsAt s line)
+
+-- the way, the final widths, the table's width and the places of the entries
+abbrev pub sizesAt : List ℕ → ℕ → ℕ → List ℕ
+sizesAt s line wrap = largest columns.sizeOf (flat (boxesAt s line wrap)) (columnsAt s line)
+
+abbrev pub leastsAt : List ℕ → ℕ → ℕ → List ℕ
+leastsAt s line wrap = largest columns.leastOf (flat (boxesAt s line wrap)) (columnsAt s line)
+
+abbrev pub wayAt : List ℕ → ℕ → ℕ → ℕ → ℕ → Way
+wayAt s line wrap raw width = wayOf raw width (leastsAt s line wrap)
+
+abbrev pub widthsAt : List ℕ → ℕ → ℕ → ℕ → ℕ → List ℕ
+widthsAt s line wrap raw width = finalWidths (wayAt s line wrap raw width) (sizesAt s line wrap) (leastsAt s line wrap) width
+
+abbrev pub widthAt : List ℕ → ℕ → ℕ → ℕ → ℕ → ℕ
+widthAt s line wrap raw width = tableWidth (wayAt s line wrap raw width) (widthsAt s line wrap raw width) width
+
+abbrev pub placesAt : List ℕ → ℕ → ℕ → ℕ → ℕ → List Placed
+placesAt s line wrap raw width = placeRows (wayAt s line wrap raw width) (widthsAt s line wrap raw width) width (boxesAt s line wrap)

@@ -1,0 +1,104 @@
+-- What is found in a sheet, where the checks pass or one of them refuses. These are definitions; nothing is assumed.
+use mathlib.Core.Path.{_≡_}
+use mathlib.Core.Bool.{true}
+use mathlib.Core.List.{List, map}
+use Prim.Native.Nat.{ℕ, _≤_}
+use lib.ListN.{length, take}
+use Rattle.lists.specs.Limits.{maxLines, maxEntries}
+use Rattle.lists.specs.Refusals.{Check, first, passes}
+use Rattle.sheet.specs.Sheet.{sheetLines}
+use Rattle.sheet.specs.declared.Reading.{Reading}
+use Rattle.sheet.specs.declared.Reading.the-variants.{Lines, Refused as NotRead}
+use Rattle.cells.specs.Cells as cells
+use Rattle.grid.specs.Grid.{shownLine, gridOf, columnsOf, entriesOf, rowEnds, tableChecks}
+use Rattle.grid.specs.declared.Judged.{Judged}
+use Rattle.grid.specs.declared.Judged.the-variants.{Grid as Shaped, Refused as Unshaped}
+use Rattle.estimates.specs.Estimates.{estimates}
+use Rattle.placing.specs.Promise.{Promised}
+use Rattle.arranging.specs.Tables.{GridHeld}
+use Rattle.arranging.specs.declared.Arranged.{Arranged}
+use Rattle.arranging.specs.declared.Arranged.the-variants.{Table, Refused}
+use Rattle.finding.specs.Figures.{ifPasses, sizeOf, leastOf, prefixOf, firstOf, spanOf, rowLine, xOf, widthOf, rowsAt, columnsAt, boxesAt, wayAt, widthsAt, widthAt, placesAt}
+use Rattle.finding.specs.declared.Shape.{Shape}
+use Rattle.finding.specs.declared.Shape.the-variants.{Grid, Refused as NoGrid}
+
+-- ---- the estimates of all lines
+
+unfoldable pub linesIn : Reading → ℕ
+linesIn (Lines n) = n
+linesIn (NotRead number line) = 0
+
+-- the estimates, or the first refusal; the figures stand in the first places
+pub record EstimatesFound (cs : List Check) (s : List ℕ) (wrap : ℕ) (r : Reading) (size least prefix : List ℕ) : Type 0 where
+  pub answer : r ≡ first NotRead (Lines (length (sheetLines s))) cs
+  pub few : linesIn r ≤ maxLines
+  pub sizes : take (linesIn r) size ≡ ifPasses cs (map sizeOf (estimates wrap (sheetLines s)))
+  pub leasts : take (linesIn r) least ≡ ifPasses cs (map leastOf (estimates wrap (sheetLines s)))
+  pub prefixes : take (linesIn r) prefix ≡ ifPasses cs (map prefixOf (estimates wrap (sheetLines s)))
+
+-- ---- the grid of one table
+
+-- a judged table; its line is the refusal's
+unfoldable pub shapedIn : ℕ → Judged → Shape
+shapedIn line (Shaped rows entries columns) = Grid rows entries columns
+shapedIn line (Unshaped number) = NoGrid number line
+
+-- how many entries and rows a grid has
+unfoldable pub entryTotal : Shape → ℕ
+entryTotal (Grid rows entries columns) = entries
+entryTotal (NoGrid number line) = 0
+
+unfoldable pub rowTotal : Shape → ℕ
+rowTotal (Grid rows entries columns) = rows
+rowTotal (NoGrid number line) = 0
+
+-- the lent buffers have the places of a table's entries, and of its rows
+pub record GridRoom (cell first′ span row end : List ℕ) : Type 0 where
+  pub cell-room : maxEntries ≤ length cell
+  pub first-room : maxEntries ≤ length first′
+  pub span-room : maxEntries ≤ length span
+  pub row-room : maxLines ≤ length row
+  pub end-room : maxLines ≤ length end
+
+-- the grid of the table in a line of n lines, or the first refusal that applies to it
+pub record GridAt (table : List cells.Row) (line n : ℕ) (r : Shape) (cell first′ span row end : List ℕ) : Type 0 where
+  pub answer : r ≡ first NoGrid (Grid (length (gridOf table)) (length (entriesOf (gridOf table))) (columnsOf table)) (tableChecks line table)
+  pub held : passes (tableChecks line table) ≡ true → GridHeld line n (gridOf table) (columnsOf table) cell first′ span row end
+
+-- the grid found, or the first refusal; its entries and rows stand in the first places
+pub record GridFound (cs : List Check) (s : List ℕ) (line : ℕ) (r : Shape) (cell first′ span row end : List ℕ) : Type 0 where
+  pub answer : r ≡ first NoGrid (Grid (length (rowsAt s line)) (length (entriesOf (rowsAt s line))) (columnsAt s line)) cs
+  pub few-entries : entryTotal r ≤ maxEntries
+  pub few-rows : rowTotal r ≤ maxLines
+  pub cells : take (entryTotal r) cell ≡ ifPasses cs (map shownLine (entriesOf (rowsAt s line)))
+  pub firsts : take (entryTotal r) first′ ≡ ifPasses cs (map firstOf (entriesOf (rowsAt s line)))
+  pub spans : take (entryTotal r) span ≡ ifPasses cs (map spanOf (entriesOf (rowsAt s line)))
+  pub row-lines : take (rowTotal r) row ≡ ifPasses cs (map rowLine (rowsAt s line))
+  pub row-ends : take (rowTotal r) end ≡ ifPasses cs (rowEnds 0 (rowsAt s line))
+
+-- ---- the layout of one table
+
+-- how many columns and entries it has
+unfoldable pub columnTotal : Arranged → ℕ
+columnTotal (Table way rows entries columns width) = columns
+columnTotal (Refused number line) = 0
+
+unfoldable pub placeTotal : Arranged → ℕ
+placeTotal (Table way rows entries columns width) = entries
+placeTotal (Refused number line) = 0
+
+-- the lent buffers have the places of a table's columns, and of its entries
+pub record OutRoom (column x wide : List ℕ) : Type 0 where
+  pub column-room : maxLines ≤ length column
+  pub x-room : maxEntries ≤ length x
+  pub wide-room : maxEntries ≤ length wide
+
+-- the layout found, or the first refusal; its figures stand in the first places
+pub record LayoutFound (cs : List Check) (s : List ℕ) (line wrap raw width : ℕ) (r : Arranged) (column x wide : List ℕ) : Type 0 where
+  pub answer : r ≡ first Refused (Table (wayAt s line wrap raw width) (length (rowsAt s line)) (length (entriesOf (rowsAt s line))) (columnsAt s line) (widthAt s line wrap raw width)) cs
+  pub few-columns : columnTotal r ≤ maxLines
+  pub few-entries : placeTotal r ≤ maxEntries
+  pub widths : take (columnTotal r) column ≡ ifPasses cs (widthsAt s line wrap raw width)
+  pub xs : take (placeTotal r) x ≡ ifPasses cs (map xOf (placesAt s line wrap raw width))
+  pub wides : take (placeTotal r) wide ≡ ifPasses cs (map widthOf (placesAt s line wrap raw width))
+  pub promised : passes cs ≡ true → Promised (columnsAt s line) (boxesAt s line wrap) raw width (wayAt s line wrap raw width) (widthsAt s line wrap raw width)

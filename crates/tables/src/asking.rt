@@ -1,0 +1,83 @@
+// What is found in a sheet, unless the arguments are refused: refusal is what they cause, or 0. The lent buffers are long enough where it is 0.
+ghost use mathlib.Core.Path.{_≡_};
+ghost use mathlib.Core.Bool.{true, false};
+ghost use mathlib.Core.List.{_∷_};
+ghost use Prim.Native.Nat.{_≤_};
+ghost use Rattle.lists.specs.Limits.{maxLines, maxWidth};
+ghost use Rattle.opening.specs.Opening.{openChecks};
+ghost use Rattle.opening.specs.Opened.{FiguresRoom};
+ghost use Rattle.finding.specs.Found.{EstimatesFound, GridRoom, GridFound, OutRoom, LayoutFound};
+ghost use Rattle.tables.specs.Inner.{early};
+use arranging::Arranged;
+use finding::Shape;
+use sheet::Reading;
+
+// The estimates.
+pub fn find_estimates(
+    sheet: &[u8],
+    wrap: u32,
+    refusal: u32,
+    size: &mut [u32],
+    least: &mut [u32],
+    prefix: &mut [u32],
+) -> Reading
+    requires { ⌜ (refusal ≡ 0 → FiguresRoom maxLines (now size) (now least) (now prefix)) ⌝ }
+    ensures { λ r. ⌜ EstimatesFound (early refusal ∷ openChecks false (now (sheet .entry)) 0) (now (sheet .entry)) wrap r (now (size .exit)) (now (least .exit)) (now (prefix .exit)) ⌝ }
+{
+    if refusal != 0 {
+        return Reading::Refused {
+            number: refusal,
+            line: 0,
+        };
+    }
+    finding::estimates(sheet, wrap, size, least, prefix)
+}
+
+// The grid of the table in a line.
+pub fn find_grid(
+    sheet: &[u8],
+    line: u32,
+    refusal: u32,
+    cell: &mut [u32],
+    first: &mut [u32],
+    span: &mut [u32],
+    row: &mut [u32],
+    row_end: &mut [u32],
+) -> Shape
+    requires { ⌜ (refusal ≡ 0 → GridRoom (now cell) (now first) (now span) (now row) (now «row_end»)) ⌝ }
+    ensures { λ r. ⌜ GridFound (early refusal ∷ openChecks true (now (sheet .entry)) line) (now (sheet .entry)) line r
+        (now (cell .exit)) (now (first .exit)) (now (span .exit)) (now (row .exit)) (now («row_end» .exit)) ⌝ }
+{
+    if refusal != 0 {
+        return Shape::Refused {
+            number: refusal,
+            line: 0,
+        };
+    }
+    finding::grid(sheet, line, cell, first, span, row, row_end)
+}
+
+// The layout of the table in a line.
+pub fn find_layout(
+    sheet: &[u8],
+    line: u32,
+    wrap: u32,
+    raw: u32,
+    width: u32,
+    refusal: u32,
+    column: &mut [u32],
+    x: &mut [u32],
+    wide: &mut [u32],
+) -> Arranged
+    requires { ⌜ (refusal ≡ 0 → ((raw ≤ 1) × (width ≤ maxWidth)) × OutRoom (now column) (now x) (now wide)) ⌝ }
+    ensures { λ r. ⌜ LayoutFound (early refusal ∷ openChecks true (now (sheet .entry)) line) (now (sheet .entry)) line wrap raw width r
+        (now (column .exit)) (now (x .exit)) (now (wide .exit)) ⌝ }
+{
+    if refusal != 0 {
+        return Arranged::Refused {
+            number: refusal,
+            line: 0,
+        };
+    }
+    finding::layout(sheet, line, wrap, raw, width, column, x, wide)
+}
