@@ -11,24 +11,77 @@ use Rattle.lists.specs.Refusals.{first}
 use Rattle.columns.specs.Boxes.{rowsBy}
 use Rattle.cells.specs.Cells as cells
 use Rattle.cells.specs.Listed.{heldRows}
-use Rattle.grid.specs.Grid.{gridOf, columnsOf, entriesOf, tableChecks}
+use Rattle.grid.specs.Grid.{GridRow, gridOf, columnsOf, entriesOf, tableChecks}
+use Rattle.grid.specs.Facts.{Sound}
 use Rattle.grid.specs.Judging.{GridJudged}
 use Rattle.grid.specs.declared.Judged.{Judged}
 use Rattle.grid.specs.declared.Judged.the-variants.{Grid, Refused as Unshaped}
 use Rattle.grid.proofs.GridFacts.{sound-passes}
 use Rattle.widths.specs.declared.Laid.{Laid}
 use Rattle.laying.specs.Laying.{entryBoxes, LaidTable}
-use Rattle.arranging.specs.Tables.{TableAsked}
+use Rattle.arranging.specs.Tables.{TableAsked, GridHeld}
 use Rattle.arranging.specs.Layouts.{AllMeasured, LayoutRoom, FrontLayable, gridBoxes, tableIn, ArrangedAt}
 use Rattle.arranging.specs.declared.Arranged.{Arranged}
 use Rattle.arranging.specs.declared.Arranged.the-variants.{Table, Refused}
-use Rattle.arranging.proofs.Shapes.{sound-judged, judged-counts, judged-told, grid-held}
+use Rattle.grid.proofs.Counts.{sound-judged, judged-counts}
+use Rattle.arranging.proofs.Shapes.{judged-told, grid-held}
 use Rattle.arranging.proofs.Held.{held-layable}
 
 -- a judged table in the words of `arrange`
 abbrev arrangedIn : Arranged → ℕ → Judged → Arranged
 arrangedIn found line (Grid rows entries columns) = found
 arrangedIn found line (Unshaped number) = Refused number line
+
+-- a grid that is held can be laid out in the front of slices that are long enough
+pub held-front : {t n : ℕ} {g : List GridRow} {columns : ℕ} {cell first′ span row end : List ℕ} → GridHeld t n g columns cell first′ span row end
+    → {size least : List ℕ} → AllMeasured n size least → {width : ℕ} → width ≤ maxWidth
+    → length (entriesOf g) ≤ length cell → length (entriesOf g) ≤ length first′ → length (entriesOf g) ≤ length span → length g ≤ length end
+    → {sizes leasts column x wide : List ℕ} → columns ≤ length sizes → columns ≤ length leasts → columns ≤ length column
+    → length (entriesOf g) ≤ length x → length (entriesOf g) ≤ length wide
+    → FrontLayable (length g) (length (entriesOf g)) columns cell first′ span end size least width sizes leasts column x wide
+held-front h m small ci fi si ei {sizes} {leasts} {column} {x} {wide} a b c d e =
+    record {
+      lines-in = ci;
+      firsts-in = fi;
+      spans-in = si;
+      ends-in = ei;
+      sizes-in = a;
+      leasts-in = b;
+      column-in = c;
+      xs-in = d;
+      wides-in = e;
+      table =
+          held-layable h m
+          (record {
+            column-sizes-length = length-take-le _ sizes a;
+            column-leasts-length = length-take-le _ leasts b;
+            column-length = length-take-le _ column c;
+            xs-length = length-take-le _ x d;
+            wides-length = length-take-le _ wide e;
+          }) small;
+    }
+
+-- and what is laid out of it are the boxes of the table's grid
+pub held-arranged : {table : List cells.Row} {t n : ℕ} {cell first′ span row end : List ℕ} → Sound table
+    → GridHeld t n (gridOf table) (columnsOf table) cell first′ span row end
+    → {size least : List ℕ} {raw width : ℕ} {column x wide : List ℕ} {laid : Laid}
+    → LaidTable (columnsOf table)
+    (rowsBy 0 (take (length (gridOf table)) end)
+    (entryBoxes (take (length (entriesOf (gridOf table))) cell) (take (length (entriesOf (gridOf table))) first′) (take (length (entriesOf (gridOf table))) span) size least))
+    raw width (take (columnsOf table) column) (take (length (entriesOf (gridOf table))) x) (take (length (entriesOf (gridOf table))) wide) laid
+    → ArrangedAt table t n size least raw width (Table (laid .way) (length (gridOf table)) (length (entriesOf (gridOf table))) (columnsOf table) (laid .width))
+    cell first′ span row end column x wide
+held-arranged {table} {t} {cell = cell} {first′} {span} {row} {end} z h {size} {least} {raw} {width} {column} {x} {wide} {laid} l₀ =
+    let l : LaidTable (columnsOf table) (gridBoxes (gridOf table) size least) raw width
+    (take (columnsOf table) column) (take (length (entriesOf (gridOf table))) x) (take (length (entriesOf (gridOf table))) wide) laid =
+    rw (h .cells, h .firsts, h .spans, h .row-ends) at l₀ in
+    let found = tableIn (gridOf table) (columnsOf table) (gridBoxes (gridOf table) size least) raw width in
+    let is : Table (laid .way) (length (gridOf table)) (length (entriesOf (gridOf table))) (columnsOf table) (laid .width) ≡ found = rw (l .way-is, l .width-is) in
+    record {
+      answer = is ∙ ap (arrangedIn found t) (sym (sound-judged table z)) ∙ judged-told table (arrangedIn found t) Refused t (λ number. refl);
+      held = λ o. h;
+      laid = λ o. record { widths = l .column-is; xs = l .xs-are; wides = l .wides-are };
+    }
 
 module _ {depth cols rows : List ℕ} {line : ℕ} (a : TableAsked depth cols rows line) {j : Judged}
     {cell₀ first₀ span₀ row₀ end₀ cell first′ span row end : List ℕ}
@@ -58,46 +111,19 @@ module _ {depth cols rows : List ℕ} {line : ℕ} (a : TableAsked depth cols ro
         → maxEntries ≤ length cell → maxEntries ≤ length first′ → maxEntries ≤ length span → length depth ≤ length end
         → {sizes leasts column x wide : List ℕ} → maxEntries ≤ length x → LayoutRoom sizes leasts column wide
         → FrontLayable r n c cell first′ span end size least width sizes leasts column x wide
-    front-layable m small l f s d {sizes} {leasts} {column} {x} {wide} xs room =
+    front-layable m small l f s d xs room =
         let (z, p, q, v) = judged-counts table r n c (sym (g .answer) ∙ e) in
         let h = grid-held a g z in
         let k = h .few-entries in
         let b = h .few-columns in
-        rw (p, q, v) (record {
-          lines-in = omega arith;
-          firsts-in = omega arith;
-          spans-in = omega arith;
-          ends-in = omega (arith, h .rows-within);
-          sizes-in = omega (arith, room .sizes-room);
-          leasts-in = omega (arith, room .leasts-room);
-          column-in = omega (arith, room .column-room);
-          xs-in = omega arith;
-          wides-in = omega (arith, room .wide-room);
-          table =
-              held-layable h m
-              (record {
-                column-sizes-length = length-take-le _ sizes (omega (arith, room .sizes-room));
-                column-leasts-length = length-take-le _ leasts (omega (arith, room .leasts-room));
-                column-length = length-take-le _ column (omega (arith, room .column-room));
-                xs-length = length-take-le _ x (omega arith);
-                wides-length = length-take-le _ wide (omega (arith, room .wide-room));
-              }) small;
-        })
+        rw (p, q, v)
+        (held-front h m small (omega arith) (omega arith) (omega arith) (omega (arith, h .rows-within))
+        (omega (arith, room .sizes-room)) (omega (arith, room .leasts-room)) (omega (arith, room .column-room)) (omega arith) (omega (arith, room .wide-room)))
 
     pub arranged-at : {size least : List ℕ} {raw width : ℕ} {column x wide : List ℕ} {laid : Laid}
         → LaidTable c (rowsBy 0 (take r end) (entryBoxes (take n cell) (take n first′) (take n span) size least)) raw width
         (take c column) (take n x) (take n wide) laid
         → ArrangedAt table line (length depth) size least raw width (Table (laid .way) r n c (laid .width)) cell first′ span row end column x wide
-    arranged-at {size} {least} {raw} {width} {column} {x} {wide} {laid} l₀ =
+    arranged-at l =
         let (z, p, q, v) = judged-counts table r n c (sym (g .answer) ∙ e) in
-        let h = grid-held a g z in
-        let l : LaidTable (columnsOf table) (gridBoxes (gridOf table) size least) raw width
-        (take (columnsOf table) column) (take (length (entriesOf (gridOf table))) x) (take (length (entriesOf (gridOf table))) wide) laid =
-        rw (p, q, v, h .cells, h .firsts, h .spans, h .row-ends) at l₀ in
-        let found = tableIn (gridOf table) (columnsOf table) (gridBoxes (gridOf table) size least) raw width in
-        let is : Table (laid .way) r n c (laid .width) ≡ found = rw (l .way-is, l .width-is, p, q, v) in
-        record {
-          answer = is ∙ ap (arrangedIn found line) (sym e) ∙ told found;
-          held = λ o. h;
-          laid = λ o. record { widths = l .column-is; xs = l .xs-are; wides = l .wides-are };
-        }
+        rw (p, q, v) (held-arranged z (grid-held a g z) (rw (p, q, v) at l))

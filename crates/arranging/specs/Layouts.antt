@@ -1,9 +1,10 @@
 -- One table of a sheet laid out, from its lines and their estimates as number slices. These are definitions; nothing is assumed.
 use mathlib.Core.Path.{_≡_}
-use mathlib.Core.Bool.{true}
+use mathlib.Core.Bool.{true, cond}
 use mathlib.Core.List.{List, map}
-use Prim.Native.Nat.{ℕ, _≤_}
-use lib.ListN.{length, take}
+use Prim.Native.Nat.{ℕ, _-_, _≤_}
+use lib.Dec.{eqb}
+use lib.ListN.{length, getD, take}
 use Rattle.lists.specs.Limits.{maxPosition, maxEntries}
 use Rattle.lists.specs.Refusals.{first, passes}
 use Rattle.columns.specs.Boxes.{Box, rowsBy}
@@ -13,7 +14,8 @@ use Rattle.grid.specs.Judging.{firstOf, spanOf}
 use Rattle.estimates.specs.Estimates.{Done}
 use Rattle.widths.specs.Widths.{tableWidth}
 use Rattle.placing.specs.Place.{Placed}
-use Rattle.laying.specs.Laying.{entryBoxes, LayableTable, wayIn, widthsIn, placesIn}
+use Rattle.widths.specs.declared.Laid.{Laid}
+use Rattle.laying.specs.Laying.{entryBoxes, LayableTable, LaidTable, wayIn, widthsIn, placesIn}
 use Rattle.laying.specs.Grids.{All, Fits, sizeOf, leastOf}
 use Rattle.arranging.specs.Tables.{GridHeld}
 use Rattle.arranging.specs.declared.Arranged.{Arranged}
@@ -32,15 +34,6 @@ pub record LayoutRoom (sizes leasts column wide : List ℕ) : Type 0 where
   pub sizes-room : maxPosition ≤ length sizes
   pub leasts-room : maxPosition ≤ length leasts
   pub column-room : maxPosition ≤ length column
-  pub wide-room : maxEntries ≤ length wide
-
--- what is lent for one table alone: the places of its columns and entries
-pub record TableRoom (cell first′ span column x wide : List ℕ) : Type 0 where
-  pub cell-room : maxEntries ≤ length cell
-  pub first-room : maxEntries ≤ length first′
-  pub span-room : maxEntries ≤ length span
-  pub column-room : maxPosition ≤ length column
-  pub x-room : maxEntries ≤ length x
   pub wide-room : maxEntries ≤ length wide
 
 -- a table's figures stand in the front of the slices, which can be laid out
@@ -87,9 +80,27 @@ pub record ArrangedAt (table : List cells.Row) (t n : ℕ) (size least : List �
   pub laid : passes (tableChecks t table) ≡ true
       → LaidGrid (gridOf table) (columnsOf table) (gridBoxes (gridOf table) size least) raw width column x wide
 
--- the same, where the lines and the ends of the rows are not handed over
-pub record TableArranged (table : List cells.Row) (t n : ℕ) (size least : List ℕ) (raw width : ℕ) (r : Arranged)
-    (cell first′ span column x wide : List ℕ) : Type 0 where
-  pub row : List ℕ
-  pub end : List ℕ
-  pub arranged : ArrangedAt table t n size least raw width r cell first′ span row end column x wide
+-- ---- a grid that was kept
+
+-- a table's figures stand in the front of the slices, which can be laid out, whatever room is lent for the figures of its columns
+pub record GridLayable (rows entries columns : ℕ) (lines firsts spans ends sizes leasts : List ℕ) (width : ℕ) (column xs wides : List ℕ) : Type 0 where
+  pub few : columns ≤ maxPosition
+  pub front : (column-sizes column-leasts : List ℕ) → columns ≤ length column-sizes → columns ≤ length column-leasts
+      → FrontLayable rows entries columns lines firsts spans ends sizes leasts width column-sizes column-leasts column xs wides
+
+-- how many entries so many rows have, by their ends
+unfoldable pub lastEnd : ℕ → List ℕ → ℕ
+lastEnd rows ends = cond (eqb rows 0) 0 (getD ends (rows - 1) 0)
+
+-- the same of a table of so many rows and columns
+pub record KeptLayable (rows columns : ℕ) (lines firsts spans ends sizes leasts : List ℕ) (width : ℕ) (column xs wides : List ℕ) : Type 0 where
+  pub rows-in : rows ≤ length ends
+  pub layable : GridLayable rows (lastEnd rows ends) columns lines firsts spans ends sizes leasts width column xs wides
+
+-- a table of so many rows and columns laid out
+pub record KeptLaid (rows columns : ℕ) (lines firsts spans ends sizes leasts : List ℕ) (raw width : ℕ) (r : Arranged) (column xs wides : List ℕ) : Type 0 where
+  pub laid : Laid
+  pub answer : r ≡ Table (laid .way) rows (lastEnd rows ends) columns (laid .width)
+  pub is : LaidTable columns
+      (rowsBy 0 (take rows ends) (entryBoxes (take (lastEnd rows ends) lines) (take (lastEnd rows ends) firsts) (take (lastEnd rows ends) spans) sizes leasts))
+      raw width (take columns column) (take (lastEnd rows ends) xs) (take (lastEnd rows ends) wides) laid

@@ -1,16 +1,16 @@
-// One table of an opened sheet: its grid, and laid out. All room is lent, so that one table after the other can be laid out and nothing is
-// cleared between them.
-mod rooms; // room for one table alone, of two sizes
+// One table of an opened sheet laid out: from its lines, in room that is lent, so that one table after the other can be laid out and nothing is
+// cleared between them; or from a grid that was kept.
+pub mod kept; // a table whose grid was kept
 
 ghost use Prim.Native.Nat.{_-_, _≤_};
 ghost use lib.ListN.{length, take};
-ghost use Rattle.lists.specs.Limits.{maxWidth};
+ghost use Rattle.lists.specs.Limits.{maxEntries, maxWidth};
 ghost use Rattle.columns.specs.Boxes.{rowsBy};
 ghost use Rattle.cells.specs.Listed.{heldRows};
 ghost use Rattle.grid.specs.Judging.{Room};
 ghost use Rattle.laying.specs.Laying.{entryBoxes, LaidTable};
 ghost use Rattle.arranging.specs.Tables.{TableAsked};
-ghost use Rattle.arranging.specs.Layouts.{AllMeasured, LayoutRoom, TableRoom, FrontLayable, ArrangedAt, TableArranged};
+ghost use Rattle.arranging.specs.Layouts.{AllMeasured, LayoutRoom, FrontLayable, ArrangedAt};
 use grid::Judged;
 use widths::Laid;
 use widths::Way;
@@ -106,7 +106,7 @@ pub fn arrange(
     requires { ⌜ TableAsked (now depth) (now cols) (now rows) line ⌝ }
     requires { ⌜ AllMeasured (length (now depth)) (now size) (now least) ⌝ }
     requires { ⌜ width ≤ maxWidth ⌝ }
-    requires { ⌜ Room (length (now depth)) (now x) (now «cell_rows») (now «cell_end») (now left) (now «hang_at») (now hang)
+    requires { ⌜ Room (length (now depth)) maxEntries (now x) (now «cell_rows») (now «cell_end») (now left) (now «hang_at») (now hang)
         (now «next_left») (now «next_at») (now «next_wide») (now cell) (now first) (now span) (now row) (now «row_end») ⌝ }
     requires { ⌜ LayoutRoom (now sizes) (now leasts) (now column) (now wide) ⌝ }
     ensures { λ r. ⌜ ArrangedAt (heldRows (now (depth .entry)) (now (cols .entry)) (now (rows .entry)) (line - 1)) line (length (now (depth .entry)))
@@ -120,6 +120,7 @@ pub fn arrange(
         cols,
         rows,
         at,
+        lists::MAX_ENTRIES,
         x,
         cell_rows,
         cell_end,
@@ -171,65 +172,4 @@ pub fn arrange(
             }
         }
     }
-}
-
-// The table in a line alone: of the room to work in, only what its entries take is lent.
-pub fn arrange_table(
-    depth: &[u32],
-    cols: &[u32],
-    rows: &[u32],
-    size: &[u32],
-    least: &[u32],
-    line: u32,
-    raw: u32,
-    width: u32,
-    cell: &mut [u32],
-    first: &mut [u32],
-    span: &mut [u32],
-    column: &mut [u32],
-    x: &mut [u32],
-    wide: &mut [u32],
-) -> Arranged
-    requires { ⌜ TableAsked (now depth) (now cols) (now rows) line ⌝ }
-    requires { ⌜ AllMeasured (length (now depth)) (now size) (now least) ⌝ }
-    requires { ⌜ width ≤ maxWidth ⌝ }
-    requires { ⌜ TableRoom (now cell) (now first) (now span) (now column) (now x) (now wide) ⌝ }
-    ensures { λ r. ⌜ TableArranged (heldRows (now (depth .entry)) (now (cols .entry)) (now (rows .entry)) (line - 1)) line (length (now (depth .entry)))
-        (now (size .entry)) (now (least .entry)) raw width r
-        (now (cell .exit)) (now (first .exit)) (now (span .exit)) (now (column .exit)) (now (x .exit)) (now (wide .exit)) ⌝ }
-{
-    if depth.len() <= lists::SMALL_LINES {
-        return rooms::arrange_small(
-            depth,
-            cols,
-            rows,
-            size,
-            least,
-            line,
-            raw,
-            width,
-            cell,
-            first,
-            span,
-            column,
-            x,
-            wide,
-        );
-    }
-    rooms::arrange_large(
-        depth,
-        cols,
-        rows,
-        size,
-        least,
-        line,
-        raw,
-        width,
-        cell,
-        first,
-        span,
-        column,
-        x,
-        wide,
-    )
 }

@@ -21,7 +21,7 @@ use Rattle.estimates.proofs.Tabling.{tabled-prefix}
 use Rattle.estimates.proofs.Nesting.{may}
 use Rattle.estimates.proofs.Ranges.{prefix-small}
 use Rattle.estimates.proofs.Weighing.{weight-more, fits}
-use Rattle.estimates.proofs.Passing.{put, step, stored, begin}
+use Rattle.estimates.proofs.Passing.{put, put-here, step, stored, begin}
 
 -- at line i, the children passed come to `sum`, `most` and `children`
 pub record CellLoop (wrap : ℕ) (s : Slices) (b c : Buffers) (at sum most children i : ℕ) : Type 0 where
@@ -41,6 +41,16 @@ module _ {wrap : ℕ} {s : Slices} {b : Buffers} {at : ℕ} where
     few = omega arith;
     small = omega arith;
     least-size = omega arith;
+  }
+
+  -- at each child the results and the scratch are as they must be
+  pub cell-ready : {c : Buffers} {leasts leasts′ : List ℕ} {sum most children i : ℕ} → Ready s b leasts at → length leasts′ ≡ length leasts
+      → CellLoop wrap s b c at sum most children i → i < length (s .depth) → Ready s c leasts′ i
+  cell-ready r e c h = record {
+    sheet = r .sheet;
+    sized = c .passed .sized;
+    scratch = omega (arith, r .scratch, e);
+    within = h;
   }
 
   -- a child that `cell` passes to `node`
@@ -192,3 +202,12 @@ module _ {wrap : ℕ} {s : Slices} {b : Buffers} {leasts : List ℕ} {at : ℕ} 
       (f ∙ ap (λ (h : Held). holderBy (getD (s .kind) at 0) (getD (s .number) at 0) h) (m .held) ∙ holder-est wrap s at (ready .within) k)
       (omega (arith, m .small, weight-more (s .own) at))
       l
+
+-- a turn of `cell` over a leaf, which it measures itself
+pub cell-leaf : {wrap : ℕ} {s : Slices} {b c : Buffers} {leasts : List ℕ} {at sum most children i : ℕ} {e : Estimate} → Ready s b leasts at
+    → CellLoop wrap s b c at sum most children i → i < length (s .depth) → getD (s .depth) at 0 < getD (s .depth) i 0
+    → isLeaf (getD (s .kind) i 0) ≡ true → e ≡ leafBy wrap (getD (s .kind) i 0) (getD (s .own) i 0)
+    → CellLoop wrap s b (put c i e) at (sum + e .size) (max most (e .least)) (children + 1) (i + 1)
+cell-leaf {leasts = leasts} {i = i} {e = e} r v h u k f =
+    let x = put-here i e (v .passed .sized) h in
+    rw (x .size, x .least) at (cell-again v h u (leaf-meets (cell-ready {leasts′ = leasts} r refl v h) k f))

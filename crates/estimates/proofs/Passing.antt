@@ -32,7 +32,7 @@ put-other {b} at e k n = record {
   prefix = getD-set-other (b .prefix) at k (e .prefix) 0 n;
 }
 
-put-here : {b : Buffers} {n : ℕ} (at : ℕ) (e : Estimate) → Sized n b → at < n → Holds (put b at e) at e
+pub put-here : {b : Buffers} {n : ℕ} (at : ℕ) (e : Estimate) → Sized n b → at < n → Holds (put b at e) at e
 put-here {b} at e s h = record {
   size = getD-set-same (b .size) at (e .size) 0 (omega (arith, s .size));
   least = getD-set-same (b .least) at (e .least) 0 (omega (arith, s .least));

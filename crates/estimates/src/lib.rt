@@ -169,24 +169,37 @@ fn cell(
         if depth[i] <= d {
             break;
         }
-        let next = node(
-            depth,
-            kind,
-            number,
-            own,
-            first,
-            span,
-            size,
-            least,
-            prefix,
-            leasts,
-            wrap,
-            i,
-        );
-        sum += size[i];
-        most = lists::larger(most, least[i]);
-        children += 1;
-        i = next;
+        let k = kind[i];
+        if single::is_leaf(k) {
+            // most children are texts, which need no call of `node`
+            let e = single::leaf(k, own[i], wrap);
+            size[i] = e.size;
+            least[i] = e.least;
+            prefix[i] = e.prefix;
+            sum += e.size;
+            most = lists::larger(most, e.least);
+            children += 1;
+            i += 1;
+        } else {
+            let next = node(
+                depth,
+                kind,
+                number,
+                own,
+                first,
+                span,
+                size,
+                least,
+                prefix,
+                leasts,
+                wrap,
+                i,
+            );
+            sum += size[i];
+            most = lists::larger(most, least[i]);
+            children += 1;
+            i = next;
+        }
     }
     Part {
         after: i,

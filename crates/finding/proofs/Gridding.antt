@@ -4,46 +4,31 @@ use mathlib.Core.Bool.{true}
 use mathlib.Core.List.{List}
 use Prim.Native.Nat.{ℕ, _-_, _≤_}
 use native.Mathlib.Omega.{arith}
-use lib.ListN.{length, take, drop}
+use lib.ListN.{length, getD, take}
+use lib.Seq.{length-take-le}
 use Rattle.lists.specs.Refusals.{first, passes}
 use Rattle.sheet.specs.Sheet.{sheetLines}
 use Rattle.sheet.specs.Steps.{roomFor}
 use Rattle.sheet.specs.declared.Reading.{Reading}
 use Rattle.sheet.specs.declared.Reading.the-variants.{Lines, Refused}
 use Rattle.sheet.proofs.First.{first-passes}
-use Rattle.cells.specs.Listed.{heldRows}
-use Rattle.grid.specs.Grid.{entriesOf, tableRows, tableChecks}
-use Rattle.grid.specs.Judging.{GridJudged}
-use Rattle.grid.specs.declared.Judged.{Judged}
-use Rattle.grid.proofs.GridFacts.{sound-passes}
-use Rattle.arranging.specs.Tables.{TableAsked}
-use Rattle.arranging.proofs.Shapes.{judged-told, grid-held}
+use Rattle.cells.specs.Cells as cells
+use Rattle.grid.specs.Grid.{gridOf, columnsOf, entriesOf}
+use Rattle.arranging.proofs.KeptGrid.{ends-within, kept-entries}
 use Rattle.opening.specs.Opening.{openChecks}
 use Rattle.opening.specs.Opened.{Opened}
 use Rattle.finding.specs.Figures.{rowsAt, columnsAt}
-use Rattle.finding.specs.Found.{shapedIn, entryTotal, rowTotal, GridAt, GridFound}
+use Rattle.finding.specs.Found.{entryTotal, rowTotal, countedAt, GridFound}
 use Rattle.finding.specs.declared.Shape.{Shape}
 use Rattle.finding.specs.declared.Shape.the-variants.{Grid, Refused as NoGrid}
 use Rattle.finding.proofs.Openings.{Passed, passed, failed, told}
-use Rattle.finding.proofs.Asking.{asked-passes, asked-rows, table-asked}
+use Rattle.finding.proofs.Asking.{asked-table, asked-rows}
+use Rattle.finding.proofs.AskedGrid.{asked-held}
 
--- a table that was judged
-pub grid-shaped : {depth cols rows : List ℕ} {line : ℕ} {j : Judged} {r : Shape} {cell₀ first₀ span₀ row₀ end₀ cell first′ span row end : List ℕ}
-    → TableAsked depth cols rows line
-    → GridJudged (heldRows depth cols rows (line - 1)) j cell₀ first₀ span₀ row₀ end₀ cell first′ span row end → r ≡ shapedIn line j
-    → GridAt (heldRows depth cols rows (line - 1)) line (length depth) r cell first′ span row end
-unfolding shapedIn
-grid-shaped {depth} {cols} {rows} {line} a g e =
-    let table = heldRows depth cols rows (line - 1) in
-    record {
-      answer = e ∙ ap (shapedIn line) (g .answer) ∙ judged-told table (shapedIn line) NoGrid line (λ number. refl);
-      held = λ p. grid-held a g (sound-passes table line p);
-    }
-
-module _ {s : List ℕ} {line : ℕ} {read : Reading} {depth kind number cols rows own first-of span-of : List ℕ}
-    (o : Opened true s line read depth kind number cols rows own first-of span-of) where
+module _ {s : List ℕ} {line : ℕ} {read : Reading} {depth kind number cols rows own first-of span-of cell first′ span row end : List ℕ}
+    (o : Opened true s line read depth kind number cols rows own first-of span-of cell first′ span row end) where
   -- refused when opened
-  pub grid-refused : {refused at : ℕ} {cell first′ span row end : List ℕ} → read ≡ Refused refused at
+  pub grid-refused : {refused at : ℕ} → read ≡ Refused refused at
       → GridFound (openChecks true s line) s line (NoGrid refused at) cell first′ span row end
   unfolding first passes entryTotal rowTotal
   grid-refused {refused} {at} e =
@@ -68,20 +53,34 @@ module _ {s : List ℕ} {line : ℕ} {read : Reading} {depth kind number cols ro
     pub opened-room : n ≤ roomFor s
     opened-room = opened .room
 
-    pub opened-asked : TableAsked (take n depth) (take n cols) (take n rows) line
-    opened-asked = table-asked opened (o .holds n e)
+    -- the counts of the table that is asked for stand within the slices
+    pub opened-counted : n ≤ length first-of → n ≤ length span-of
+        → ((1 ≤ line) × (line ≤ length (take n first-of)) × (line ≤ length (take n span-of))) × (getD (take n first-of) (line - 1) 0 ≤ length end)
+    opened-counted f p =
+        let t = asked-table s line n opened in
+        let k = o .asked n e refl in
+        let h = asked-held opened (o .holds n e) first-of span-of k in (
+          (
+            t .from-one,
+            omega (arith, t .within, opened .count, length-take-le n first-of f),
+            omega (arith, t .within, opened .count, length-take-le n span-of p),
+          ),
+          omega (arith, k .kept .rows, ends-within h),
+        )
 
-    pub grid-read : {m : ℕ} {r : Shape} {cell first′ span row end : List ℕ}
-        → GridAt (heldRows (take n depth) (take n cols) (take n rows) (line - 1)) line m r cell first′ span row end
-        → GridFound (openChecks true s line) s line r cell first′ span row end
-    unfolding entryTotal rowTotal
-    grid-read {r = r} g₀ =
+    pub grid-read : {r : Shape} → r ≡ countedAt line (take n first-of) (take n span-of) end → GridFound (openChecks true s line) s line r cell first′ span row end
+    unfolding entryTotal rowTotal countedAt
+    grid-read {r} g =
         let p = opened in
-        let g = rw (asked-rows p (o .holds n e)) at g₀ in
-        let c = asked-passes s line n p in
-        let h = g .held c in
+        let k = o .asked n e refl in
+        let same = asked-rows p (o .holds n e) in
+        let h₀ = asked-held p (o .holds n e) first-of span-of k in
+        let a = k .kept .rows in
+        let c = k .kept .columns in
+        let b = kept-entries (k .kept .sound) h₀ a c in
+        let h = rw same at h₀ in
         let q : r ≡ Grid (length (rowsAt s line)) (length (entriesOf (rowsAt s line))) (columnsAt s line) =
-        g .answer ∙ first-passes NoGrid _ (tableChecks line (tableRows line (drop (line - 1) (sheetLines s)))) c in
+        g ∙ (λ i. Grid (a i) (b i) (c i)) ∙ ap (λ (t : List cells.Row). Grid (length (gridOf t)) (length (entriesOf (gridOf t))) (columnsOf t)) same in
         rw q (record {
           answer = sym (first-passes NoGrid _ (openChecks true s line) (p .all));
           few-entries = h .few-entries;

@@ -4,5 +4,5 @@ pub mod Lent
 pub mod Measured
 pub mod Measuring
 pub mod Asking
+pub mod AskedGrid
 pub mod Gridding
-pub mod Laying

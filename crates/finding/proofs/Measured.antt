@@ -40,8 +40,8 @@ measured-drop wrap t zero u ls e = let j : t ≡ u = omega arith in ap (λ (v : 
 measured-drop wrap t (suc k) u [] e = refl
 measured-drop wrap t (suc k) u (l ∷ ls) e = measured-drop wrap (suc t) k u ls (omega arith)
 
-module _ {asks : Bool} {s : List ℕ} {line wrap : ℕ} {read : Reading} {depth kind number cols rows own first-of span-of size least prefix : List ℕ}
-    (m : SheetMeasured asks s line wrap read depth kind number cols rows own first-of span-of size least prefix) {n : ℕ} (e : read ≡ Lines n) where
+module _ {asks : Bool} {s : List ℕ} {line wrap : ℕ} {read : Reading} {depth kind number cols rows own first-of span-of size least prefix cell first′ span row end : List ℕ}
+    (m : SheetMeasured asks s line wrap read depth kind number cols rows own first-of span-of size least prefix cell first′ span row end) {n : ℕ} (e : read ≡ Lines n) where
   abbrev every : List Done
   every = measured wrap 1 (sheetLines s)
 

@@ -33,8 +33,8 @@ module _ (s : List ℕ) (figures : List ℕ) (slice : List ℕ) where
       rw (p .all, p .count) (f n refl)
   front (Refused number l) e f = rw (failed false s 0 number l (sym e))
 
-pub found-read : {s : List ℕ} {wrap : ℕ} {read : Reading} {depth kind number cols rows own first′ span size least prefix : List ℕ}
-    → SheetMeasured false s 0 wrap read depth kind number cols rows own first′ span size least prefix
+pub found-read : {s : List ℕ} {wrap : ℕ} {read : Reading} {depth kind number cols rows own first-of span-of size least prefix cell first′ span row end : List ℕ}
+    → SheetMeasured false s 0 wrap read depth kind number cols rows own first-of span-of size least prefix cell first′ span row end
     → EstimatesFound (openChecks false s 0) s wrap read size least prefix
 unfolding openedOf
 found-read {s} {wrap} {read} {size = size} {least = least} {prefix = prefix} m =

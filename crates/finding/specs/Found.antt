@@ -2,20 +2,17 @@
 use mathlib.Core.Path.{_≡_}
 use mathlib.Core.Bool.{true}
 use mathlib.Core.List.{List, map}
-use Prim.Native.Nat.{ℕ, _≤_}
-use lib.ListN.{length, take}
+use Prim.Native.Nat.{ℕ, _-_, _≤_}
+use lib.ListN.{length, getD, take}
 use Rattle.lists.specs.Limits.{maxLines, maxEntries}
 use Rattle.lists.specs.Refusals.{Check, first, passes}
 use Rattle.sheet.specs.Sheet.{sheetLines}
 use Rattle.sheet.specs.declared.Reading.{Reading}
 use Rattle.sheet.specs.declared.Reading.the-variants.{Lines, Refused as NotRead}
-use Rattle.cells.specs.Cells as cells
-use Rattle.grid.specs.Grid.{shownLine, gridOf, columnsOf, entriesOf, rowEnds, tableChecks}
-use Rattle.grid.specs.declared.Judged.{Judged}
-use Rattle.grid.specs.declared.Judged.the-variants.{Grid as Shaped, Refused as Unshaped}
+use Rattle.grid.specs.Grid.{shownLine, entriesOf, rowEnds}
 use Rattle.estimates.specs.Estimates.{estimates}
 use Rattle.placing.specs.Promise.{Promised}
-use Rattle.arranging.specs.Tables.{GridHeld}
+use Rattle.arranging.specs.Layouts.{lastEnd}
 use Rattle.arranging.specs.declared.Arranged.{Arranged}
 use Rattle.arranging.specs.declared.Arranged.the-variants.{Table, Refused}
 use Rattle.finding.specs.Figures.{ifPasses, sizeOf, leastOf, prefixOf, firstOf, spanOf, rowLine, xOf, widthOf, rowsAt, columnsAt, boxesAt, wayAt, widthsAt, widthAt, placesAt}
@@ -38,11 +35,6 @@ pub record EstimatesFound (cs : List Check) (s : List ℕ) (wrap : ℕ) (r : Rea
 
 -- ---- the grid of one table
 
--- a judged table; its line is the refusal's
-unfoldable pub shapedIn : ℕ → Judged → Shape
-shapedIn line (Shaped rows entries columns) = Grid rows entries columns
-shapedIn line (Unshaped number) = NoGrid number line
-
 -- how many entries and rows a grid has
 unfoldable pub entryTotal : Shape → ℕ
 entryTotal (Grid rows entries columns) = entries
@@ -60,10 +52,9 @@ pub record GridRoom (cell first′ span row end : List ℕ) : Type 0 where
   pub row-room : maxLines ≤ length row
   pub end-room : maxLines ≤ length end
 
--- the grid of the table in a line of n lines, or the first refusal that applies to it
-pub record GridAt (table : List cells.Row) (line n : ℕ) (r : Shape) (cell first′ span row end : List ℕ) : Type 0 where
-  pub answer : r ≡ first NoGrid (Grid (length (gridOf table)) (length (entriesOf (gridOf table))) (columnsOf table)) (tableChecks line table)
-  pub held : passes (tableChecks line table) ≡ true → GridHeld line n (gridOf table) (columnsOf table) cell first′ span row end
+-- the counts of a table in a line whose grid was kept: its rows and columns stand at its own place, and the last row's end counts its entries
+unfoldable pub countedAt : ℕ → List ℕ → List ℕ → List ℕ → Shape
+countedAt line firsts spans ends = Grid (getD firsts (line - 1) 0) (lastEnd (getD firsts (line - 1) 0) ends) (getD spans (line - 1) 0)
 
 -- the grid found, or the first refusal; its entries and rows stand in the first places
 pub record GridFound (cs : List Check) (s : List ℕ) (line : ℕ) (r : Shape) (cell first′ span row end : List ℕ) : Type 0 where

@@ -23,6 +23,8 @@ pub fn read_small(sheet: &[u8]) -> Reading
     let mut own = [0u32; SMALL_LINES];
     let mut first_of = [0u32; SMALL_LINES];
     let mut span_of = [0u32; SMALL_LINES];
+    let mut row = [0u32; SMALL_LINES];
+    let mut row_end = [0u32; SMALL_LINES];
     let mut wide = [0u32; MAX_ENTRIES];
     let mut cell = [0u32; MAX_ENTRIES];
     let mut first = [0u32; MAX_ENTRIES];
@@ -43,6 +45,8 @@ pub fn read_small(sheet: &[u8]) -> Reading
         &mut cell,
         &mut first,
         &mut span,
+        &mut row,
+        &mut row_end,
     )
 }
 
@@ -58,6 +62,8 @@ pub fn read_large(sheet: &[u8]) -> Reading
     let mut own = [0u32; MAX_LINES];
     let mut first_of = [0u32; MAX_LINES];
     let mut span_of = [0u32; MAX_LINES];
+    let mut row = [0u32; MAX_LINES];
+    let mut row_end = [0u32; MAX_LINES];
     let mut wide = [0u32; MAX_ENTRIES];
     let mut cell = [0u32; MAX_ENTRIES];
     let mut first = [0u32; MAX_ENTRIES];
@@ -78,5 +84,7 @@ pub fn read_large(sheet: &[u8]) -> Reading
         &mut cell,
         &mut first,
         &mut span,
+        &mut row,
+        &mut row_end,
     )
 }

@@ -31,6 +31,8 @@ pub fn estimates_small(
     let mut own = [0u32; SMALL_LINES];
     let mut first_of = [0u32; SMALL_LINES];
     let mut span_of = [0u32; SMALL_LINES];
+    let mut row = [0u32; SMALL_LINES];
+    let mut row_end = [0u32; SMALL_LINES];
     let mut wide = [0u32; MAX_ENTRIES];
     let mut cell = [0u32; MAX_ENTRIES];
     let mut first = [0u32; MAX_ENTRIES];
@@ -55,6 +57,8 @@ pub fn estimates_small(
         &mut cell,
         &mut first,
         &mut span,
+        &mut row,
+        &mut row_end,
     )
 }
 
@@ -77,6 +81,8 @@ pub fn estimates_large(
     let mut own = [0u32; MAX_LINES];
     let mut first_of = [0u32; MAX_LINES];
     let mut span_of = [0u32; MAX_LINES];
+    let mut row = [0u32; MAX_LINES];
+    let mut row_end = [0u32; MAX_LINES];
     let mut wide = [0u32; MAX_ENTRIES];
     let mut cell = [0u32; MAX_ENTRIES];
     let mut first = [0u32; MAX_ENTRIES];
@@ -101,5 +107,7 @@ pub fn estimates_large(
         &mut cell,
         &mut first,
         &mut span,
+        &mut row,
+        &mut row_end,
     )
 }

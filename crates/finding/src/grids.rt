@@ -1,20 +1,39 @@
 // The grid of one table of a sheet, written to the lent buffers, with arrays of two sizes to work in.
 ghost use mathlib.Core.Bool.{true};
-ghost use Prim.Native.Nat.{_≤_};
-ghost use lib.ListN.{length};
+ghost use Prim.Native.Nat.{_-_, _≤_};
+ghost use mathlib.Core.Path.{_≡_};
+ghost use lib.ListN.{length, getD};
 ghost use Rattle.lists.specs.Limits.{maxEntries, smallLines};
 ghost use Rattle.sheet.specs.Steps.{roomFor};
 ghost use Rattle.opening.specs.Opening.{openChecks};
 ghost use Rattle.opening.specs.Opened.{LinesRoom, GridsRoom};
-ghost use Rattle.finding.specs.Found.{GridRoom, GridFound};
+ghost use Rattle.finding.specs.Found.{GridRoom, countedAt, GridFound};
 use crate::Shape;
-use crate::shapes;
+use crate::rooms::index;
+use crate::rooms::place_of;
 use lists::MAX_ENTRIES;
 use lists::MAX_LINES;
 use lists::SMALL_LINES;
 use sheet::Reading;
 
-// The grid of the table in a line: the sheet is opened, and the table is judged once more for its entries and rows.
+// The counts of the table in a line whose grid was kept: its rows and columns stand at its own place, and the last row's end counts its entries.
+fn counted(line: u32, first_of: &[u32], span_of: &[u32], row_end: &[u32]) -> Shape
+    requires { ⌜ (1 ≤ line) × (line ≤ length (now «first_of»)) × (line ≤ length (now «span_of»)) ⌝ }
+    requires { ⌜ getD (now «first_of») (line - 1) 0 ≤ length (now «row_end») ⌝ }
+    ensures { λ r. ⌜ r ≡ countedAt line (now («first_of» .entry)) (now («span_of» .entry)) (now («row_end» .entry)) ⌝ }
+{
+    let at = place_of(line);
+    let count = first_of[at];
+    let columns = span_of[at];
+    let entries = arranging::kept::entries_of(row_end, index(count));
+    Shape::Grid {
+        rows: count,
+        entries,
+        columns,
+    }
+}
+
+// The grid of the table in a line: opening the sheet leaves it in the lent buffers.
 fn grid_in(
     sheet: &[u8],
     line: u32,
@@ -56,6 +75,8 @@ fn grid_in(
         cell,
         first,
         span,
+        row,
+        row_end,
     );
     match read {
         Reading::Refused {
@@ -65,18 +86,7 @@ fn grid_in(
             number: refused,
             line: at,
         },
-        Reading::Lines(n) => shapes::shape(
-            &depth[..n],
-            &cols[..n],
-            &rows[..n],
-            line,
-            wide,
-            cell,
-            first,
-            span,
-            row,
-            row_end,
-        ),
+        Reading::Lines(n) => counted(line, &first_of[..n], &span_of[..n], row_end),
     }
 }
 

@@ -1,20 +1,17 @@
-// What is found in a sheet: whether it is accepted, the estimates of its lines, the grid and the layout of one table. The arrays to work in
-// have two sizes, and each function here asks which do.
+// What is found in a sheet: whether it is accepted, the estimates of its lines, the grid of one table. The arrays to work in have two sizes, and
+// each function here asks which do.
 mod checking; // a sheet opened for its answer alone
 mod estimating; // the estimates of all lines
 mod grids; // the grid of one table
-mod layouts; // the layout of one table
-mod rooms; // small and large sheets
-mod shapes; // the grid of one table, from lines that were read
+pub mod rooms; // small and large sheets, and the place of a line
 
 ghost use mathlib.Core.Path.{_≡_};
 ghost use mathlib.Core.Bool.{true, false};
 ghost use Prim.Native.Nat.{_≤_};
-ghost use Rattle.lists.specs.Limits.{maxLines, maxWidth};
+ghost use Rattle.lists.specs.Limits.{maxLines};
 ghost use Rattle.opening.specs.Opening.{openChecks, openedOf};
 ghost use Rattle.opening.specs.Opened.{FiguresRoom};
-ghost use Rattle.finding.specs.Found.{EstimatesFound, GridRoom, GridFound, OutRoom, LayoutFound};
-use arranging::Arranged;
+ghost use Rattle.finding.specs.Found.{EstimatesFound, GridRoom, GridFound};
 use sheet::Reading;
 
 // A table's grid: how many rows, entries and columns it has; or the refusal.
@@ -75,26 +72,4 @@ pub fn grid(
         return grids::grid_small(sheet, line, cell, first, span, row, row_end);
     }
     grids::grid_large(sheet, line, cell, first, span, row, row_end)
-}
-
-// The layout of the table in a line.
-pub fn layout(
-    sheet: &[u8],
-    line: u32,
-    wrap: u32,
-    raw: u32,
-    width: u32,
-    column: &mut [u32],
-    x: &mut [u32],
-    wide: &mut [u32],
-) -> Arranged
-    requires { ⌜ (raw ≤ 1) × (width ≤ maxWidth) ⌝ }
-    requires { ⌜ OutRoom (now column) (now x) (now wide) ⌝ }
-    ensures { λ r. ⌜ LayoutFound (openChecks true (now (sheet .entry)) line) (now (sheet .entry)) line wrap raw width r
-        (now (column .exit)) (now (x .exit)) (now (wide .exit)) ⌝ }
-{
-    if rooms::is_small(sheet) {
-        return layouts::layout_small(sheet, line, wrap, raw, width, column, x, wide);
-    }
-    layouts::layout_large(sheet, line, wrap, raw, width, column, x, wide)
 }

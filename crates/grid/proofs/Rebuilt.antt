@@ -6,22 +6,23 @@ use Prim.Native.Nat.{ℕ, suc, _+_, _≤_, _<_}
 use native.Mathlib.Omega.{arith}
 use lib.ListN.{length, getD, take, drop, length-map, length-drop}
 use Rattle.lists.specs.Lists.{over}
-use Rattle.lists.specs.Limits.{maxLines, maxEntries}
+use Rattle.lists.specs.Limits.{maxLines}
 use Rattle.lists.proofs.Over.{over-front}
 use lib.Seq.{length-take-le}
 use Rattle.cells.specs.Cells.{Row}
 use Rattle.cells.specs.Listed.{lineOf, colsOf, rowsOf, allCells, cellEnds, heldLines, heldRows, TableReady, TableListed}
 use Rattle.cells.proofs.Rows.{length-ends}
 use Rattle.cells.proofs.Facts.{rows-few}
-use Rattle.positions.specs.Slices.{tableOf, Rising, Ready}
+use Rattle.positions.specs.Slices.{tableOf, Rising, Enough, Ready}
 use Rattle.grid.specs.Judging.{Lined}
 use Rattle.positions.proofs.TableSlices.{table-listed, listed-rises}
 
--- room for the positions of a table with n rows and cells
-pub record Positioning (n : ℕ) (rl l s e left at wide nl na nw : List ℕ) : Type 0 where
+-- room for the positions of a table with n rows and cells: as many rows, and `room` entries
+pub record Positioning (n room : ℕ) (rl l s e left at wide nl na nw : List ℕ) : Type 0 where
   pub row-line-room : n ≤ length rl
-  pub line-room : maxEntries ≤ length l
-  pub span-room : maxEntries ≤ length s
+  pub row-fits : n ≤ room
+  pub line-room : room ≤ length l
+  pub span-room : room ≤ length s
   pub row-end-room : n ≤ length e
   pub left-room : n ≤ length left
   pub at-room : n ≤ length at
@@ -61,9 +62,9 @@ module _ {rs : List Row} {line₀ span₀ rows₀ row₀ end₀ line span rows r
   -- its positions can be made
   pub listed-ready : {m : ℕ} → length rs + length (allCells rs) ≤ m → m ≤ maxLines
       → cells ≤ length line → cells ≤ length span → cells ≤ length rows → count ≤ length end
-      → {rl l s e left at wide nl na nw : List ℕ} → Positioning m rl l s e left at wide nl na nw
-      → Ready (take cells line) (take cells span) (take cells rows) (take count end) rl l s e left at wide nl na nw
-  listed-ready few short a b d f z =
+      → {room : ℕ} {l s e left at wide nl na nw : List ℕ} → Positioning m room row l s e left at wide nl na nw → Enough room rs
+      → Ready room (take cells line) (take cells span) (take cells rows) (take count end) row l s e left at wide nl na nw
+  listed-ready few short a b d f {room} z g =
       let u = length-take-le count end f in
       let v = length-take-le cells line a in
       let x = w .cells-are in
@@ -74,6 +75,7 @@ module _ {rs : List Row} {line₀ span₀ rows₀ row₀ end₀ line span rows r
           spans-length = length-take-le cells span b ∙ sym v;
           rows-length = length-take-le cells rows d ∙ sym v;
           few = omega arith;
+          row-fits = omega (arith, z .row-fits);
           line-room = z .line-room;
           span-room = z .span-room;
           row-end-room = omega (arith, z .row-end-room);
@@ -85,6 +87,7 @@ module _ {rs : List Row} {line₀ span₀ rows₀ row₀ end₀ line span rows r
           next-wide-room = omega (arith, z .next-wide-room);
         };
         row-line-room = omega (arith, z .row-line-room);
+        enough = subst (λ (t : List Row). Enough room t) (sym rebuilt) g;
       }
 
 -- ---- how many

@@ -5,7 +5,7 @@ use mathlib.Core.List.{List, _∷_, map}
 use Prim.Native.Nat.{ℕ, _+_, _≤_, _<_}
 use lib.ListN.{length, getD, take}
 use Rattle.lists.specs.Lists.{over, mem}
-use Rattle.lists.specs.Limits.{maxLines, maxDepth, maxEntries}
+use Rattle.lists.specs.Limits.{maxLines, maxDepth}
 use Rattle.lists.specs.Refusals.{first}
 use Rattle.edges.specs.Edges.{rowsFrom, rowsEnds, RowsFit}
 use Rattle.edges.specs.declared.Numbered.{Numbered}
@@ -80,6 +80,14 @@ pub record GridJudged (table : List cells.Row) (r : Judged) (line₀ first₀ sp
   pub answer : r ≡ judgedOf table
   pub written : (rows entries columns : ℕ) → r ≡ Grid rows entries columns → GridWritten table line₀ first₀ span₀ row₀ end₀ line first′ span row end
 
+-- a grid stands in the first places of the slices
+pub record GridStands (g : List GridRow) (line first′ span row end : List ℕ) : Type 0 where
+  pub lines : take (length (entriesOf g)) line ≡ map shownLine (entriesOf g)
+  pub firsts : take (length (entriesOf g)) first′ ≡ map firstOf (entriesOf g)
+  pub spans : take (length (entriesOf g)) span ≡ map spanOf (entriesOf g)
+  pub row-lines : take (length g) row ≡ map gridLine g
+  pub row-ends : take (length g) end ≡ rowEnds 0 g
+
 -- the slices have a place for each line of a sheet; a line is at most one deeper than the line before it, and a cell's cols are as they are
 -- written
 pub record Lined (depth cols rows : List ℕ) : Type 0 where
@@ -90,12 +98,13 @@ pub record Lined (depth cols rows : List ℕ) : Type 0 where
   pub step : (k : ℕ) → k + 1 < length depth → getD depth (k + 1) 0 ≤ getD depth k 0 + 1
   pub narrow : (k : ℕ) → getD cols k 0 ≤ maxCols
 
--- the lent slices have the places of a sheet's entries, and of n lines
-pub record Room (n : ℕ) (wide cell-rows cell-end left hang-at hang next-left next-at next-wide line first′ span row end : List ℕ) : Type 0 where
-  pub wide-room : maxEntries ≤ length wide
-  pub line-room : maxEntries ≤ length line
-  pub first-room : maxEntries ≤ length first′
-  pub span-room : maxEntries ≤ length span
+-- the lent slices have `room` places for entries, as many as there are lines or more, and places for n lines
+pub record Room (n room : ℕ) (wide cell-rows cell-end left hang-at hang next-left next-at next-wide line first′ span row end : List ℕ) : Type 0 where
+  pub row-fits : n ≤ room
+  pub wide-room : room ≤ length wide
+  pub line-room : room ≤ length line
+  pub first-room : room ≤ length first′
+  pub span-room : room ≤ length span
   pub cell-rows-room : n ≤ length cell-rows
   pub cell-end-room : n ≤ length cell-end
   pub left-room : n ≤ length left

@@ -7,6 +7,7 @@ ghost use Prim.Native.Nat.{ℕ, _≤_, _<_, max};
 ghost use lib.ListN.{length, take};
 ghost use Rattle.edges.specs.Edges.{isEdge, rowsFrom, RowsFit};
 ghost use Rattle.cells.specs.Listed.{heldRows};
+ghost use Rattle.positions.specs.Slices.{Enough};
 ghost use Rattle.grid.specs.Numbering.{RowsNumbered};
 ghost use Rattle.grid.specs.Judging.{edgeOfRows, PlacedReady, PlacedJudged, Lined, Room, GridJudged};
 
@@ -120,12 +121,14 @@ fn placed_grid(
 }
 
 // The grid of the table at the place `at`: its rows and entries, or the first of the refusals 5, 6 and 7 that applies. The slices from
-// wide to next_wide are room to work in, and so are first and span until the entries are numbered.
+// wide to next_wide are room to work in, and so are first and span until the entries are numbered. There are `room` places for entries,
+// enough for a table that has not too many.
 pub fn table_grid(
     depth: &[u32],
     cols: &[u32],
     rows: &[u32],
     at: usize,
+    room: usize,
     wide: &mut [u32],
     cell_rows: &mut [u32],
     cell_end: &mut [u32],
@@ -143,8 +146,9 @@ pub fn table_grid(
 ) -> Judged
     requires { ⌜ at < length (now depth) ⌝ }
     requires { ⌜ Lined (now depth) (now cols) (now rows) ⌝ }
-    requires { ⌜ Room (length (now depth)) (now wide) (now «cell_rows») (now «cell_end») (now left) (now «hang_at») (now hang) (now «next_left») (now «next_at») (now «next_wide»)
+    requires { ⌜ Room (length (now depth)) room (now wide) (now «cell_rows») (now «cell_end») (now left) (now «hang_at») (now hang) (now «next_left») (now «next_at») (now «next_wide»)
         (now line) (now first) (now span) (now «row_line») (now «row_end») ⌝ }
+    requires { ⌜ Enough room (heldRows (now depth) (now cols) (now rows) at) ⌝ }
     ensures { λ r. ⌜ GridJudged (heldRows (now (depth .entry)) (now (cols .entry)) (now (rows .entry)) at) r
         (now (line .entry)) (now (first .entry)) (now (span .entry)) (now («row_line» .entry)) (now («row_end» .entry))
         (now (line .exit)) (now (first .exit)) (now (span .exit)) (now («row_line» .exit)) (now («row_end» .exit)) ⌝ }
@@ -163,6 +167,7 @@ pub fn table_grid(
     let n = listed.cells;
     let r = listed.rows;
     let placed = positions::position_rows(
+        room,
         &first[..n],
         &span[..n],
         &cell_rows[..n],

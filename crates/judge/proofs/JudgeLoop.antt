@@ -1,19 +1,19 @@
--- The loop of `judge_tables` on plain lists: the verdict of what is left is the verdict of the whole, and what is kept of earlier tables stays,
--- since no cell of theirs is a cell of a later table or a table. Assumes nothing.
+-- The loop of `judge_others` on plain lists: each table that is passed is kept, and what is kept of it stays, since no cell of its own is a cell of
+-- another table or a table. And the verdict on the tables from a line on, by what applies to the first of them. Assumes nothing.
 use mathlib.Core.Path.{_≡_, refl, sym, ap, _∙_, subst}
-use mathlib.Core.Bool.{Bool, true, false, cond}
+use mathlib.Core.Bool.{Bool, true, false, cond, true≢false}
 use mathlib.Core.List.{List, [], _∷_, _++_, map}
 use Prim.Native.Nat.{ℕ, zero, suc, _+_, _-_, _≤_, _<_}
 use native.Mathlib.Nat.{not-suc-le-zero, le-of-suc-le-suc}
 use native.Mathlib.Numerals.{add-one}
-use native.Mathlib.Decide.{ℕ-discrete}
+use native.Mathlib.Decide.{decLt, ℕ-discrete}
 use native.Mathlib.Omega.{arith}
 use lib.Dec.{eqb}
-use lib.ListN.{length, getD, drop, length-map, drop-of-length-le}
+use lib.ListN.{length, getD, drop, length-map}
 use lib.Seq.{drop-cons, getD-set-same, getD-set-other}
-use borrow.Author.Tests.{eq-eqb, ne-eqb}
+use borrow.Author.Tests.{eq-eqb, ne-eqb, eqb-true}
 use Rattle.lists.specs.Lists.{mem}
-use Rattle.lists.specs.Refusals.{first, verdictOf}
+use Rattle.lists.specs.Refusals.{verdictOf}
 use Rattle.lists.specs.declared.Verdict.{Verdict}
 use Rattle.lists.specs.declared.Verdict.the-variants.{Accepted, Refused}
 use Rattle.line.specs.Kinds.{tableKind}
@@ -22,19 +22,19 @@ use Rattle.cells.specs.Cells as cells
 use Rattle.cells.specs.Cells.{bodiesOf, resolved}
 use Rattle.cells.specs.Listed.{heldRows}
 use Rattle.cells.specs.Facts.{Every, none, and}
-use Rattle.cells.proofs.Facts.{every-weaken}
 use Rattle.cells.proofs.Lines.{held-rows}
 use Rattle.grid.specs.declared.Judged.{Judged}
 use Rattle.grid.specs.declared.Judged.the-variants as judged
 use Rattle.grid.specs.Grid.{Entry, shownLine, gridOf, columnsOf, entriesOf, tableChecks, tableRows, tablesChecks}
-use Rattle.grid.specs.Facts.{cellOwners, CellOf, Sound}
+use Rattle.grid.specs.Facts.{cellOwners, CellOf}
 use Rattle.grid.specs.Judging.{judgedOf, firstOf, spanOf, Lined, Room}
-use Rattle.judge.specs.Kept.{storedBy, numberIn, refusalOf, TableStored, KeptTable, Nests, HoldsKinds, TablesJudged}
+use Rattle.judge.specs.Kept.{storedBy, numberIn, refusalOf, TableStored, KeptTable, Nests, HoldsKinds, isOther, OtherRefused, OthersJudged}
 use Rattle.grid.proofs.Tiling.{not-true}
 use Rattle.grid.proofs.CellLines.{Rises, lines-after-rise}
 use Rattle.judge.proofs.CellKinds.{cell-kind}
 use Rattle.grid.proofs.GridCells.{held-owners, owner-cell, entries-cells}
-use Rattle.grid.proofs.GridFacts.{judgedThen, judged-sound, judged-refused, verdict-table}
+use Rattle.grid.proofs.GridFacts.{judgedThen, judged-refused, verdict-table}
+use Rattle.judge.proofs.Counts.{sound-passed, passed-sound}
 use Rattle.judge.proofs.Stored.{stored-length, stored-other, shown-owners, stored-cells}
 
 -- ---- what is kept
@@ -44,13 +44,16 @@ every-both h none none = none
 every-both h (and p ps) (and q qs) = and (h _ p q) (every-both h ps qs)
 
 module _ {depth kind cols rows : List ℕ} (z : Lined depth cols rows) (nests : Nests depth kind) (t : ℕ) (h : t < length depth) (e : getD kind t 0 ≡ tableKind)
-    {firsts₀ spans₀ firsts spans : List ℕ} (s : TableStored (heldRows depth cols rows t) t 0 firsts₀ spans₀ firsts spans)
+    {firsts₀ spans₀ firsts spans line first′ span row end : List ℕ} (s : TableStored (heldRows depth cols rows t) t 0 firsts₀ spans₀ firsts spans line first′ span row end)
     (fr : length depth ≤ length firsts₀) (sr : length depth ≤ length spans₀) where
   abbrev T : List cells.Row
   T = heldRows depth cols rows t
 
   abbrev es : List Entry
   es = entriesOf (gridOf T)
+
+  abbrev F : List ℕ
+  F = storedBy (map shownLine es) (map firstOf es) firsts₀
 
   abbrev S : List ℕ
   S = storedBy (map shownLine es) (map spanOf es) spans₀
@@ -60,10 +63,11 @@ module _ {depth kind cols rows : List ℕ} (z : Lined depth cols rows) (nests : 
       let e : suc p - 1 ≡ p = omega arith in
       shown-owners p es ∙ not-true (mem (suc p) (cellOwners es)) (λ m. n (subst (CellOf depth t) e (owner-cell z t h (suc p) m .1)))
 
-  -- a place that is no cell of the table keeps its first column, and its span if it is not the table's own
-  kept-first : (i : ℕ) → (CellOf depth t i → ⊥) → getD firsts i 0 ≡ getD firsts₀ i 0
-  kept-first i n =
-      ap (λ (l : List ℕ). getD l i 0) (s .firsts-are refl) ∙ stored-other (map shownLine es) (map firstOf es) firsts₀ i (no-cell i n)
+  -- a place that is no cell of the table, and not the table's own, keeps its first column and its span
+  kept-first : (i : ℕ) → (CellOf depth t i → ⊥) → (i ≡ t → ⊥) → getD firsts i 0 ≡ getD firsts₀ i 0
+  kept-first i n o =
+      ap (λ (l : List ℕ). getD l i 0) (s .firsts-are refl) ∙ getD-set-other F t i (length (gridOf T)) 0 o
+      ∙ stored-other (map shownLine es) (map firstOf es) firsts₀ i (no-cell i n)
 
   kept-span : (i : ℕ) → (CellOf depth t i → ⊥) → (i ≡ t → ⊥) → getD spans i 0 ≡ getD spans₀ i 0
   kept-span i n o =
@@ -79,7 +83,11 @@ module _ {depth kind cols rows : List ℕ} (z : Lined depth cols rows) (nests : 
 
   here-firsts : Every (λ x. x .filler ≡ false → getD firsts (x .owner - 1) 0 ≡ x .first) es
   here-firsts =
-      every-weaken (λ x p f. ap (λ (l : List ℕ). getD l (x .owner - 1) 0) (s .firsts-are refl) ∙ p f) (stored-cells firstOf es (t + 1) firsts₀ cells-rise (cells-within fr))
+      every-both
+      (λ x c p f.
+      ap (λ (l : List ℕ). getD l (x .owner - 1) 0) (s .firsts-are refl)
+      ∙ getD-set-other F t (x .owner - 1) (length (gridOf T)) 0 (λ q. omega (arith, c f .1 .before, q)) ∙ p f)
+      (entries-cells z t h) (stored-cells firstOf es (t + 1) firsts₀ cells-rise (cells-within fr))
 
   here-spans : Every (λ x. x .filler ≡ false → getD spans (x .owner - 1) 0 ≡ x .span) es
   here-spans =
@@ -89,36 +97,44 @@ module _ {depth kind cols rows : List ℕ} (z : Lined depth cols rows) (nests : 
       ∙ getD-set-other S t (x .owner - 1) (columnsOf T) 0 (λ q. omega (arith, c f .1 .before, q)) ∙ p f)
       (entries-cells z t h) (stored-cells spanOf es (t + 1) spans₀ cells-rise (cells-within sr))
 
-  passed : (q : Judged) → judgedOf T ≡ q → numberIn q ≡ 0 → Sound T
-  passed (judged.Grid r n c) q o = judged-sound T r n c q .0
-  passed (judged.Refused k) q o = absurd (judged-refused T k q o)
-
   pub kept-here : KeptTable T t firsts spans
   kept-here = record {
-    sound = passed (judgedOf T) refl (sym (s .answer));
+    sound = passed-sound T (sym (s .answer));
+    rows =
+        ap (λ (l : List ℕ). getD l t 0) (s .firsts-are refl)
+        ∙ getD-set-same F t (length (gridOf T)) 0 (omega (arith, stored-length (map shownLine es) (map firstOf es) firsts₀));
     columns = ap (λ (l : List ℕ). getD l t 0) (s .spans-are refl) ∙ getD-set-same S t (columnsOf T) 0 (omega (arith, stored-length (map shownLine es) (map spanOf es) spans₀));
     entries = every-both (λ x p q f. (p f, q f)) here-firsts here-spans;
   }
 
-  -- an earlier table's: its cells are no cells of this table, since this table would end it, and not this table, which is no cell
-  module _ (u : ℕ) (l : u < t) (f : getD kind u 0 ≡ tableKind) where
+  -- another table's: its cells are no cells of this table, since the later of the two would end the earlier one, and not this table, which is no
+  -- cell; nor is it a cell itself
+  module _ (u : ℕ) (l : u < length depth) (o : u ≡ t → ⊥) (f : getD kind u 0 ≡ tableKind) where
     apart : (i : ℕ) → CellOf depth u i → CellOf depth t i → ⊥
-    apart i a b = omega (arith, a .deeper, b .deeper, a .between t l (b .before))
+    apart i a b = go (decLt u t)
+      where
+        go : Dec (u < t) → ⊥
+        go (yes v) = omega (arith, a .deeper, b .deeper, a .between t v (b .before))
+        go (no v) = omega (arith, a .deeper, b .deeper, b .between u (omega arith) (a .before))
 
     no-table : (i : ℕ) → CellOf depth u i → i ≡ t → ⊥
     no-table i a q = omega (arith, cell-kind depth (z .step) nests u i a f, e, ap (λ (k : ℕ). getD kind k 0) q)
 
-    pub kept-earlier : KeptTable (heldRows depth cols rows u) u firsts₀ spans₀ → KeptTable (heldRows depth cols rows u) u firsts spans
-    kept-earlier k = record {
+    no-cell-here : CellOf depth t u → ⊥
+    no-cell-here c = omega (arith, cell-kind depth (z .step) nests t u c e, f)
+
+    pub kept-other : KeptTable (heldRows depth cols rows u) u firsts₀ spans₀ → KeptTable (heldRows depth cols rows u) u firsts spans
+    kept-other k = record {
       sound = k .sound;
-      columns = kept-span u (λ c. omega (arith, c .before, l)) (λ q. omega arith) ∙ k .columns;
+      rows = kept-first u no-cell-here o ∙ k .rows;
+      columns = kept-span u no-cell-here o ∙ k .columns;
       entries =
           every-both
           (λ x c p g. (
-            kept-first (x .owner - 1) (apart (x .owner - 1) (c g .1)) ∙ p g .0,
+            kept-first (x .owner - 1) (apart (x .owner - 1) (c g .1)) (no-table (x .owner - 1) (c g .1)) ∙ p g .0,
             kept-span (x .owner - 1) (apart (x .owner - 1) (c g .1)) (no-table (x .owner - 1) (c g .1)) ∙ p g .1,
           ))
-          (entries-cells z u (omega arith)) (k .entries);
+          (entries-cells z u l) (k .entries);
     }
 
 -- ---- the verdict
@@ -194,64 +210,81 @@ module _ {depth kind cols rows : List ℕ} (ls : List Line) (w : HoldsKinds ls d
 
 -- ---- the loop
 
-pub record Sofar (depth kind cols rows firsts spans : List ℕ) (t : ℕ) : Type 0 where
+-- what the test of a line says
+pub is-other : (k t asked : ℕ) → isOther k t asked ≡ true → (k ≡ tableKind) × (t ≡ asked → ⊥)
+unfolding isOther
+is-other k t asked = go (ℕ-discrete t asked)
+  where
+    go : Dec (t ≡ asked) → cond (eqb t asked) false (eqb k tableKind) ≡ true → (k ≡ tableKind) × (t ≡ asked → ⊥)
+    go (yes q) h = absurd (true≢false (sym h ∙ ap (λ (b : Bool). cond b false (eqb k tableKind)) (eq-eqb t asked q)))
+    go (no q) h = (eqb-true k tableKind (sym (ap (λ (b : Bool). cond b false (eqb k tableKind)) (ne-eqb t asked q)) ∙ h), q)
+
+pub no-other : (k t asked : ℕ) → isOther k t asked ≡ false → k ≡ tableKind → (t ≡ asked → ⊥) → ⊥
+unfolding isOther
+no-other k t asked h e o = true≢false (sym ((λ i. cond (ne-eqb t asked o i) false (eq-eqb k tableKind e i))) ∙ h)
+
+-- the tables before the place t, but the one that is asked for, are kept
+pub record Sofar (depth kind cols rows : List ℕ) (asked : ℕ) (firsts spans : List ℕ) (t : ℕ) : Type 0 where
   pub at : t ≤ length kind
-  pub left : (ls : List Line) → HoldsKinds ls depth kind cols rows → verdictOf (tablesChecks (t + 1) (drop t ls)) ≡ verdictOf (tablesChecks 1 ls)
-  pub kept : (u : ℕ) → u < t → getD kind u 0 ≡ tableKind → KeptTable (heldRows depth cols rows u) u firsts spans
+  pub kept : (u : ℕ) → u < t → getD kind u 0 ≡ tableKind → (u ≡ asked → ⊥) → KeptTable (heldRows depth cols rows u) u firsts spans
 
-pub start : (depth kind cols rows firsts spans : List ℕ) → Sofar depth kind cols rows firsts spans 0
-start depth kind cols rows firsts spans = record {
-  at = omega arith;
-  left = λ ls w. let e : 0 + 1 ≡ 1 = omega arith in ap (λ (k : ℕ). verdictOf (tablesChecks k ls)) e;
-  kept = λ u l. absurd (omega arith);
-}
+pub start : (depth kind cols rows : List ℕ) (asked : ℕ) (firsts spans : List ℕ) → Sofar depth kind cols rows asked firsts spans 0
+start depth kind cols rows asked firsts spans = record { at = omega arith; kept = λ u l. absurd (omega arith) }
 
-module _ {depth kind cols rows firsts spans : List ℕ} {t : ℕ} (z : Sofar depth kind cols rows firsts spans t) where
+module _ {depth kind cols rows : List ℕ} {asked : ℕ} {firsts spans : List ℕ} {t : ℕ} (z : Sofar depth kind cols rows asked firsts spans t) where
   -- no table is left
-  pub stop : length kind ≤ t → length kind ≡ length depth → TablesJudged depth kind cols rows Accepted firsts spans
-  unfolding tablesChecks verdictOf first
-  stop h k = record {
-    answer = λ ls w.
-        sym (ap (λ (l : List Line). verdictOf (tablesChecks (t + 1) l)) (drop-of-length-le ls {i = t} (omega (arith, ap length (w .kinds), length-map ls (λ l. l .kind)))))
-        ∙ z .left ls w;
-    kept = λ _. record { table = λ u l e. z .kept u (omega (arith, z .at)) e };
+  pub stop : length kind ≤ t → OthersJudged depth kind cols rows asked Accepted firsts spans
+  stop h = record {
+    accepted = λ _ u l e o. z .kept u (omega (arith, z .at)) e o;
+    refused = λ n l q. absurd (let r : _≡_ {A = ℕ} 0 1 = cc in omega arith);
   }
 
   module _ (h : t < length kind) where
-    pub turn-other : (getD kind t 0 ≡ tableKind → ⊥) → Sofar depth kind cols rows firsts spans (t + 1)
-    turn-other n = record {
-      at = omega arith;
-      left = λ ls w. sym (verdict-other ls w t h n) ∙ z .left ls w;
-      kept = λ u l e. z .kept u (before u l e (ℕ-discrete u t)) e;
-    }
+    pub turn-other : isOther (getD kind t 0) t asked ≡ false → Sofar depth kind cols rows asked firsts spans (t + 1)
+    turn-other n = record { at = omega arith; kept = λ u l e o. z .kept u (before u l e o (ℕ-discrete u t)) e o }
       where
-        before : (u : ℕ) → u < t + 1 → getD kind u 0 ≡ tableKind → Dec (u ≡ t) → u < t
-        before u l e (yes q) = absurd (n (ap (λ (k : ℕ). getD kind k 0) (sym q) ∙ e))
-        before u l e (no q) = omega arith
+        before : (u : ℕ) → u < t + 1 → getD kind u 0 ≡ tableKind → (u ≡ asked → ⊥) → Dec (u ≡ t) → u < t
+        before u l e o (yes q) = absurd (no-other (getD kind t 0) t asked n (ap (λ (k : ℕ). getD kind k 0) (sym q) ∙ e) (λ r. o (q ∙ r)))
+        before u l e o (no q) = omega arith
 
-    module _ (lined : Lined depth cols rows) (nests : Nests depth kind) (e : getD kind t 0 ≡ tableKind) {number : ℕ} {firsts′ spans′ : List ℕ}
-        (s : TableStored (heldRows depth cols rows t) t number firsts spans firsts′ spans′) where
-      pub turn-refused : (number ≡ 0 → ⊥) → TablesJudged depth kind cols rows (Refused number (t + 1)) firsts′ spans′
+    module _ (lined : Lined depth cols rows) (nests : Nests depth kind) (y : isOther (getD kind t 0) t asked ≡ true)
+        {number : ℕ} {firsts′ spans′ line first′ span row end : List ℕ}
+        (s : TableStored (heldRows depth cols rows t) t number firsts spans firsts′ spans′ line first′ span row end) where
+      other-here : (getD kind t 0 ≡ tableKind) × (t ≡ asked → ⊥)
+      other-here = is-other (getD kind t 0) t asked y
+
+      pub turn-refused : (number ≡ 0 → ⊥) → OthersJudged depth kind cols rows asked (Refused number (t + 1)) firsts′ spans′
       turn-refused o = record {
-        answer = λ ls w. sym (verdict-refused ls w t h e number (s .answer) o) ∙ z .left ls w;
-        kept = λ a. absurd (let q : _≡_ {A = ℕ} 0 1 = cc in omega arith);
-      }
-
-      pub turn-kept : number ≡ 0 → length depth ≤ length firsts → length depth ≤ length spans → Sofar depth kind cols rows firsts′ spans′ (t + 1)
-      turn-kept o fr sr = record {
-        at = omega arith;
-        left = λ ls w. sym (verdict-passed ls w t h e number (s .answer) o) ∙ z .left ls w;
-        kept = λ u l f. each u l f (ℕ-discrete u t);
+        accepted = λ a. absurd (let q : _≡_ {A = ℕ} 0 1 = cc in omega arith);
+        refused = λ n l q.
+            let a : number ≡ n = cc in
+            let b : t + 1 ≡ l = cc in
+            let c : t ≡ l - 1 = omega arith in
+            (omega arith, subst (λ (k : ℕ). OtherRefused depth kind cols rows asked n k) c (subst (λ (k : ℕ). OtherRefused depth kind cols rows asked k t) a here-refused));
       }
         where
-          stored : TableStored (heldRows depth cols rows t) t 0 firsts spans firsts′ spans′
-          stored = subst (λ (n : ℕ). TableStored (heldRows depth cols rows t) t n firsts spans firsts′ spans′) o s
+          here-refused : OtherRefused depth kind cols rows asked number t
+          here-refused = record {
+            within = h;
+            table = other-here .0;
+            other = other-here .1;
+            refused = s .answer;
+            some = o;
+            before = λ u l e n. sound-passed (heldRows depth cols rows u) (z .kept u l e n .sound);
+          }
 
-          each : (u : ℕ) → u < t + 1 → getD kind u 0 ≡ tableKind → Dec (u ≡ t) → KeptTable (heldRows depth cols rows u) u firsts′ spans′
-          each u l f (yes q) =
+      pub turn-kept : number ≡ 0 → length depth ≤ length firsts → length depth ≤ length spans → Sofar depth kind cols rows asked firsts′ spans′ (t + 1)
+      turn-kept o fr sr = record { at = omega arith; kept = λ u l f n. each u l f n (ℕ-discrete u t) }
+        where
+          stored : TableStored (heldRows depth cols rows t) t 0 firsts spans firsts′ spans′ line first′ span row end
+          stored = subst (λ (n : ℕ). TableStored (heldRows depth cols rows t) t n firsts spans firsts′ spans′ line first′ span row end) o s
+
+          each : (u : ℕ) → u < t + 1 → getD kind u 0 ≡ tableKind → (u ≡ asked → ⊥) → Dec (u ≡ t) → KeptTable (heldRows depth cols rows u) u firsts′ spans′
+          each u l f n (yes q) =
               subst (λ (k : ℕ). KeptTable (heldRows depth cols rows k) k firsts′ spans′) (sym q)
-              (kept-here lined nests t (omega (arith, nests .kinds)) e stored fr sr)
-          each u l f (no q) = kept-earlier lined nests t (omega (arith, nests .kinds)) e stored fr sr u (omega arith) f (z .kept u (omega arith) f)
+              (kept-here lined nests t (omega (arith, nests .kinds)) (other-here .0) stored fr sr)
+          each u l f n (no q) =
+              kept-other lined nests t (omega (arith, nests .kinds)) (other-here .0) stored fr sr u (omega (arith, nests .kinds)) q f (z .kept u (omega arith) f n)
 
 -- ---- the lent slices keep their lengths
 
@@ -340,9 +373,10 @@ module _ {wide₀ cell-rows₀ cell-end₀ left₀ hang-at₀ hang₀ next-left�
         span-of-same = e15 ∙ z .span-of-same;
       }
 
-  pub room-same : {m : ℕ} → Room m wide₀ cell-rows₀ cell-end₀ left₀ hang-at₀ hang₀ next-left₀ next-at₀ next-wide₀ line₀ first₀ span₀ row-line₀ row-end₀ → Room m wide cell-rows cell-end left hang-at hang next-left next-at next-wide line first span row-line row-end
+  pub room-same : {m room : ℕ} → Room m room wide₀ cell-rows₀ cell-end₀ left₀ hang-at₀ hang₀ next-left₀ next-at₀ next-wide₀ line₀ first₀ span₀ row-line₀ row-end₀ → Room m room wide cell-rows cell-end left hang-at hang next-left next-at next-wide line first span row-line row-end
   room-same r =
       record {
+        row-fits = r .row-fits;
         wide-room = rw (z .wide-same) (r .wide-room);
         cell-rows-room = rw (z .cell-rows-same) (r .cell-rows-room);
         cell-end-room = rw (z .cell-end-same) (r .cell-end-room);
@@ -358,3 +392,42 @@ module _ {wide₀ cell-rows₀ cell-end₀ left₀ hang-at₀ hang₀ next-left�
         row-room = rw (z .row-line-same) (r .row-room);
         end-room = rw (z .row-end-same) (r .end-room);
       }
+
+-- room stays, since the lengths do
+pub room-kept : {wide₀ cell-rows₀ cell-end₀ left₀ hang-at₀ hang₀ next-left₀ next-at₀ next-wide₀ line₀ first₀ span₀ row-line₀ row-end₀
+    wide cell-rows cell-end left hang-at hang next-left next-at next-wide line first span row-line row-end : List ℕ}
+    → {m room : ℕ} → Room m room wide₀ cell-rows₀ cell-end₀ left₀ hang-at₀ hang₀ next-left₀ next-at₀ next-wide₀ line₀ first₀ span₀ row-line₀ row-end₀
+    → length wide ≡ length wide₀
+    → length cell-rows ≡ length cell-rows₀
+    → length cell-end ≡ length cell-end₀
+    → length left ≡ length left₀
+    → length hang-at ≡ length hang-at₀
+    → length hang ≡ length hang₀
+    → length next-left ≡ length next-left₀
+    → length next-at ≡ length next-at₀
+    → length next-wide ≡ length next-wide₀
+    → length line ≡ length line₀
+    → length first ≡ length first₀
+    → length span ≡ length span₀
+    → length row-line ≡ length row-line₀
+    → length row-end ≡ length row-end₀
+    → Room m room wide cell-rows cell-end left hang-at hang next-left next-at next-wide line first span row-line row-end
+room-kept r e0 e1 e2 e3 e4 e5 e6 e7 e8 e9 e10 e11 e12 e13 =
+    room-same {first-of₀ = []} {span-of₀ = []} {first-of = []} {span-of = []} (record {
+      wide-same = e0;
+      cell-rows-same = e1;
+      cell-end-same = e2;
+      left-same = e3;
+      hang-at-same = e4;
+      hang-same = e5;
+      next-left-same = e6;
+      next-at-same = e7;
+      next-wide-same = e8;
+      line-same = e9;
+      first-same = e10;
+      span-same = e11;
+      row-line-same = e12;
+      row-end-same = e13;
+      first-of-same = refl;
+      span-of-same = refl;
+    }) r

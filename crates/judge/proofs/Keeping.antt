@@ -7,10 +7,11 @@ use native.Mathlib.Omega.{arith}
 use lib.Dec.{eqb}
 use lib.ListN.{length, getD, take, set, length-map, List·getD-append}
 use Rattle.lists.specs.Lists.{over}
-use Rattle.lists.specs.Limits.{maxEntries}
 use Rattle.cells.specs.Cells as cells
 use Rattle.cells.specs.Listed.{heldRows}
 use Rattle.cells.proofs.Facts.{every-at, every-map, every-weaken}
+use Rattle.positions.specs.Positions.{originalRows, allRows}
+use Rattle.positions.specs.Slices.{Enough}
 use Rattle.grid.specs.declared.Judged.{Judged}
 use Rattle.grid.specs.declared.Judged.the-variants.{Grid, Refused}
 use Rattle.grid.specs.Grid.{Entry, shownLine, gridOf, entriesOf}
@@ -18,8 +19,12 @@ use Rattle.grid.specs.Facts.{CellOf}
 use Rattle.grid.specs.Judging.{firstOf, spanOf, GridJudged, Lined}
 use Rattle.judge.specs.Kept.{storedBy, JudgedFits, JudgedStored, numberIn, TableStored}
 use Rattle.grid.proofs.Rebuilt.{front}
+use Rattle.grid.proofs.GridLists.{grid-count}
+use Rattle.grid.proofs.Counts.{judged-counts}
 use Rattle.grid.proofs.GridCells.{entries-cells}
-use Rattle.grid.proofs.GridFacts.{grid-entries, grid-columns, judged-sound, judged-refused}
+use Rattle.grid.proofs.GridFacts.{grid-columns, judged-sound, judged-refused}
+use Rattle.grid.proofs.Stands.{written-stands}
+use Rattle.judge.proofs.Counts.{held-rows-few}
 
 -- ---- the entries of a table can be stored
 
@@ -47,13 +52,15 @@ module _ {depth cols rows : List ℕ} (z : Lined depth cols rows) {at : ℕ} (h 
       rw (g .written r n c e .lines, List·getD-append (map shownLine es) _ 0 k b)
       (every-at {P = λ x. x ≤ N} (every-map shownLine (λ x p. p) (every-weaken (λ x. shown-within N depth at x m) (entries-cells z at h))) 0 k b)
 
-  pub keep-ready : {firsts spans : List ℕ} → maxEntries ≤ length line → maxEntries ≤ length first → maxEntries ≤ length span
+  pub keep-ready : {room : ℕ} {firsts spans : List ℕ} → Enough room T → room ≤ length line → room ≤ length first → room ≤ length span
       → length depth ≤ length firsts → length depth ≤ length spans → JudgedFits judged at line first span firsts spans
-  keep-ready {firsts} {spans} a b c d e = record {
-    place = omega arith;
+  unfolding gridOf
+  keep-ready {room} {firsts} {spans} enough a b c d e = record {
+    first-place = omega arith;
+    span-place = omega arith;
     fit = λ r n m q.
         let s = judged-sound T r n m (sym (g .answer) ∙ q) in
-        let f = grid-entries T (s .0) in (
+        let f : length es ≤ room = omega (arith, grid-count (originalRows T) (allRows T), enough (s .0 .few)) in (
           record {
             lines-in = omega (arith, s .1);
             firsts-in = omega (arith, s .1);
@@ -61,6 +68,7 @@ module _ {depth cols rows : List ℕ} (z : Lined depth cols rows) {at : ℕ} (h 
             first-room = line-within (length firsts) d r n m q;
             span-room = line-within (length spans) e r n m q;
           },
+          omega (arith, judged-counts T r n m (sym (g .answer) ∙ q) .1, held-rows-few z at (s .0)),
           omega (arith, s .2, grid-columns T (s .0)),
         );
   }
@@ -88,13 +96,14 @@ module _ {table : List cells.Row} {judged : Judged} {line₀ first₀ span₀ ro
       ap₂ (λ (x y : List ℕ). storedBy x y o) (front (map shownLine entries) line₀ line n (q ∙ sym (length-map entries shownLine)) l) e
       ∙ stored-front (map shownLine entries) (map f entries) _ o (omega (arith, length-map entries shownLine, length-map entries f))
 
-  by-answer : (q : Judged) → judged ≡ q → TableStored table at number firsts₀ spans₀ firsts spans
+  by-answer : (q : Judged) → judged ≡ q → TableStored table at number firsts₀ spans₀ firsts spans line first span row end
   by-answer (Refused k) e =
       let r = sym (g .answer) ∙ e in
       record {
         answer = s .refused k e ∙ ap numberIn (sym r);
         firsts-are = λ z. absurd (judged-refused table k r (sym (s .refused k e) ∙ z));
         spans-are = λ z. absurd (judged-refused table k r (sym (s .refused k e) ∙ z));
+        stands = λ z. absurd (judged-refused table k r (sym (s .refused k e) ∙ z));
       }
   by-answer (Grid r n c) e =
       let q = sym (g .answer) ∙ e in
@@ -102,9 +111,12 @@ module _ {table : List cells.Row} {judged : Judged} {line₀ first₀ span₀ ro
       let w = g .written r n c e in
       record {
         answer = s .accepted r n c e ∙ ap numberIn (sym q);
-        firsts-are = λ _. s .firsts-are r n c e ∙ stored-figures n (j .1) (w .lines) firstOf first₀ first firsts₀ (w .firsts);
+        firsts-are = λ _.
+            s .firsts-are r n c e
+            ∙ ap₂ (λ (l : List ℕ) (m : ℕ). set l at m) (stored-figures n (j .1) (w .lines) firstOf first₀ first firsts₀ (w .firsts)) (judged-counts table r n c q .1);
         spans-are = λ _. s .spans-are r n c e ∙ ap₂ (λ (l : List ℕ) (m : ℕ). set l at m) (stored-figures n (j .1) (w .lines) spanOf span₀ span spans₀ (w .spans)) (j .2);
+        stands = λ _. written-stands w;
       }
 
-  pub table-stored : TableStored table at number firsts₀ spans₀ firsts spans
+  pub table-stored : TableStored table at number firsts₀ spans₀ firsts spans line first span row end
   table-stored = by-answer judged refl

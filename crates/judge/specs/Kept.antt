@@ -1,11 +1,11 @@
 -- What judging all tables of a sheet keeps of their grids, by line: place k holds line k + 1. These are definitions; nothing is assumed.
 use mathlib.Core.Path.{_≡_}
-use mathlib.Core.Bool.{true, false, cond}
+use mathlib.Core.Bool.{Bool, true, false, cond}
 use mathlib.Core.List.{List, [], _∷_, map}
 use Prim.Native.Nat.{ℕ, _+_, _-_, _≤_, _<_}
-use lib.Dec.{eqb}
+use lib.Dec.{ltb, eqb}
 use lib.ListN.{length, getD, take, drop, set}
-use Rattle.lists.specs.Limits.{maxPosition}
+use Rattle.lists.specs.Limits.{maxLines, maxPosition}
 use Rattle.lists.specs.Refusals.{verdictOf}
 use Rattle.lists.specs.declared.Verdict.{Verdict}
 use Rattle.lists.specs.declared.Verdict.the-variants as verdict
@@ -18,7 +18,8 @@ use Rattle.grid.specs.declared.Judged.{Judged}
 use Rattle.grid.specs.declared.Judged.the-variants.{Grid, Refused}
 use Rattle.grid.specs.Grid.{Entry, shownLine, gridOf, columnsOf, entriesOf, tablesChecks}
 use Rattle.grid.specs.Facts.{Sound}
-use Rattle.grid.specs.Judging.{firstOf, spanOf, judgedOf}
+use Rattle.grid.specs.Judging.{firstOf, spanOf, judgedOf, GridStands}
+use Rattle.positions.specs.Slices.{Enough}
 
 -- ---- one table
 
@@ -39,15 +40,17 @@ pub record EntriesStored (n : ℕ) (line first′ span firsts₀ spans₀ firsts
   pub firsts-are : firsts ≡ storedBy (take n line) first′ firsts₀
   pub spans-are : spans ≡ storedBy (take n line) span spans₀
 
--- a judged table, if it has a grid: its entries, and at its own place its columns
+-- a judged table, if it has a grid: its entries, and at its own place its rows and columns
 pub record JudgedFits (judged : Judged) (at : ℕ) (line first′ span firsts spans : List ℕ) : Type 0 where
-  pub place : at < length spans
-  pub fit : (rows entries columns : ℕ) → judged ≡ Grid rows entries columns → EntriesFit entries line first′ span firsts spans × (columns ≤ maxPosition)
+  pub first-place : at < length firsts
+  pub span-place : at < length spans
+  pub fit : (rows entries columns : ℕ) → judged ≡ Grid rows entries columns
+      → EntriesFit entries line first′ span firsts spans × (rows ≤ maxLines) × (columns ≤ maxPosition)
 
 pub record JudgedStored (judged : Judged) (at : ℕ) (line first′ span firsts₀ spans₀ : List ℕ) (number : ℕ) (firsts spans : List ℕ) : Type 0 where
   pub refused : (n : ℕ) → judged ≡ Refused n → number ≡ n
   pub accepted : (rows entries columns : ℕ) → judged ≡ Grid rows entries columns → number ≡ 0
-  pub firsts-are : (rows entries columns : ℕ) → judged ≡ Grid rows entries columns → firsts ≡ storedBy (take entries line) first′ firsts₀
+  pub firsts-are : (rows entries columns : ℕ) → judged ≡ Grid rows entries columns → firsts ≡ set (storedBy (take entries line) first′ firsts₀) at rows
   pub spans-are : (rows entries columns : ℕ) → judged ≡ Grid rows entries columns → spans ≡ set (storedBy (take entries line) span spans₀) at columns
 
 -- the number of the first of the refusals 5, 6 and 7 that applies, or 0
@@ -58,10 +61,13 @@ numberIn (Refused number) = number
 abbrev pub refusalOf : List cells.Row → ℕ
 refusalOf table = numberIn (judgedOf table)
 
-pub record TableStored (table : List cells.Row) (at number : ℕ) (firsts₀ spans₀ firsts spans : List ℕ) : Type 0 where
+-- the table at a place: the number of its refusal; if none applies, what is kept of its grid, and the grid stands in the slices
+pub record TableStored (table : List cells.Row) (at number : ℕ) (firsts₀ spans₀ firsts spans line first′ span row end : List ℕ) : Type 0 where
   pub answer : number ≡ refusalOf table
-  pub firsts-are : number ≡ 0 → firsts ≡ storedBy (map shownLine (entriesOf (gridOf table))) (map firstOf (entriesOf (gridOf table))) firsts₀
+  pub firsts-are : number ≡ 0
+      → firsts ≡ set (storedBy (map shownLine (entriesOf (gridOf table))) (map firstOf (entriesOf (gridOf table))) firsts₀) at (length (gridOf table))
   pub spans-are : number ≡ 0 → spans ≡ set (storedBy (map shownLine (entriesOf (gridOf table))) (map spanOf (entriesOf (gridOf table))) spans₀) at (columnsOf table)
+  pub stands : number ≡ 0 → GridStands (gridOf table) line first′ span row end
 
 -- ---- all tables
 
@@ -71,6 +77,7 @@ KeptEntry firsts spans e = e .filler ≡ false → (getD firsts (e .owner - 1) 0
 
 pub record KeptTable (table : List cells.Row) (at : ℕ) (firsts spans : List ℕ) : Type 0 where
   pub sound : Sound table
+  pub rows : getD firsts at 0 ≡ length (gridOf table)
   pub columns : getD spans at 0 ≡ columnsOf table
   pub entries : Every (KeptEntry firsts spans) (entriesOf (gridOf table))
 
@@ -94,7 +101,44 @@ pub record HoldsKinds (ls : List Line) (depth kind cols rows : List ℕ) : Type 
   pub figures : HoldsLines ls depth cols rows
   pub kinds : kind ≡ map (λ l. l .kind) ls
 
--- the first refusal of a table, in the order of lines; if there is none, every table is kept
-pub record TablesJudged (depth kind cols rows : List ℕ) (r : Verdict) (firsts spans : List ℕ) : Type 0 where
+-- there is room for the entries of every table
+pub record AllEnough (room : ℕ) (depth cols rows : List ℕ) : Type 0 where
+  pub at : (t : ℕ) → t < length depth → Enough room (heldRows depth cols rows t)
+
+-- a line of a kind at the place t is a table other than the one asked for
+unfoldable pub isOther : ℕ → ℕ → ℕ → Bool
+isOther kind t asked = cond (eqb t asked) false (eqb kind tableKind)
+
+-- the first refusal of the other tables: the table at the place t is refused, and each before it passes
+pub record OtherRefused (depth kind cols rows : List ℕ) (asked number t : ℕ) : Type 0 where
+  pub within : t < length kind
+  pub table : getD kind t 0 ≡ tableKind
+  pub other : t ≡ asked → ⊥
+  pub refused : number ≡ refusalOf (heldRows depth cols rows t)
+  pub some : number ≡ 0 → ⊥
+  pub before : (u : ℕ) → u < t → getD kind u 0 ≡ tableKind → (u ≡ asked → ⊥) → refusalOf (heldRows depth cols rows u) ≡ 0
+
+-- the verdict on the tables but the one at the place `asked`
+pub record OthersJudged (depth kind cols rows : List ℕ) (asked : ℕ) (r : Verdict) (firsts spans : List ℕ) : Type 0 where
+  pub accepted : r ≡ verdict.Accepted → (u : ℕ) → u < length kind → getD kind u 0 ≡ tableKind → (u ≡ asked → ⊥)
+      → KeptTable (heldRows depth cols rows u) u firsts spans
+  pub refused : (number line : ℕ) → r ≡ verdict.Refused number line → (1 ≤ line) × OtherRefused depth kind cols rows asked number (line - 1)
+
+-- the earlier of the others' refusal and that of the table in a line
+abbrev pub earlierThan : ℕ → ℕ → Verdict → Verdict
+earlierThan number line verdict.Accepted = verdict.Refused number line
+earlierThan number line (verdict.Refused other at) = cond (ltb at line) (verdict.Refused other at) (verdict.Refused number line)
+
+unfoldable pub earlierOf : Verdict → ℕ → ℕ → Verdict
+earlierOf others number line = cond (eqb number 0) others (earlierThan number line others)
+
+-- the table at a place is kept, and its grid stands in the slices
+pub record GridKept (table : List cells.Row) (at : ℕ) (firsts spans line first′ span row end : List ℕ) : Type 0 where
+  pub kept : KeptTable table at firsts spans
+  pub stands : GridStands (gridOf table) line first′ span row end
+
+-- the first refusal of a table, in the order of lines; if there is none, every table is kept, and the one asked for with its grid
+pub record TablesJudged (depth kind cols rows : List ℕ) (asked : ℕ) (r : Verdict) (firsts spans line first′ span row end : List ℕ) : Type 0 where
   pub answer : (ls : List Line) → HoldsKinds ls depth kind cols rows → r ≡ verdictOf (tablesChecks 1 ls)
   pub kept : r ≡ verdict.Accepted → Kept depth kind cols rows firsts spans
+  pub asked-kept : r ≡ verdict.Accepted → asked < length kind → GridKept (heldRows depth cols rows asked) asked firsts spans line first′ span row end

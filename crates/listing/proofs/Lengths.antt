@@ -102,10 +102,11 @@ module _ {x₀ cell-rows₀ cell-end₀ left₀ hang-at₀ hang₀ next-left₀ 
         wide-same = e17 ∙ same .wide-same;
       }
 
-  pub room-same : {n : ℕ} → Room n x₀ cell-rows₀ cell-end₀ left₀ hang-at₀ hang₀ next-left₀ next-at₀ next-wide₀ cell₀ first₀ span₀ row₀ row-end₀
-      → Room n x cell-rows cell-end left hang-at hang next-left next-at next-wide cell first span row row-end
+  pub room-same : {n room : ℕ} → Room n room x₀ cell-rows₀ cell-end₀ left₀ hang-at₀ hang₀ next-left₀ next-at₀ next-wide₀ cell₀ first₀ span₀ row₀ row-end₀
+      → Room n room x cell-rows cell-end left hang-at hang next-left next-at next-wide cell first span row row-end
   room-same r =
       record {
+        row-fits = r .row-fits;
         wide-room = rw (same .x-same) (r .wide-room);
         cell-rows-room = rw (same .cell-rows-same) (r .cell-rows-room);
         cell-end-room = rw (same .cell-end-same) (r .cell-end-room);

@@ -5,11 +5,11 @@ ghost use Rattle.lists.specs.Limits.{maxLines};
 ghost use Rattle.listing.specs.Listing.{Place};
 use super::layouts::cells;
 use super::layouts::heading;
+use line::kinds::TABLE;
 use lists::MAX_ENTRIES;
 use lists::MAX_LINES;
 use lists::MAX_POSITION;
 use settings::Given;
-use sheet::nesting::TABLE;
 use tables::Gridded;
 use tables::LaidOut;
 

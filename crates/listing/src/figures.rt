@@ -7,9 +7,9 @@ use super::entries::entries;
 use super::lines::four;
 use super::lines::two;
 use super::lines::words;
+use line::kinds::TABLE;
 use lists::MAX_ENTRIES;
 use lists::MAX_LINES;
-use sheet::nesting::TABLE;
 use tables::Estimated;
 use tables::Gridded;
 

@@ -1,7 +1,7 @@
 // How each table of a sheet is laid out.
 ghost use Prim.Native.Nat.{_≤_};
 ghost use lib.ListN.{length};
-ghost use Rattle.lists.specs.Limits.{maxWidth};
+ghost use Rattle.lists.specs.Limits.{maxEntries, maxWidth};
 ghost use Rattle.grid.specs.Judging.{Lined, Room};
 ghost use Rattle.arranging.specs.Layouts.{AllMeasured, LayoutRoom};
 ghost use Rattle.listing.specs.Listing.{Place};
@@ -11,8 +11,8 @@ use super::lines::number;
 use super::lines::two;
 use super::lines::words;
 use arranging::Arranged;
+use line::kinds::TABLE;
 use settings::Given;
-use sheet::nesting::TABLE;
 use widths::Way;
 
 // Puts the letter of a way between two spaces.
@@ -94,7 +94,7 @@ fn table(
     requires { ⌜ given .width ≤ maxWidth ⌝ }
     requires { ⌜ Lined (now depth) (now cols) (now rows) ⌝ }
     requires { ⌜ AllMeasured (length (now depth)) (now size) (now least) ⌝ }
-    requires { ⌜ Room (length (now depth)) (now x) (now «cell_rows») (now «cell_end») (now left) (now «hang_at») (now hang)
+    requires { ⌜ Room (length (now depth)) maxEntries (now x) (now «cell_rows») (now «cell_end») (now left) (now «hang_at») (now hang)
         (now «next_left») (now «next_at») (now «next_wide») (now cell) (now first) (now span) (now row) (now «row_end») ⌝ }
     requires { ⌜ LayoutRoom (now sizes) (now leasts) (now column) (now wide) ⌝ }
     ensures { λ r. ⌜ Place (now (out .exit)) r ⌝ }
@@ -187,7 +187,7 @@ pub fn layouts(
     requires { ⌜ given .width ≤ maxWidth ⌝ }
     requires { ⌜ Lined (now depth) (now cols) (now rows) ⌝ }
     requires { ⌜ AllMeasured (length (now depth)) (now size) (now least) ⌝ }
-    requires { ⌜ Room (length (now depth)) (now x) (now «cell_rows») (now «cell_end») (now left) (now «hang_at») (now hang)
+    requires { ⌜ Room (length (now depth)) maxEntries (now x) (now «cell_rows») (now «cell_end») (now left) (now «hang_at») (now hang)
         (now «next_left») (now «next_at») (now «next_wide») (now cell) (now first) (now span) (now row) (now «row_end») ⌝ }
     requires { ⌜ LayoutRoom (now sizes) (now leasts) (now column) (now wide) ⌝ }
     ensures { λ r. ⌜ Place (now (out .exit)) r ⌝ }

@@ -180,6 +180,8 @@ fn opened(out: &mut [u8], at: usize, sheet: &[u8], given: Given) -> usize
     let mut size = [0u32; MAX_LINES];
     let mut least = [0u32; MAX_LINES];
     let mut prefix = [0u32; MAX_LINES];
+    let mut row = [0u32; MAX_LINES];
+    let mut row_end = [0u32; MAX_LINES];
     let mut cell = [0u32; MAX_ENTRIES];
     let mut first = [0u32; MAX_ENTRIES];
     let mut span = [0u32; MAX_ENTRIES];
@@ -204,6 +206,8 @@ fn opened(out: &mut [u8], at: usize, sheet: &[u8], given: Given) -> usize
         &mut cell,
         &mut first,
         &mut span,
+        &mut row,
+        &mut row_end,
     );
     match read {
         Reading::Refused {

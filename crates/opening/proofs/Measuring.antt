@@ -82,13 +82,13 @@ figure-at g z m es b e k h =
     ∙ ap (λ (d : ℕ). getD (map g es) k d) (sym z)
     ∙ List·getD-map g es k none
 
-module _ {asks : Bool} {s : List ℕ} {line n : ℕ} {depth kind number cols rows own first′ span : List ℕ}
-    (w : Opened asks s line (Lines n) depth kind number cols rows own first′ span) where
+module _ {asks : Bool} {s : List ℕ} {line n : ℕ} {depth kind number cols rows own firsts spans cell first′ span row end : List ℕ}
+    (w : Opened asks s line (Lines n) depth kind number cols rows own firsts spans cell first′ span row end) where
   abbrev answers : openedOf asks s line ≡ Lines n
   answers = sym (w .answer)
 
   abbrev fronts : Slices
-  fronts = slices (take n depth) (take n kind) (take n number) (take n own) (take n first′) (take n span)
+  fronts = slices (take n depth) (take n kind) (take n number) (take n own) (take n firsts) (take n spans)
 
   figures : Figures (sheetLines s) fronts
   figures =
@@ -101,16 +101,16 @@ module _ {asks : Bool} {s : List ℕ} {line n : ℕ} {depth kind number cols row
         own = ap (λ (m : ℕ). take m own) q ∙ h .owns;
       }
 
-  pub sheet-walkable : n ≤ length first′ → n ≤ length span → Sheet fronts
+  pub sheet-walkable : n ≤ length firsts → n ≤ length spans → Sheet fronts
   sheet-walkable fi si =
       let q = opened-count asks s line n answers in
       let r = opened-reads asks s line n answers in
       walkable figures (accepted-nested s n r) (accepted-lines s n r .1) (lines-numbered s) (w .kept n refl) (opened-grids asks s line n answers)
-      (accepted-own s n r) (length-take-le n first′ fi ∙ q) (length-take-le n span si ∙ q)
+      (accepted-own s n r) (length-take-le n firsts fi ∙ q) (length-take-le n spans si ∙ q)
 
   pub measure-ready : (size least prefix : List ℕ) → roomFor s ≤ length depth → roomFor s ≤ length kind → roomFor s ≤ length number
-      → roomFor s ≤ length own → roomFor s ≤ length first′ → roomFor s ≤ length span → FiguresRoom (roomFor s) size least prefix
-      → MeasureReady n depth kind number own first′ span size least prefix
+      → roomFor s ≤ length own → roomFor s ≤ length firsts → roomFor s ≤ length spans → FiguresRoom (roomFor s) size least prefix
+      → MeasureReady n depth kind number own firsts spans size least prefix
   measure-ready size least prefix dr kr nr wr fr pr g =
       let i = accepted-room s n (opened-reads asks s line n answers) in
       let a = g .size-room in
@@ -154,19 +154,19 @@ module _ {asks : Bool} {s : List ℕ} {line n : ℕ} {depth kind number cols row
       }
 
 -- the same answer in other words
-pub opened-as : {asks : Bool} {s : List ℕ} {line : ℕ} {depth kind number cols rows own first′ span : List ℕ} {q r : Reading} → q ≡ r
-    → Opened asks s line q depth kind number cols rows own first′ span → Opened asks s line r depth kind number cols rows own first′ span
-opened-as {asks} {s} {line} {depth} {kind} {number} {cols} {rows} {own} {first′} {span} e w =
-    subst (λ (r : Reading). Opened asks s line r depth kind number cols rows own first′ span) e w
+pub opened-as : {asks : Bool} {s : List ℕ} {line : ℕ} {depth kind number cols rows own firsts spans cell first′ span row end : List ℕ} {q r : Reading} → q ≡ r
+    → Opened asks s line q depth kind number cols rows own firsts spans cell first′ span row end → Opened asks s line r depth kind number cols rows own firsts spans cell first′ span row end
+opened-as {asks} {s} {line} {depth} {kind} {number} {cols} {rows} {own} {firsts} {spans} {cell} {first′} {span} {row} {end} e w =
+    subst (λ (r : Reading). Opened asks s line r depth kind number cols rows own firsts spans cell first′ span row end) e w
 
-module _ {asks : Bool} {s : List ℕ} {line wrap : ℕ} {depth kind number cols rows own first′ span : List ℕ} where
-  pub measured-refused : {size least prefix : List ℕ} (refusal at : ℕ) → Opened asks s line (Refused refusal at) depth kind number cols rows own first′ span
-      → SheetMeasured asks s line wrap (Refused refusal at) depth kind number cols rows own first′ span size least prefix
+module _ {asks : Bool} {s : List ℕ} {line wrap : ℕ} {depth kind number cols rows own firsts spans cell first′ span row end : List ℕ} where
+  pub measured-refused : {size least prefix : List ℕ} (refusal at : ℕ) → Opened asks s line (Refused refusal at) depth kind number cols rows own firsts spans cell first′ span row end
+      → SheetMeasured asks s line wrap (Refused refusal at) depth kind number cols rows own firsts spans size least prefix cell first′ span row end
   measured-refused refusal at w = record { opened = w; measured = λ n e. let z : _≡_ {A = ℕ} 0 1 = cc in absurd (omega arith) }
 
-  pub measured-opened : {b : Buffers} {size least prefix : List ℕ} (n : ℕ) (w : Opened asks s line (Lines n) depth kind number cols rows own first′ span)
+  pub measured-opened : {b : Buffers} {size least prefix : List ℕ} (n : ℕ) (w : Opened asks s line (Lines n) depth kind number cols rows own firsts spans cell first′ span row end)
       → Estimated (walkedOf wrap (fronts w)) b (buffers size least prefix)
-      → SheetMeasured asks s line wrap (Lines n) depth kind number cols rows own first′ span size least prefix
+      → SheetMeasured asks s line wrap (Lines n) depth kind number cols rows own firsts spans size least prefix cell first′ span row end
   measured-opened n w m = record { opened = w; measured = λ k e. sheet-measured w wrap m }
 
 -- room for a sheet's figures, and scratch for its columns

@@ -2,7 +2,7 @@
 use mathlib.Core.Path.{_≡_, refl, sym, ap, subst, _∙_}
 use mathlib.Core.Bool.{Bool, true, false, not, cond}
 use mathlib.Core.List.{List, _∷_, _++_}
-use Prim.Native.Nat.{ℕ, _+_, _<_}
+use Prim.Native.Nat.{ℕ, _+_, _-_, _<_}
 use native.Mathlib.Numerals.{add-one}
 use native.Mathlib.Omega.{arith}
 use lib.ListN.{length, getD, take, drop}
@@ -22,7 +22,7 @@ use Rattle.sheet.specs.declared.Reading.the-variants.{Lines, Refused}
 use Rattle.sheet.proofs.First.{both-true, first-accepts, first-passes, passes-append}
 use Rattle.sheet.proofs.Accepted.{refused-carries, accepted-leaves}
 use Rattle.grid.specs.Grid.{tableRows, tablesChecks}
-use Rattle.judge.specs.Kept.{HoldsKinds}
+use Rattle.judge.specs.Kept.{HoldsKinds, GridKept}
 use Rattle.judge.specs.Kept as grids
 use Rattle.estimates.specs.Kept.{noEntry, tableAt, Kept, AllGrids}
 use Rattle.opening.specs.Opening.{isTable, openedOf}
@@ -54,15 +54,16 @@ module _ {ls : List Line} {depth kind cols rows : List ℕ} (h : HoldsKinds ls d
           subst (λ (rs : List cells.Row). grids.KeptTable rs t firsts spans) (table-held t g)
           (k .table t (omega (arith, long depthOf ls depth (h .figures .depths))) (at kindOfLine ls kind (h .kinds) refl t ∙ q))
 
-module _ {asks : Bool} {s : List ℕ} {line : ℕ} {depth kind number cols rows own first′ span : List ℕ} where
+module _ {asks : Bool} {s : List ℕ} {line : ℕ} {depth kind number cols rows own firsts spans cell first′ span row end : List ℕ} where
   pub opened-refused : (refusal at : ℕ) → SheetRead s (Refused refusal at) depth kind number cols rows own
-      → Opened asks s line (Refused refusal at) depth kind number cols rows own first′ span
+      → Opened asks s line (Refused refusal at) depth kind number cols rows own firsts spans cell first′ span row end
   unfolding openedOf
   opened-refused refusal at w =
       record {
         answer = sym (refused-carries Refused (Lines (length (sheetLines s))) s refusal at _ (sym (w .answer)));
         holds = λ n e. let z : _≡_ {A = ℕ} 0 1 = cc in absurd (omega arith);
         kept = λ n e. let z : _≡_ {A = ℕ} 0 1 = cc in absurd (omega arith);
+        asked = λ n e. let z : _≡_ {A = ℕ} 0 1 = cc in absurd (omega arith);
       }
 
 -- an accepted sheet that is opened has as many lines as were read, and its tables pass
@@ -99,21 +100,24 @@ module _ (asks : Bool) (s : List ℕ) (line n : ℕ) (e : openedOf asks s line �
   pub opened-grids : AllGrids (sheetLines s)
   opened-grids = all-grids (sheetLines s) opened-tables
 
-module _ {asks : Bool} {s : List ℕ} {line : ℕ} {depth kind number cols rows own first′ span : List ℕ} where
+module _ {asks : Bool} {s : List ℕ} {line : ℕ} {depth kind number cols rows own firsts spans cell first′ span row end : List ℕ} where
   pub opened-read : (n : ℕ) (r : Reading) → SheetRead s (Lines n) depth kind number cols rows own
-      → TablesOpened asks line (take n depth) (take n kind) (take n cols) (take n rows) r (take n first′) (take n span)
-      → Opened asks s line r depth kind number cols rows own first′ span
+      → TablesOpened asks line (take n depth) (take n kind) (take n cols) (take n rows) r (take n firsts) (take n spans) cell first′ span row end
+      → Opened asks s line r depth kind number cols rows own firsts spans cell first′ span row end
   unfolding openedOf lineAndTables
   opened-read n r w t =
       let answer : r ≡ openedOf asks s line
       = t .answer (sheetLines s) (holds-front n w)
       ∙ sym (accepted-leaves Refused (Lines (length (sheetLines s))) s n (lineAndTables asks (sheetLines s) line) (sym (w .answer))) in
+      let same : (m : ℕ) → r ≡ Lines m → n ≡ m
+      = λ m e. let z : Lines n ≡ Lines m = w .answer ∙ opened-reads asks s line m (sym answer ∙ e) in cc in
       record {
         answer = answer;
         holds = λ m e. w .holds n refl;
         kept = λ m e.
-            let q = opened-reads asks s line m (sym answer ∙ e) in
-            let same : n ≡ m = (let z : Lines n ≡ Lines m = w .answer ∙ q in cc) in
-            subst (λ (k : ℕ). Kept (sheetLines s) (take k first′) (take k span)) same
-            (kept-lines (holds-front n w) (take n first′) (take n span) (t .kept m e));
+            subst (λ (k : ℕ). Kept (sheetLines s) (take k firsts) (take k spans)) (same m e)
+            (kept-lines (holds-front n w) (take n firsts) (take n spans) (t .kept m e));
+        asked = λ m e q.
+            subst (λ (k : ℕ). GridKept (heldRows (take k depth) (take k cols) (take k rows) (line - 1)) (line - 1) (take k firsts) (take k spans) cell first′ span row end)
+            (same m e) (t .asked m e q);
       }

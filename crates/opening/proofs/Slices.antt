@@ -6,7 +6,7 @@ use Prim.Native.Nat.{ℕ, _+_, _≤_, _<_}
 use native.Mathlib.Omega.{arith}
 use lib.ListN.{length, getD, take, drop, length-append, length-map, take-append-drop, List·getD-map}
 use lib.Seq.{length-take-le}
-use Rattle.lists.specs.Limits.{maxLines}
+use Rattle.lists.specs.Limits.{maxLines, maxEntries}
 use Rattle.lists.specs.Lists.{over}
 use Rattle.lists.proofs.Over.{over-front}
 use Rattle.line.specs.Kinds.{mayHold}
@@ -22,7 +22,7 @@ use Rattle.sheet.proofs.Nests.{lines-ranged, accepted-nested}
 use Rattle.sheet.proofs.Bounds.{accepted-lines, accepted-room}
 use Rattle.grid.specs.Judging.{Lined}
 use Rattle.grid.specs.Judging as judging
-use Rattle.judge.specs.Kept.{Nests, HoldsKinds}
+use Rattle.judge.specs.Kept.{Nests, HoldsKinds, AllEnough}
 use Rattle.opening.specs.Opening.{Holds}
 use Rattle.opening.specs.Opened.{LinesRoom, GridsRoom, EntriesRoom, SheetRead, FrontReady}
 use Rattle.opening.proofs.Answers.{holds-front}
@@ -136,11 +136,12 @@ reading-room w g =
     }
 
 -- room for n lines is room for fewer
-pub room-less : {m n : ℕ} {wide cell-rows cell-end left hang-at hang next-left next-at next-wide line first′ span row end : List ℕ} → m ≤ n
-    → judging.Room n wide cell-rows cell-end left hang-at hang next-left next-at next-wide line first′ span row end
-    → judging.Room m wide cell-rows cell-end left hang-at hang next-left next-at next-wide line first′ span row end
+pub room-less : {m n room : ℕ} {wide cell-rows cell-end left hang-at hang next-left next-at next-wide line first′ span row end : List ℕ} → m ≤ n
+    → judging.Room n room wide cell-rows cell-end left hang-at hang next-left next-at next-wide line first′ span row end
+    → judging.Room m room wide cell-rows cell-end left hang-at hang next-left next-at next-wide line first′ span row end
 room-less h r =
     record {
+      row-fits = omega (arith, r .row-fits);
       wide-room = r .wide-room;
       line-room = r .line-room;
       first-room = r .first-room;
@@ -165,13 +166,14 @@ still e h = omega arith
 pub front-same : (n : ℕ) (a f : List ℕ) → length f ≡ length (take n a) → length (f ++ drop n a) ≡ length a
 front-same n a f e = omega (arith, length-append f (drop n a), length-append (take n a) (drop n a), ap length (take-append-drop n a))
 
--- lent room for entries is, with ten arrays of n places, room for as many lines
-pub room-with : {m n : ℕ} {wide cell-rows cell-end left hang-at hang next-left next-at next-wide line first′ span row end : List ℕ} → m ≤ n
-    → EntriesRoom wide line first′ span → length cell-rows ≡ n → length cell-end ≡ n → length left ≡ n → length hang-at ≡ n → length hang ≡ n
-    → length next-left ≡ n → length next-at ≡ n → length next-wide ≡ n → length row ≡ n → length end ≡ n
-    → judging.Room m wide cell-rows cell-end left hang-at hang next-left next-at next-wide line first′ span row end
-room-with h e a b c d f g i j k l =
+-- lent room for entries and rows is, with eight arrays of n places, room for as many lines
+pub room-with : {m n : ℕ} {wide cell-rows cell-end left hang-at hang next-left next-at next-wide line first′ span row end : List ℕ} → m ≤ n → m ≤ maxLines
+    → EntriesRoom wide line first′ span → GridsRoom m row end → length cell-rows ≡ n → length cell-end ≡ n → length left ≡ n → length hang-at ≡ n
+    → length hang ≡ n → length next-left ≡ n → length next-at ≡ n → length next-wide ≡ n
+    → judging.Room m maxEntries wide cell-rows cell-end left hang-at hang next-left next-at next-wide line first′ span row end
+room-with h most e g a b c d f i j k =
     record {
+      row-fits = omega arith;
       wide-room = e .wide-room;
       line-room = e .cell-room;
       first-room = e .first-room;
@@ -181,12 +183,16 @@ room-with h e a b c d f g i j k l =
       left-room = still c h;
       hang-at-room = still d h;
       hang-room = still f h;
-      next-left-room = still g h;
-      next-at-room = still i h;
-      next-wide-room = still j h;
-      row-room = still k h;
-      end-room = still l h;
+      next-left-room = still i h;
+      next-at-room = still j h;
+      next-wide-room = still k h;
+      row-room = g .first-room;
+      end-room = g .span-room;
     }
+
+-- the places of a table's entries do for every table
+pub enough-most : (depth cols rows : List ℕ) → AllEnough maxEntries depth cols rows
+enough-most depth cols rows = record { at = λ t h few. few }
 
 -- no sheet asks for more room than the most lines
 pub room-most : (s : List ℕ) → roomFor s ≤ maxLines

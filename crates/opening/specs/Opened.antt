@@ -1,6 +1,6 @@
 -- What the functions that open and measure a sheet take and promise. These are definitions; nothing is assumed.
 use mathlib.Core.Path.{_≡_}
-use mathlib.Core.Bool.{Bool, not, cond, false, _&&_}
+use mathlib.Core.Bool.{Bool, not, cond, true, false, _&&_}
 use mathlib.Core.List.{List, _∷_}
 use Prim.Native.Nat.{ℕ, _-_, _≤_, _<_}
 use lib.Dec.{leb, eqb}
@@ -15,7 +15,8 @@ use Rattle.sheet.specs.declared.Reading.{Reading}
 use Rattle.sheet.specs.declared.Reading.the-variants.{Lines, Refused}
 use Rattle.grid.specs.Grid.{tablesChecks}
 use Rattle.grid.specs.Judging.{Lined}
-use Rattle.judge.specs.Kept.{Nests, HoldsKinds}
+use Rattle.cells.specs.Listed.{heldRows}
+use Rattle.judge.specs.Kept.{Nests, HoldsKinds, GridKept}
 use Rattle.judge.specs.Kept as grids
 use Rattle.estimates.specs.Kept.{Kept}
 use Rattle.estimates.specs.Sheet.{Sheet, slices, maxSize}
@@ -28,6 +29,10 @@ tableAmong kinds line = leb 1 line && leb line (length kinds) && eqb (getD kinds
 -- a call asks for a line that is no table
 unfoldable pub asksAmiss : Bool → List ℕ → ℕ → Bool
 asksAmiss asks kinds line = cond asks (not (tableAmong kinds line)) false
+
+-- the place of the line that is asked for, or that after the last of n lines
+unfoldable pub askedPlace : Bool → ℕ → ℕ → ℕ
+askedPlace asks line n = cond asks (line - 1) n
 
 -- each slice has a place for each of m lines
 pub record LinesRoom (m : ℕ) (depth kind number cols rows own : List ℕ) : Type 0 where
@@ -79,15 +84,19 @@ pub record FrontReady (n : ℕ) (depth kind cols rows first′ span : List ℕ) 
 unfoldable pub lineAndTables : Bool → List Line → ℕ → List Check
 lineAndTables asks ls line = cond asks (check (not (isTable ls line)) 10 0 ∷ tablesChecks 1 ls) (tablesChecks 1 ls)
 
-pub record TablesOpened (asks : Bool) (line : ℕ) (depth kind cols rows : List ℕ) (r : Reading) (first′ span : List ℕ) : Type 0 where
+-- the answer, what is kept of each grid, and the grid of the table that is asked for
+pub record TablesOpened (asks : Bool) (line : ℕ) (depth kind cols rows : List ℕ) (r : Reading) (firsts spans cell first′ span row end : List ℕ) : Type 0 where
   pub answer : (ls : List Line) → HoldsKinds ls depth kind cols rows → r ≡ first Refused (Lines (length ls)) (lineAndTables asks ls line)
-  pub kept : (n : ℕ) → r ≡ Lines n → grids.Kept depth kind cols rows first′ span
+  pub kept : (n : ℕ) → r ≡ Lines n → grids.Kept depth kind cols rows firsts spans
+  pub asked : (n : ℕ) → r ≡ Lines n → asks ≡ true → GridKept (heldRows depth cols rows (line - 1)) (line - 1) firsts spans cell first′ span row end
 
--- a sheet opened: the answer, and if it is accepted, its lines and what is kept of its grids
-pub record Opened (asks : Bool) (s : List ℕ) (line : ℕ) (r : Reading) (depth kind number cols rows own first′ span : List ℕ) : Type 0 where
+-- a sheet opened: the answer, and if it is accepted, its lines, what is kept of its grids, and the grid of the table that is asked for
+pub record Opened (asks : Bool) (s : List ℕ) (line : ℕ) (r : Reading) (depth kind number cols rows own firsts spans cell first′ span row end : List ℕ) : Type 0 where
   pub answer : r ≡ openedOf asks s line
   pub holds : (n : ℕ) → r ≡ Lines n → Holds (sheetLines s) depth kind number cols rows own
-  pub kept : (n : ℕ) → r ≡ Lines n → Kept (sheetLines s) (take n first′) (take n span)
+  pub kept : (n : ℕ) → r ≡ Lines n → Kept (sheetLines s) (take n firsts) (take n spans)
+  pub asked : (n : ℕ) → r ≡ Lines n → asks ≡ true
+      → GridKept (heldRows (take n depth) (take n cols) (take n rows) (line - 1)) (line - 1) (take n firsts) (take n spans) cell first′ span row end
 
 -- what measuring the first n places of slices takes
 pub record MeasureReady (n : ℕ) (depth kind number own first′ span size least prefix : List ℕ) : Type 0 where
@@ -109,6 +118,6 @@ pub record Measured (wrap : ℕ) (ls : List Line) (size least prefix : List ℕ)
   pub small : (k : ℕ) → k < length ls → getD size k 0 ≤ maxSize
 
 pub record SheetMeasured (asks : Bool) (s : List ℕ) (line wrap : ℕ) (r : Reading)
-    (depth kind number cols rows own first′ span size least prefix : List ℕ) : Type 0 where
-  pub opened : Opened asks s line r depth kind number cols rows own first′ span
+    (depth kind number cols rows own firsts spans size least prefix cell first′ span row end : List ℕ) : Type 0 where
+  pub opened : Opened asks s line r depth kind number cols rows own firsts spans cell first′ span row end
   pub measured : (n : ℕ) → r ≡ Lines n → Measured wrap (sheetLines s) size least prefix

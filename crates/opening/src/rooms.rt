@@ -24,12 +24,16 @@ pub fn open_small(
     cell: &mut [u32],
     first: &mut [u32],
     span: &mut [u32],
+    row: &mut [u32],
+    row_end: &mut [u32],
 ) -> Reading
     requires { ⌜ roomFor (now bytes) ≤ smallLines ⌝ }
     requires { ⌜ LinesRoom (roomFor (now bytes)) (now depth) (now kind) (now number) (now cols) (now rows) (now own) ⌝ }
     requires { ⌜ GridsRoom (roomFor (now bytes)) (now «first_of») (now «span_of») ⌝ }
     requires { ⌜ EntriesRoom (now wide) (now cell) (now first) (now span) ⌝ }
-    ensures { λ r. ⌜ Opened asks (now (bytes .entry)) line r (now (depth .exit)) (now (kind .exit)) (now (number .exit)) (now (cols .exit)) (now (rows .exit)) (now (own .exit)) (now («first_of» .exit)) (now («span_of» .exit)) ⌝ }
+    requires { ⌜ GridsRoom (roomFor (now bytes)) (now row) (now «row_end») ⌝ }
+    ensures { λ r. ⌜ Opened asks (now (bytes .entry)) line r (now (depth .exit)) (now (kind .exit)) (now (number .exit)) (now (cols .exit)) (now (rows .exit)) (now (own .exit)) (now («first_of» .exit)) (now («span_of» .exit))
+        (now (cell .exit)) (now (first .exit)) (now (span .exit)) (now (row .exit)) (now («row_end» .exit)) ⌝ }
 {
     let mut cell_rows = [0u32; SMALL_LINES];
     let mut cell_end = [0u32; SMALL_LINES];
@@ -39,8 +43,6 @@ pub fn open_small(
     let mut next_left = [0u32; SMALL_LINES];
     let mut next_at = [0u32; SMALL_LINES];
     let mut next_wide = [0u32; SMALL_LINES];
-    let mut row = [0u32; SMALL_LINES];
-    let mut row_end = [0u32; SMALL_LINES];
     super::open_in(
         bytes,
         asks,
@@ -65,8 +67,8 @@ pub fn open_small(
         cell,
         first,
         span,
-        &mut row,
-        &mut row_end,
+        row,
+        row_end,
     )
 }
 
@@ -87,11 +89,15 @@ pub fn open_large(
     cell: &mut [u32],
     first: &mut [u32],
     span: &mut [u32],
+    row: &mut [u32],
+    row_end: &mut [u32],
 ) -> Reading
     requires { ⌜ LinesRoom (roomFor (now bytes)) (now depth) (now kind) (now number) (now cols) (now rows) (now own) ⌝ }
     requires { ⌜ GridsRoom (roomFor (now bytes)) (now «first_of») (now «span_of») ⌝ }
     requires { ⌜ EntriesRoom (now wide) (now cell) (now first) (now span) ⌝ }
-    ensures { λ r. ⌜ Opened asks (now (bytes .entry)) line r (now (depth .exit)) (now (kind .exit)) (now (number .exit)) (now (cols .exit)) (now (rows .exit)) (now (own .exit)) (now («first_of» .exit)) (now («span_of» .exit)) ⌝ }
+    requires { ⌜ GridsRoom (roomFor (now bytes)) (now row) (now «row_end») ⌝ }
+    ensures { λ r. ⌜ Opened asks (now (bytes .entry)) line r (now (depth .exit)) (now (kind .exit)) (now (number .exit)) (now (cols .exit)) (now (rows .exit)) (now (own .exit)) (now («first_of» .exit)) (now («span_of» .exit))
+        (now (cell .exit)) (now (first .exit)) (now (span .exit)) (now (row .exit)) (now («row_end» .exit)) ⌝ }
 {
     let mut cell_rows = [0u32; MAX_LINES];
     let mut cell_end = [0u32; MAX_LINES];
@@ -101,8 +107,6 @@ pub fn open_large(
     let mut next_left = [0u32; MAX_LINES];
     let mut next_at = [0u32; MAX_LINES];
     let mut next_wide = [0u32; MAX_LINES];
-    let mut row = [0u32; MAX_LINES];
-    let mut row_end = [0u32; MAX_LINES];
     super::open_in(
         bytes,
         asks,
@@ -127,7 +131,7 @@ pub fn open_large(
         cell,
         first,
         span,
-        &mut row,
-        &mut row_end,
+        row,
+        row_end,
     )
 }

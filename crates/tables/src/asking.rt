@@ -79,5 +79,5 @@ pub fn find_layout(
             line: 0,
         };
     }
-    finding::layout(sheet, line, wrap, raw, width, column, x, wide)
+    composing::layout(sheet, line, wrap, raw, width, column, x, wide)
 }

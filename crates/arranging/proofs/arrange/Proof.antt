@@ -47,7 +47,7 @@ cast-at c = search needs
 table-grid-requires : tie.Need-table-grid-requires
 table-grid-requires c κs =
     let p = entry c .pre in
-    (omega (arith, p .0 .from-one, p .0 .within), (p .0 .lined, p .1 .1 .1 .0))
+    (omega (arith, p .0 .from-one, p .0 .within), (p .0 .lined, (p .1 .1 .1 .0, λ h. h)))
 
 enum-known-judged : tie.Need-enum-known-judged
 enum-known-judged c = search needs
@@ -62,11 +62,11 @@ lay-front-requires c κs =
     let p = start (shaped k) .pre in
     let room = p .1 .1 .1 .0 in
     front-layable (p .0) (g .ensures) (k .before .judged2 .given .1) (p .1 .0) (p .1 .1 .0)
-    (omega (arith, room .line-room, g .kept .1 .1 .1 .1 .1 .1 .1 .1 .1 .1 .1 .1 .1 .0))
-    (omega (arith, room .first-room, g .kept .1 .1 .1 .1 .1 .1 .1 .1 .1 .1 .1 .1 .1 .1 .0))
-    (omega (arith, room .span-room, g .kept .1 .1 .1 .1 .1 .1 .1 .1 .1 .1 .1 .1 .1 .1 .1 .0))
-    (omega (arith, room .end-room, g .kept .1 .1 .1 .1 .1 .1 .1 .1 .1 .1 .1 .1 .1 .1 .1 .1 .1 .0))
-    (omega (arith, room .wide-room, g .kept .1 .1 .1 .1 .0)) (p .1 .1 .1 .1)
+    (omega (arith, room .line-room, g .kept .1 .1 .1 .1 .1 .1 .1 .1 .1 .1 .1 .1 .1 .1 .0))
+    (omega (arith, room .first-room, g .kept .1 .1 .1 .1 .1 .1 .1 .1 .1 .1 .1 .1 .1 .1 .1 .0))
+    (omega (arith, room .span-room, g .kept .1 .1 .1 .1 .1 .1 .1 .1 .1 .1 .1 .1 .1 .1 .1 .1 .0))
+    (omega (arith, room .end-room, g .kept .1 .1 .1 .1 .1 .1 .1 .1 .1 .1 .1 .1 .1 .1 .1 .1 .1 .1 .0))
+    (omega (arith, room .wide-room, g .kept .1 .1 .1 .1 .1 .0)) (p .1 .1 .1 .1)
 
 cast-t84 : tie.Need-cast-t84
 cast-t84 c = omega (arith, counts (start (judging c) .pre .0) (judging c .table-grid .ensures) .few _ _ _ (known c .before .judged2 .given .1))
@@ -78,88 +78,88 @@ cast-t86 : tie.Need-cast-t86
 cast-t86 c = omega (arith, counts (start (judging c) .pre .0) (judging c .table-grid .ensures) .few _ _ _ (known c .before .judged2 .given .1))
 
 same-length : tie.Need-same-length
-same-length c = refused c .table-grid .kept .1 .1 .1 .1 .1 .0
+same-length c = refused c .table-grid .kept .1 .1 .1 .1 .1 .1 .0
 
 same-length-2 : tie.Need-same-length-2
-same-length-2 c = refused c .table-grid .kept .1 .1 .1 .1 .1 .1 .0
+same-length-2 c = refused c .table-grid .kept .1 .1 .1 .1 .1 .1 .1 .0
 
 same-length-3 : tie.Need-same-length-3
-same-length-3 c = refused c .table-grid .kept .1 .1 .1 .1 .1 .1 .1 .0
+same-length-3 c = refused c .table-grid .kept .1 .1 .1 .1 .1 .1 .1 .1 .0
 
 same-length-4 : tie.Need-same-length-4
-same-length-4 c = refused c .table-grid .kept .1 .1 .1 .1 .1 .1 .1 .1 .0
+same-length-4 c = refused c .table-grid .kept .1 .1 .1 .1 .1 .1 .1 .1 .1 .0
 
 same-length-5 : tie.Need-same-length-5
-same-length-5 c = refused c .table-grid .kept .1 .1 .1 .1 .1 .1 .1 .1 .1 .0
+same-length-5 c = refused c .table-grid .kept .1 .1 .1 .1 .1 .1 .1 .1 .1 .1 .0
 
 same-length-6 : tie.Need-same-length-6
-same-length-6 c = refused c .table-grid .kept .1 .1 .1 .1 .1 .1 .1 .1 .1 .1 .0
+same-length-6 c = refused c .table-grid .kept .1 .1 .1 .1 .1 .1 .1 .1 .1 .1 .1 .0
 
 same-length-7 : tie.Need-same-length-7
-same-length-7 c = refused c .table-grid .kept .1 .1 .1 .1 .1 .1 .1 .1 .1 .1 .1 .0
+same-length-7 c = refused c .table-grid .kept .1 .1 .1 .1 .1 .1 .1 .1 .1 .1 .1 .1 .0
 
 same-length-8 : tie.Need-same-length-8
-same-length-8 c = refused c .table-grid .kept .1 .1 .1 .1 .1 .1 .1 .1 .1 .1 .1 .1 .0
+same-length-8 c = refused c .table-grid .kept .1 .1 .1 .1 .1 .1 .1 .1 .1 .1 .1 .1 .1 .0
 
 same-length-9 : tie.Need-same-length-9
-same-length-9 c = refused c .table-grid .kept .1 .1 .1 .1 .1 .1 .1 .1 .1 .1 .1 .1 .1 .0
+same-length-9 c = refused c .table-grid .kept .1 .1 .1 .1 .1 .1 .1 .1 .1 .1 .1 .1 .1 .1 .0
 
 same-length-10 : tie.Need-same-length-10
-same-length-10 c = refused c .table-grid .kept .1 .1 .1 .1 .1 .1 .1 .1 .1 .1 .1 .1 .1 .1 .0
+same-length-10 c = refused c .table-grid .kept .1 .1 .1 .1 .1 .1 .1 .1 .1 .1 .1 .1 .1 .1 .1 .0
 
 same-length-11 : tie.Need-same-length-11
-same-length-11 c = refused c .table-grid .kept .1 .1 .1 .1 .1 .1 .1 .1 .1 .1 .1 .1 .1 .1 .1 .0
+same-length-11 c = refused c .table-grid .kept .1 .1 .1 .1 .1 .1 .1 .1 .1 .1 .1 .1 .1 .1 .1 .1 .0
 
 same-length-12 : tie.Need-same-length-12
-same-length-12 c = refused c .table-grid .kept .1 .1 .1 .1 .1 .1 .1 .1 .1 .1 .1 .1 .1 .1 .1 .1 .0
+same-length-12 c = refused c .table-grid .kept .1 .1 .1 .1 .1 .1 .1 .1 .1 .1 .1 .1 .1 .1 .1 .1 .1 .0
 
 same-length-13 : tie.Need-same-length-13
-same-length-13 c = refused c .table-grid .kept .1 .1 .1 .1 .1 .1 .1 .1 .1 .1 .1 .1 .1 .1 .1 .1 .1 .0
+same-length-13 c = refused c .table-grid .kept .1 .1 .1 .1 .1 .1 .1 .1 .1 .1 .1 .1 .1 .1 .1 .1 .1 .1 .0
 
 same-length-14 : tie.Need-same-length-14
-same-length-14 c = refused c .table-grid .kept .1 .1 .1 .1 .0
+same-length-14 c = refused c .table-grid .kept .1 .1 .1 .1 .1 .0
 
 returns : tie.Need-returns
 returns c = refused-at (start (refused c) .pre .0) (refused c .table-grid .ensures) (c .before .judged .given .1) _ _ _ _ _ _ _
 
 same-length-15 : tie.Need-same-length-15
-same-length-15 c = judging c .table-grid .kept .1 .1 .1 .1 .1 .0
+same-length-15 c = judging c .table-grid .kept .1 .1 .1 .1 .1 .1 .0
 
 same-length-16 : tie.Need-same-length-16
-same-length-16 c = judging c .table-grid .kept .1 .1 .1 .1 .1 .1 .0
+same-length-16 c = judging c .table-grid .kept .1 .1 .1 .1 .1 .1 .1 .0
 
 same-length-17 : tie.Need-same-length-17
-same-length-17 c = judging c .table-grid .kept .1 .1 .1 .1 .1 .1 .1 .0
+same-length-17 c = judging c .table-grid .kept .1 .1 .1 .1 .1 .1 .1 .1 .0
 
 same-length-18 : tie.Need-same-length-18
-same-length-18 c = judging c .table-grid .kept .1 .1 .1 .1 .1 .1 .1 .1 .0
+same-length-18 c = judging c .table-grid .kept .1 .1 .1 .1 .1 .1 .1 .1 .1 .0
 
 same-length-19 : tie.Need-same-length-19
-same-length-19 c = judging c .table-grid .kept .1 .1 .1 .1 .1 .1 .1 .1 .1 .0
+same-length-19 c = judging c .table-grid .kept .1 .1 .1 .1 .1 .1 .1 .1 .1 .1 .0
 
 same-length-20 : tie.Need-same-length-20
-same-length-20 c = judging c .table-grid .kept .1 .1 .1 .1 .1 .1 .1 .1 .1 .1 .0
+same-length-20 c = judging c .table-grid .kept .1 .1 .1 .1 .1 .1 .1 .1 .1 .1 .1 .0
 
 same-length-21 : tie.Need-same-length-21
-same-length-21 c = judging c .table-grid .kept .1 .1 .1 .1 .1 .1 .1 .1 .1 .1 .1 .0
+same-length-21 c = judging c .table-grid .kept .1 .1 .1 .1 .1 .1 .1 .1 .1 .1 .1 .1 .0
 
 same-length-22 : tie.Need-same-length-22
-same-length-22 c = judging c .table-grid .kept .1 .1 .1 .1 .1 .1 .1 .1 .1 .1 .1 .1 .0
+same-length-22 c = judging c .table-grid .kept .1 .1 .1 .1 .1 .1 .1 .1 .1 .1 .1 .1 .1 .0
 
 same-length-23 : tie.Need-same-length-23
-same-length-23 c = judging c .table-grid .kept .1 .1 .1 .1 .1 .1 .1 .1 .1 .1 .1 .1 .1 .0
+same-length-23 c = judging c .table-grid .kept .1 .1 .1 .1 .1 .1 .1 .1 .1 .1 .1 .1 .1 .1 .0
 
 same-length-24 : tie.Need-same-length-24
-same-length-24 c = judging c .table-grid .kept .1 .1 .1 .1 .1 .1 .1 .1 .1 .1 .1 .1 .1 .1 .0
+same-length-24 c = judging c .table-grid .kept .1 .1 .1 .1 .1 .1 .1 .1 .1 .1 .1 .1 .1 .1 .1 .0
 
 same-length-25 : tie.Need-same-length-25
-same-length-25 c = judging c .table-grid .kept .1 .1 .1 .1 .1 .1 .1 .1 .1 .1 .1 .1 .1 .1 .1 .0
+same-length-25 c = judging c .table-grid .kept .1 .1 .1 .1 .1 .1 .1 .1 .1 .1 .1 .1 .1 .1 .1 .1 .0
 
 same-length-26 : tie.Need-same-length-26
-same-length-26 c = judging c .table-grid .kept .1 .1 .1 .1 .1 .1 .1 .1 .1 .1 .1 .1 .1 .1 .1 .1 .0
+same-length-26 c = judging c .table-grid .kept .1 .1 .1 .1 .1 .1 .1 .1 .1 .1 .1 .1 .1 .1 .1 .1 .1 .0
 
 same-length-27 : tie.Need-same-length-27
-same-length-27 c = judging c .table-grid .kept .1 .1 .1 .1 .1 .1 .1 .1 .1 .1 .1 .1 .1 .1 .1 .1 .1 .0
+same-length-27 c = judging c .table-grid .kept .1 .1 .1 .1 .1 .1 .1 .1 .1 .1 .1 .1 .1 .1 .1 .1 .1 .1 .0
 
 same-length-28 : tie.Need-same-length-28
 same-length-28 c = laying c .lay-front .kept .1 .1 .1 .1 .1 .1 .1 .1 .1 .1 .1 .0
@@ -171,7 +171,7 @@ same-length-30 : tie.Need-same-length-30
 same-length-30 c = laying c .lay-front .kept .1 .1 .1 .1 .1 .1 .1 .1 .1 .1 .1 .1 .1 .0
 
 same-length-31 : tie.Need-same-length-31
-same-length-31 c = laying c .lay-front .kept .1 .1 .1 .1 .1 .1 .1 .1 .1 .1 .1 .1 .1 .1 .0 ∙ judging c .table-grid .kept .1 .1 .1 .1 .0
+same-length-31 c = laying c .lay-front .kept .1 .1 .1 .1 .1 .1 .1 .1 .1 .1 .1 .1 .1 .1 .0 ∙ judging c .table-grid .kept .1 .1 .1 .1 .1 .0
 
 same-length-32 : tie.Need-same-length-32
 same-length-32 c = laying c .lay-front .kept .1 .1 .1 .1 .1 .1 .1 .1 .1 .1 .1 .1 .1 .1 .1 .0

@@ -1,7 +1,8 @@
 -- The cycle `node`, `table`, `cell` meets its contracts. Each call passes a line and all below it: `node` a line that stands anywhere, `cell`
--- the children of a line one after the other, `table` the lines of a table, whose cells it then spreads over its columns. The loops'
--- invariants say that the lines passed have their estimates, and that what is combined so far, with the lines left, comes to the whole.
--- The measure is twice the lines left, and one more for `node`, which may call for its own line. Assumes nothing.
+-- the children of a line one after the other (a leaf without a call, by the law that `node` has for it), `table` the lines of a table, whose
+-- cells it then spreads over its columns. The loops' invariants say that the lines passed have their estimates, and that what is combined so
+-- far, with the lines left, comes to the whole. The measure is twice the lines left, and one more for `node`, which may call for its own
+-- line. Assumes nothing.
 use Prim.Native.Nat.{ℕ, _+_, _*_, _-_, _<_}
 use mathlib.Core.Logic.{⊎-elim}
 use mathlib.Core.Path.{_≡_, refl, sym, _∙_}
@@ -11,7 +12,7 @@ use borrow.Author.Needs.{needs}
 use Rattle.estimates.specs.Sheet.{slices}
 use Rattle.estimates.specs.Meets.{Ends, buffers}
 use Rattle.estimates.proofs.Passing.{begin}
-use Rattle.estimates.proofs.Children.{CellLoop, cell-start, cell-child, cell-again, cell-fits, cell-end, plain-holder, leaf-meets, table-meets, holder-ready, holder-meets}
+use Rattle.estimates.proofs.Children.{CellLoop, cell-start, cell-ready, cell-child, cell-again, cell-leaf, cell-fits, cell-end, plain-holder, leaf-meets, table-meets, holder-ready, holder-meets}
 use Rattle.estimates.proofs.Framing.{TableLoop, table-start, table-cell, table-again, table-frame, table-ready, table-end}
 use borrow.Fn.Kinds.{In}
 use borrow.Fn.PlainCycle.{Measures, is, falls, and}
@@ -60,7 +61,7 @@ abbrev table-below : ℕ → In 10 table-kinds.ps
 table-below t = and 10 table-kinds.ps (falls 10 table-kinds.ps _<_ μ-table t) table.Pre
 
 abbrev cell-claims : ℕ → cell-lts.Claims
-cell-claims t = (node-below t, node.Post, larger-reads.Asked, larger-reads.Learnt)
+cell-claims t = (is-leaf-reads.Asked, is-leaf-reads.Learnt, leaf-reads.Asked, leaf-reads.Learnt, larger-reads.Asked, larger-reads.Learnt, node-below t, node.Post)
 
 abbrev cell-Inv-loop : cell-lts.InvT-loop
 cell-Inv-loop depth kind number own first span size₀ least₀ prefix₀ leasts₀ wrap at d sum₀ most₀ children₀ i₀ size least prefix leasts sum most children i =
@@ -90,9 +91,80 @@ cell-mul-if1 t c = search needs
 cell-shared-slice-read-if1 : (t : ℕ) → cell-lts.Need-shared-slice-read-if1 (cell-claims t) (cell-at t) cell.Post cell-Inv-loop cell-μ-loop
 cell-shared-slice-read-if1 t c = search needs
 
+cell-mul-k : (t : ℕ) → cell-lts.Need-mul-k (cell-claims t) (cell-at t) cell.Post cell-Inv-loop cell-μ-loop
+cell-mul-k t c = search needs
+
+cell-shared-slice-read-k : (t : ℕ) → cell-lts.Need-shared-slice-read-k (cell-claims t) (cell-at t) cell.Post cell-Inv-loop cell-μ-loop
+cell-shared-slice-read-k t c = search needs
+
+cell-is-leaf-requires : (t : ℕ) → cell-lts.Need-is-leaf-requires (cell-claims t) (cell-at t) cell.Post cell-Inv-loop cell-μ-loop
+cell-is-leaf-requires t c κs = search needs
+
+cell-mul-leaf : (t : ℕ) → cell-lts.Need-mul-leaf (cell-claims t) (cell-at t) cell.Post cell-Inv-loop cell-μ-loop
+cell-mul-leaf t c = search needs
+
+cell-shared-slice-read-leaf : (t : ℕ) → cell-lts.Need-shared-slice-read-leaf (cell-claims t) (cell-at t) cell.Post cell-Inv-loop cell-μ-loop
+cell-shared-slice-read-leaf t c = search needs
+
+cell-leaf-requires : (t : ℕ) → cell-lts.Need-leaf-requires (cell-claims t) (cell-at t) cell.Post cell-Inv-loop cell-μ-loop
+cell-leaf-requires t c κs = search needs
+
+cell-mul-size : (t : ℕ) → cell-lts.Need-mul-size (cell-claims t) (cell-at t) cell.Post cell-Inv-loop cell-μ-loop
+cell-mul-size t c = search needs
+
+cell-slice-write-size : (t : ℕ) → cell-lts.Need-slice-write-size (cell-claims t) (cell-at t) cell.Post cell-Inv-loop cell-μ-loop
+cell-slice-write-size t c = search needs
+
+cell-mul-least : (t : ℕ) → cell-lts.Need-mul-least (cell-claims t) (cell-at t) cell.Post cell-Inv-loop cell-μ-loop
+cell-mul-least t c = search needs
+
+cell-slice-write-least : (t : ℕ) → cell-lts.Need-slice-write-least (cell-claims t) (cell-at t) cell.Post cell-Inv-loop cell-μ-loop
+cell-slice-write-least t c = search needs
+
+cell-mul-prefix : (t : ℕ) → cell-lts.Need-mul-prefix (cell-claims t) (cell-at t) cell.Post cell-Inv-loop cell-μ-loop
+cell-mul-prefix t c = search needs
+
+cell-slice-write-prefix : (t : ℕ) → cell-lts.Need-slice-write-prefix (cell-claims t) (cell-at t) cell.Post cell-Inv-loop cell-μ-loop
+cell-slice-write-prefix t c = search needs
+
+cell-add-sum : (t : ℕ) → cell-lts.Need-add-sum (cell-claims t) (cell-at t) cell.Post cell-Inv-loop cell-μ-loop
+cell-add-sum t c =
+    let test2 = c .before .before .before in
+    let at-is-leaf = test2 .before in
+    let test1 = at-is-leaf .before .before in
+    let turn = test1 .before .before in
+    let head = turn .before in
+    let start = head .before .before .before .before .before .before .before .before .before .before .before .before in
+    omega (arith, cell-fits (start .pre .1 .0 .sheet) (cell-leaf (start .pre .1 .0) (head .loop .inv .1) (turn .loop-test .taken) (test1 .if1 .left) (sym (at-is-leaf .is-leaf .ensures) ∙ test2 .if2 .taken) (c .before .leaf .ensures)))
+
+cell-larger-requires : (t : ℕ) → cell-lts.Need-larger-requires (cell-claims t) (cell-at t) cell.Post cell-Inv-loop cell-μ-loop
+cell-larger-requires t c κs = search needs
+
+cell-add-children : (t : ℕ) → cell-lts.Need-add-children (cell-claims t) (cell-at t) cell.Post cell-Inv-loop cell-μ-loop
+cell-add-children t c =
+    let head = c .before .before .before .before .before .before .before .before .before .before in
+    let start = head .before .before .before .before .before .before .before .before .before .before .before .before in
+    omega (arith, cell-fits (start .pre .1 .0 .sheet) (head .loop .inv .1))
+
+cell-add-i-2 : (t : ℕ) → cell-lts.Need-add-i-2 (cell-claims t) (cell-at t) cell.Post cell-Inv-loop cell-μ-loop
+cell-add-i-2 t c = search needs
+
+cell-loop-less : (t : ℕ) → cell-lts.Need-loop-less (cell-claims t) (cell-at t) cell.Post cell-Inv-loop cell-μ-loop
+cell-loop-less t c = search needs
+
+cell-loop-again : (t : ℕ) → cell-lts.Need-loop-again (cell-claims t) (cell-at t) cell.Post cell-Inv-loop cell-μ-loop
+cell-loop-again t c =
+    let test2 = c .before .before .before .before in
+    let at-is-leaf = test2 .before in
+    let test1 = at-is-leaf .before .before in
+    let turn = test1 .before .before in
+    let head = turn .before in
+    let start = head .before .before .before .before .before .before .before .before .before .before .before .before in
+    (head .loop .inv .0, rw (c .larger .ensures) (cell-leaf (start .pre .1 .0) (head .loop .inv .1) (turn .loop-test .taken) (test1 .if1 .left) (sym (at-is-leaf .is-leaf .ensures) ∙ test2 .if2 .taken) (c .before .before .leaf .ensures)))
+
 cell-node-requires : (t : ℕ) → cell-lts.Need-node-requires (cell-claims t) (cell-at t) cell.Post cell-Inv-loop cell-μ-loop
 cell-node-requires t c κs =
-    let test1 = c .before .before .before .before in
+    let test1 = c .before .before .before .before .before .before .before in
     let turn = test1 .before .before in
     let head = turn .before in
     let start = head .before .before .before .before .before .before .before .before .before .before .before .before in
@@ -100,7 +172,7 @@ cell-node-requires t c κs =
     let v = head .loop .inv in
     let h = turn .loop-test .taken in (
       omega (arith, start .pre .0, h, v .1 .passed .after),
-      (record { sheet = r .sheet; sized = v .1 .passed .sized; scratch = omega (arith, r .scratch, v .0); within = h }, cell-child (r .sheet) (start .pre .1 .1) (v .1) h (test1 .if1 .left)),
+      (cell-ready r (v .0) (v .1) h, cell-child (r .sheet) (start .pre .1 .1) (v .1) h (test1 .if1 .left)),
     )
 
 cell-mul-sum : (t : ℕ) → cell-lts.Need-mul-sum (cell-claims t) (cell-at t) cell.Post cell-Inv-loop cell-μ-loop
@@ -109,10 +181,10 @@ cell-mul-sum t c = search needs
 cell-slice-read-sum : (t : ℕ) → cell-lts.Need-slice-read-sum (cell-claims t) (cell-at t) cell.Post cell-Inv-loop cell-μ-loop
 cell-slice-read-sum t c = search needs
 
-cell-add-sum : (t : ℕ) → cell-lts.Need-add-sum (cell-claims t) (cell-at t) cell.Post cell-Inv-loop cell-μ-loop
-cell-add-sum t c =
+cell-add-sum-2 : (t : ℕ) → cell-lts.Need-add-sum-2 (cell-claims t) (cell-at t) cell.Post cell-Inv-loop cell-μ-loop
+cell-add-sum-2 t c =
     let at-node = c .before .before .before .before .before .before .before .before .before in
-    let test1 = at-node .before .before .before .before .before in
+    let test1 = at-node .before .before .before .before .before .before .before .before in
     let turn = test1 .before .before in
     let head = turn .before in
     let start = head .before .before .before .before .before .before .before .before .before .before .before .before in
@@ -124,25 +196,25 @@ cell-mul-larger t c = search needs
 cell-slice-read-larger : (t : ℕ) → cell-lts.Need-slice-read-larger (cell-claims t) (cell-at t) cell.Post cell-Inv-loop cell-μ-loop
 cell-slice-read-larger t c = search needs
 
-cell-larger-requires : (t : ℕ) → cell-lts.Need-larger-requires (cell-claims t) (cell-at t) cell.Post cell-Inv-loop cell-μ-loop
-cell-larger-requires t c κs = search needs
+cell-larger-requires-2 : (t : ℕ) → cell-lts.Need-larger-requires-2 (cell-claims t) (cell-at t) cell.Post cell-Inv-loop cell-μ-loop
+cell-larger-requires-2 t c κs = search needs
 
-cell-add-children : (t : ℕ) → cell-lts.Need-add-children (cell-claims t) (cell-at t) cell.Post cell-Inv-loop cell-μ-loop
-cell-add-children t c =
-    let head = c .before .before .before .before .before .before .before .before .before .before .before .before .before .before .before .before .before .before .before in
+cell-add-children-2 : (t : ℕ) → cell-lts.Need-add-children-2 (cell-claims t) (cell-at t) cell.Post cell-Inv-loop cell-μ-loop
+cell-add-children-2 t c =
+    let head = c .before .before .before .before .before .before .before .before .before .before .before .before .before .before .before .before .before .before .before .before .before .before in
     let start = head .before .before .before .before .before .before .before .before .before .before .before .before in
     omega (arith, cell-fits (start .pre .1 .0 .sheet) (head .loop .inv .1))
 
-cell-loop-less : (t : ℕ) → cell-lts.Need-loop-less (cell-claims t) (cell-at t) cell.Post cell-Inv-loop cell-μ-loop
-cell-loop-less t c = search needs
+cell-loop-less-2 : (t : ℕ) → cell-lts.Need-loop-less-2 (cell-claims t) (cell-at t) cell.Post cell-Inv-loop cell-μ-loop
+cell-loop-less-2 t c = search needs
 
-cell-loop-again : (t : ℕ) → cell-lts.Need-loop-again (cell-claims t) (cell-at t) cell.Post cell-Inv-loop cell-μ-loop
-cell-loop-again t c =
+cell-loop-again-2 : (t : ℕ) → cell-lts.Need-loop-again-2 (cell-claims t) (cell-at t) cell.Post cell-Inv-loop cell-μ-loop
+cell-loop-again-2 t c =
     let at-node = c .before .before .before .before .before .before .before .before .before .before .before in
-    let test1 = at-node .before .before .before .before .before in
+    let test1 = at-node .before .before .before .before .before .before .before .before in
     let turn = test1 .before .before in
     let head = turn .before in
-    (at-node .node .kept .1 .1 .1 .1 .1 .1 .1 .1 .1 .0 ∙ head .loop .inv .0, rw (c .larger .ensures) (cell-again (head .loop .inv .1) (turn .loop-test .taken) (test1 .if1 .left) (at-node .node .ensures)))
+    (at-node .node .kept .1 .1 .1 .1 .1 .1 .1 .1 .1 .0 ∙ head .loop .inv .0, rw (c .larger2 .ensures) (cell-again (head .loop .inv .1) (turn .loop-test .taken) (test1 .if1 .left) (at-node .node .ensures)))
 
 cell-same-length : (t : ℕ) → cell-lts.Need-same-length (cell-claims t) (cell-at t) cell.Post cell-Inv-loop cell-μ-loop
 cell-same-length t c = search needs
@@ -501,16 +573,34 @@ pub +cell+node+table-spec : {M : Type 1} → statement M
     (cell-loop-holds t)
     (cell-mul-if1 t)
     (cell-shared-slice-read-if1 t)
+    (cell-mul-k t)
+    (cell-shared-slice-read-k t)
+    (cell-is-leaf-requires t)
+    (cell-mul-leaf t)
+    (cell-shared-slice-read-leaf t)
+    (cell-leaf-requires t)
+    (cell-mul-size t)
+    (cell-slice-write-size t)
+    (cell-mul-least t)
+    (cell-slice-write-least t)
+    (cell-mul-prefix t)
+    (cell-slice-write-prefix t)
+    (cell-add-sum t)
+    (cell-larger-requires t)
+    (cell-add-children t)
+    (cell-add-i-2 t)
+    (cell-loop-less t)
+    (cell-loop-again t)
     (cell-node-requires t)
     (cell-mul-sum t)
     (cell-slice-read-sum t)
-    (cell-add-sum t)
+    (cell-add-sum-2 t)
     (cell-mul-larger t)
     (cell-slice-read-larger t)
-    (cell-larger-requires t)
-    (cell-add-children t)
-    (cell-loop-less t)
-    (cell-loop-again t)
+    (cell-larger-requires-2 t)
+    (cell-add-children-2 t)
+    (cell-loop-less-2 t)
+    (cell-loop-again-2 t)
     (cell-same-length t)
     (cell-same-length-2 t)
     (cell-same-length-3 t)

@@ -62,6 +62,7 @@ layouts-requires c κs =
               p .1 .1 .1 .1 .0,
               (
                 record {
+                  row-fits = omega arith;
                   wide-room = lent .wide-room;
                   line-room = lent .cell-room;
                   first-room = lent .first-room;

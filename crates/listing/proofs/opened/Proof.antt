@@ -54,6 +54,12 @@ slice-aggregate-measure-sheet-14 c = search needs
 slice-aggregate-measure-sheet-15 : tie.Need-slice-aggregate-measure-sheet-15
 slice-aggregate-measure-sheet-15 c = search needs
 
+slice-aggregate-measure-sheet-16 : tie.Need-slice-aggregate-measure-sheet-16
+slice-aggregate-measure-sheet-16 c = search needs
+
+slice-aggregate-measure-sheet-17 : tie.Need-slice-aggregate-measure-sheet-17
+slice-aggregate-measure-sheet-17 c = search needs
+
 measure-sheet-requires : tie.Need-measure-sheet-requires
 measure-sheet-requires c κs = (
   record { depth-room = room-most _; kind-room = room-most _; number-room = room-most _; cols-room = room-most _; rows-room = room-most _; own-room = room-most _ },
@@ -61,7 +67,7 @@ measure-sheet-requires c κs = (
     record { first-room = room-most _; span-room = room-most _ },
     (
       record { size-room = room-most _; least-room = room-most _; prefix-room = room-most _ },
-      record { wide-room = omega arith; cell-room = omega arith; first-room = omega arith; span-room = omega arith },
+      (record { wide-room = omega arith; cell-room = omega arith; first-room = omega arith; span-room = omega arith }, record { first-room = room-most _; span-room = room-most _ }),
     ),
   ),
 )
@@ -70,46 +76,46 @@ enum-known-read : tie.Need-enum-known-read
 enum-known-read c = search needs
 
 refusal-requires : tie.Need-refusal-requires
-refusal-requires c κs = (c .before .before .before .before .before .before .before .before .before .before .before .before .before .before .before .before .before .before .before .before .before .before .before .before .before .before .before .before .before .before .before .before .before .before .before .before .before) .pre .0
+refusal-requires c κs = (c .before .before .before .before .before .before .before .before .before .before .before .before .before .before .before .before .before .before .before .before .before .before .before .before .before .before .before .before .before .before .before .before .before .before .before .before .before .before .before .before .before) .pre .0
 
 enum-known-read-2 : tie.Need-enum-known-read-2
 enum-known-read-2 c = search needs
 
 array-share-prefix-kind : tie.Need-array-share-prefix-kind
-array-share-prefix-kind c = omega (arith, sheet-few ((c .before .before .before .before .before .before .before .before .before .before .before .before .before .before .before .before .before .before .before) .measure-sheet .ensures) ((c .before) .before .read2 .given .1), (c .before .before .before .before .before .before .before .before .before .before .before .before .before .before .before .before .before .before .before) .measure-sheet .kept .1 .1 .1 .1 .1 .0)
+array-share-prefix-kind c = omega (arith, sheet-few ((c .before .before .before .before .before .before .before .before .before .before .before .before .before .before .before .before .before .before .before .before .before) .measure-sheet .ensures) ((c .before) .before .read2 .given .1), (c .before .before .before .before .before .before .before .before .before .before .before .before .before .before .before .before .before .before .before .before .before) .measure-sheet .kept .1 .1 .1 .1 .1 .0)
 
 slice-aggregate-laid : tie.Need-slice-aggregate-laid
-slice-aggregate-laid c = sym (length-take-le _ _ (omega (arith, sheet-few ((c .before .before .before .before .before .before .before .before .before .before .before .before .before .before .before .before .before .before .before .before) .measure-sheet .ensures) ((c .before .before) .before .read2 .given .1), (c .before .before .before .before .before .before .before .before .before .before .before .before .before .before .before .before .before .before .before .before) .measure-sheet .kept .1 .1 .1 .1 .1 .0)))
+slice-aggregate-laid c = sym (length-take-le _ _ (omega (arith, sheet-few ((c .before .before .before .before .before .before .before .before .before .before .before .before .before .before .before .before .before .before .before .before .before .before) .measure-sheet .ensures) ((c .before .before) .before .read2 .given .1), (c .before .before .before .before .before .before .before .before .before .before .before .before .before .before .before .before .before .before .before .before .before .before) .measure-sheet .kept .1 .1 .1 .1 .1 .0)))
 
 array-share-prefix-depth : tie.Need-array-share-prefix-depth
-array-share-prefix-depth c = omega (arith, sheet-few ((c .before .before .before .before .before .before .before .before .before .before .before .before .before .before .before .before .before .before .before .before) .measure-sheet .ensures) ((c .before .before) .before .read2 .given .1), (c .before .before .before .before .before .before .before .before .before .before .before .before .before .before .before .before .before .before .before .before) .measure-sheet .kept .1 .1 .1 .1 .0)
+array-share-prefix-depth c = omega (arith, sheet-few ((c .before .before .before .before .before .before .before .before .before .before .before .before .before .before .before .before .before .before .before .before .before .before) .measure-sheet .ensures) ((c .before .before) .before .read2 .given .1), (c .before .before .before .before .before .before .before .before .before .before .before .before .before .before .before .before .before .before .before .before .before .before) .measure-sheet .kept .1 .1 .1 .1 .0)
 
 slice-aggregate-laid-2 : tie.Need-slice-aggregate-laid-2
-slice-aggregate-laid-2 c = sym (length-take-le _ _ (omega (arith, sheet-few ((c .before .before .before .before .before .before .before .before .before .before .before .before .before .before .before .before .before .before .before .before .before) .measure-sheet .ensures) ((c .before .before .before) .before .read2 .given .1), (c .before .before .before .before .before .before .before .before .before .before .before .before .before .before .before .before .before .before .before .before .before) .measure-sheet .kept .1 .1 .1 .1 .0)))
+slice-aggregate-laid-2 c = sym (length-take-le _ _ (omega (arith, sheet-few ((c .before .before .before .before .before .before .before .before .before .before .before .before .before .before .before .before .before .before .before .before .before .before .before) .measure-sheet .ensures) ((c .before .before .before) .before .read2 .given .1), (c .before .before .before .before .before .before .before .before .before .before .before .before .before .before .before .before .before .before .before .before .before .before .before) .measure-sheet .kept .1 .1 .1 .1 .0)))
 
 array-share-prefix-cols : tie.Need-array-share-prefix-cols
-array-share-prefix-cols c = omega (arith, sheet-few ((c .before .before .before .before .before .before .before .before .before .before .before .before .before .before .before .before .before .before .before .before .before) .measure-sheet .ensures) ((c .before .before .before) .before .read2 .given .1), (c .before .before .before .before .before .before .before .before .before .before .before .before .before .before .before .before .before .before .before .before .before) .measure-sheet .kept .1 .1 .1 .1 .1 .1 .1 .0)
+array-share-prefix-cols c = omega (arith, sheet-few ((c .before .before .before .before .before .before .before .before .before .before .before .before .before .before .before .before .before .before .before .before .before .before .before) .measure-sheet .ensures) ((c .before .before .before) .before .read2 .given .1), (c .before .before .before .before .before .before .before .before .before .before .before .before .before .before .before .before .before .before .before .before .before .before .before) .measure-sheet .kept .1 .1 .1 .1 .1 .1 .1 .0)
 
 slice-aggregate-laid-3 : tie.Need-slice-aggregate-laid-3
-slice-aggregate-laid-3 c = sym (length-take-le _ _ (omega (arith, sheet-few ((c .before .before .before .before .before .before .before .before .before .before .before .before .before .before .before .before .before .before .before .before .before .before) .measure-sheet .ensures) ((c .before .before .before .before) .before .read2 .given .1), (c .before .before .before .before .before .before .before .before .before .before .before .before .before .before .before .before .before .before .before .before .before .before) .measure-sheet .kept .1 .1 .1 .1 .1 .1 .1 .0)))
+slice-aggregate-laid-3 c = sym (length-take-le _ _ (omega (arith, sheet-few ((c .before .before .before .before .before .before .before .before .before .before .before .before .before .before .before .before .before .before .before .before .before .before .before .before) .measure-sheet .ensures) ((c .before .before .before .before) .before .read2 .given .1), (c .before .before .before .before .before .before .before .before .before .before .before .before .before .before .before .before .before .before .before .before .before .before .before .before) .measure-sheet .kept .1 .1 .1 .1 .1 .1 .1 .0)))
 
 array-share-prefix-rows : tie.Need-array-share-prefix-rows
-array-share-prefix-rows c = omega (arith, sheet-few ((c .before .before .before .before .before .before .before .before .before .before .before .before .before .before .before .before .before .before .before .before .before .before) .measure-sheet .ensures) ((c .before .before .before .before) .before .read2 .given .1), (c .before .before .before .before .before .before .before .before .before .before .before .before .before .before .before .before .before .before .before .before .before .before) .measure-sheet .kept .1 .1 .1 .1 .1 .1 .1 .1 .0)
+array-share-prefix-rows c = omega (arith, sheet-few ((c .before .before .before .before .before .before .before .before .before .before .before .before .before .before .before .before .before .before .before .before .before .before .before .before) .measure-sheet .ensures) ((c .before .before .before .before) .before .read2 .given .1), (c .before .before .before .before .before .before .before .before .before .before .before .before .before .before .before .before .before .before .before .before .before .before .before .before) .measure-sheet .kept .1 .1 .1 .1 .1 .1 .1 .1 .0)
 
 slice-aggregate-laid-4 : tie.Need-slice-aggregate-laid-4
-slice-aggregate-laid-4 c = sym (length-take-le _ _ (omega (arith, sheet-few ((c .before .before .before .before .before .before .before .before .before .before .before .before .before .before .before .before .before .before .before .before .before .before .before) .measure-sheet .ensures) ((c .before .before .before .before .before) .before .read2 .given .1), (c .before .before .before .before .before .before .before .before .before .before .before .before .before .before .before .before .before .before .before .before .before .before .before) .measure-sheet .kept .1 .1 .1 .1 .1 .1 .1 .1 .0)))
+slice-aggregate-laid-4 c = sym (length-take-le _ _ (omega (arith, sheet-few ((c .before .before .before .before .before .before .before .before .before .before .before .before .before .before .before .before .before .before .before .before .before .before .before .before .before) .measure-sheet .ensures) ((c .before .before .before .before .before) .before .read2 .given .1), (c .before .before .before .before .before .before .before .before .before .before .before .before .before .before .before .before .before .before .before .before .before .before .before .before .before) .measure-sheet .kept .1 .1 .1 .1 .1 .1 .1 .1 .0)))
 
 array-share-prefix-size : tie.Need-array-share-prefix-size
-array-share-prefix-size c = omega (arith, sheet-few ((c .before .before .before .before .before .before .before .before .before .before .before .before .before .before .before .before .before .before .before .before .before .before .before) .measure-sheet .ensures) ((c .before .before .before .before .before) .before .read2 .given .1), (c .before .before .before .before .before .before .before .before .before .before .before .before .before .before .before .before .before .before .before .before .before .before .before) .measure-sheet .kept .1 .1 .1 .1 .1 .1 .1 .1 .1 .1 .1 .1 .0)
+array-share-prefix-size c = omega (arith, sheet-few ((c .before .before .before .before .before .before .before .before .before .before .before .before .before .before .before .before .before .before .before .before .before .before .before .before .before) .measure-sheet .ensures) ((c .before .before .before .before .before) .before .read2 .given .1), (c .before .before .before .before .before .before .before .before .before .before .before .before .before .before .before .before .before .before .before .before .before .before .before .before .before) .measure-sheet .kept .1 .1 .1 .1 .1 .1 .1 .1 .1 .1 .1 .1 .0)
 
 slice-aggregate-laid-5 : tie.Need-slice-aggregate-laid-5
-slice-aggregate-laid-5 c = sym (length-take-le _ _ (omega (arith, sheet-few ((c .before .before .before .before .before .before .before .before .before .before .before .before .before .before .before .before .before .before .before .before .before .before .before .before) .measure-sheet .ensures) ((c .before .before .before .before .before .before) .before .read2 .given .1), (c .before .before .before .before .before .before .before .before .before .before .before .before .before .before .before .before .before .before .before .before .before .before .before .before) .measure-sheet .kept .1 .1 .1 .1 .1 .1 .1 .1 .1 .1 .1 .1 .0)))
+slice-aggregate-laid-5 c = sym (length-take-le _ _ (omega (arith, sheet-few ((c .before .before .before .before .before .before .before .before .before .before .before .before .before .before .before .before .before .before .before .before .before .before .before .before .before .before) .measure-sheet .ensures) ((c .before .before .before .before .before .before) .before .read2 .given .1), (c .before .before .before .before .before .before .before .before .before .before .before .before .before .before .before .before .before .before .before .before .before .before .before .before .before .before) .measure-sheet .kept .1 .1 .1 .1 .1 .1 .1 .1 .1 .1 .1 .1 .0)))
 
 array-share-prefix-least : tie.Need-array-share-prefix-least
-array-share-prefix-least c = omega (arith, sheet-few ((c .before .before .before .before .before .before .before .before .before .before .before .before .before .before .before .before .before .before .before .before .before .before .before .before) .measure-sheet .ensures) ((c .before .before .before .before .before .before) .before .read2 .given .1), (c .before .before .before .before .before .before .before .before .before .before .before .before .before .before .before .before .before .before .before .before .before .before .before .before) .measure-sheet .kept .1 .1 .1 .1 .1 .1 .1 .1 .1 .1 .1 .1 .1 .0)
+array-share-prefix-least c = omega (arith, sheet-few ((c .before .before .before .before .before .before .before .before .before .before .before .before .before .before .before .before .before .before .before .before .before .before .before .before .before .before) .measure-sheet .ensures) ((c .before .before .before .before .before .before) .before .read2 .given .1), (c .before .before .before .before .before .before .before .before .before .before .before .before .before .before .before .before .before .before .before .before .before .before .before .before .before .before) .measure-sheet .kept .1 .1 .1 .1 .1 .1 .1 .1 .1 .1 .1 .1 .1 .0)
 
 slice-aggregate-laid-6 : tie.Need-slice-aggregate-laid-6
-slice-aggregate-laid-6 c = sym (length-take-le _ _ (omega (arith, sheet-few ((c .before .before .before .before .before .before .before .before .before .before .before .before .before .before .before .before .before .before .before .before .before .before .before .before .before) .measure-sheet .ensures) ((c .before .before .before .before .before .before .before) .before .read2 .given .1), (c .before .before .before .before .before .before .before .before .before .before .before .before .before .before .before .before .before .before .before .before .before .before .before .before .before) .measure-sheet .kept .1 .1 .1 .1 .1 .1 .1 .1 .1 .1 .1 .1 .1 .0)))
+slice-aggregate-laid-6 c = sym (length-take-le _ _ (omega (arith, sheet-few ((c .before .before .before .before .before .before .before .before .before .before .before .before .before .before .before .before .before .before .before .before .before .before .before .before .before .before .before) .measure-sheet .ensures) ((c .before .before .before .before .before .before .before) .before .read2 .given .1), (c .before .before .before .before .before .before .before .before .before .before .before .before .before .before .before .before .before .before .before .before .before .before .before .before .before .before .before) .measure-sheet .kept .1 .1 .1 .1 .1 .1 .1 .1 .1 .1 .1 .1 .1 .0)))
 
 slice-aggregate-laid-7 : tie.Need-slice-aggregate-laid-7
 slice-aggregate-laid-7 c = search needs
@@ -125,9 +131,9 @@ slice-aggregate-laid-10 c = search needs
 
 laid-requires : tie.Need-laid-requires
 laid-requires c κs =
-    let m = (c .before .before .before .before .before .before .before .before .before .before .before .before .before .before .before .before .before .before .before .before .before .before .before .before .before .before .before .before .before) .measure-sheet in
+    let m = (c .before .before .before .before .before .before .before .before .before .before .before .before .before .before .before .before .before .before .before .before .before .before .before .before .before .before .before .before .before .before .before) .measure-sheet in
     let e = (c .before .before .before .before .before .before .before .before .before .before .before) .before .read2 .given .1 in
-    let p = (c .before .before .before .before .before .before .before .before .before .before .before .before .before .before .before .before .before .before .before .before .before .before .before .before .before .before .before .before .before .before .before .before .before .before .before .before .before .before .before .before .before .before .before .before .before .before .before) .pre in
+    let p = (c .before .before .before .before .before .before .before .before .before .before .before .before .before .before .before .before .before .before .before .before .before .before .before .before .before .before .before .before .before .before .before .before .before .before .before .before .before .before .before .before .before .before .before .before .before .before .before .before .before .before .before) .pre in
     let kinds = sheet-kinds (m .ensures) e in (
       p .0,
       (
@@ -181,6 +187,8 @@ opened-spec =
     slice-aggregate-measure-sheet-13
     slice-aggregate-measure-sheet-14
     slice-aggregate-measure-sheet-15
+    slice-aggregate-measure-sheet-16
+    slice-aggregate-measure-sheet-17
     measure-sheet-requires
     enum-known-read
     refusal-requires

@@ -1,10 +1,10 @@
 -- `opening::open_in` meets its contract: a refusal of the reader is the answer, and of an accepted sheet the first places of the slices hold
 -- the lines, so that its tables can be judged. Assumes nothing.
 use mathlib.Core.Path.{_∙_}
-use borrow.Author.Needs.{needs}
 use Rattle.opening.proofs.Answers.{read-as}
-use Rattle.opening.proofs.Slices.{lines-in, front-ready, room-less, still}
+use Rattle.opening.proofs.Slices.{lines-in, front-ready, room-less, still, enough-most}
 use Rattle.opening.proofs.Opens.{opened-refused, opened-read}
+use borrow.Author.Needs.{needs}
 use Rattle.opening.proofs.open_in.Statement.{statement}
 use Rattle.opening.proofs.open_in.Tie as tie
 
@@ -34,16 +34,19 @@ open-front-requires : tie.Need-open-front-requires
 open-front-requires c κs =
     let r = reads c in
     let s = entry r .pre in
-    let w = read-as ((c .before .before .before .before .before .before .before .before .before .before .before .before .before .before .before .before .before .before .before .before .before) .n .given .1) (r .read-sheet .ensures) in
-    let k = r .read-sheet in (
+    let k = r .read-sheet in
+    let w = read-as ((c .before .before .before .before .before .before .before .before .before .before .before .before .before .before .before .before .before .before .before .before) .before .n .given .1) (k .ensures) in (
       room-less (lines-in w) (s .1 .1),
-      front-ready w _ _
-          (still (k .kept .1 .0) (s .0 .depth-room))
-          (still (k .kept .1 .1 .0) (s .0 .kind-room))
-          (still (k .kept .1 .1 .1 .1 .0) (s .0 .cols-room))
-          (still (k .kept .1 .1 .1 .1 .1 .0) (s .0 .rows-room))
-          (still (k .kept .1 .1 .1 .1 .1 .1 .1 .0) (s .1 .0 .first-room))
-          (still (k .kept .1 .1 .1 .1 .1 .1 .1 .1 .0) (s .1 .0 .span-room)),
+      (
+        front-ready w _ _
+            (still (k .kept .1 .0) (s .0 .depth-room))
+            (still (k .kept .1 .1 .0) (s .0 .kind-room))
+            (still (k .kept .1 .1 .1 .1 .0) (s .0 .cols-room))
+            (still (k .kept .1 .1 .1 .1 .1 .0) (s .0 .rows-room))
+            (still (k .kept .1 .1 .1 .1 .1 .1 .1 .0) (s .1 .0 .first-room))
+            (still (k .kept .1 .1 .1 .1 .1 .1 .1 .1 .0) (s .1 .0 .span-room)),
+        enough-most _ _ _,
+      ),
     )
 
 same-length : tie.Need-same-length
@@ -92,57 +95,57 @@ same-length-14 : tie.Need-same-length-14
 same-length-14 c = reads (opens c .before) .read-sheet .kept .1 .1 .1 .1 .1 .1 .0
 
 same-length-15 : tie.Need-same-length-15
-same-length-15 c = opens c .open-front .kept .1 .1 .1 .1 .1 .1 .1 .1 .1 .1 .1 .1 .1 .1 .1 .1 .1 .1 .1 .1 .1 .0 ∙ reads (opens c .before) .read-sheet .kept .1 .1 .1 .1 .1 .1 .1 .0
+same-length-15 c = opens c .open-front .kept .1 .1 .1 .1 .1 .1 .1 .1 .1 .1 .1 .1 .1 .1 .1 .1 .1 .1 .1 .1 .1 .1 .0 ∙ reads (opens c .before) .read-sheet .kept .1 .1 .1 .1 .1 .1 .1 .0
 
 same-length-16 : tie.Need-same-length-16
-same-length-16 c = opens c .open-front .kept .1 .1 .1 .1 .1 .1 .1 .1 .1 .1 .1 .1 .1 .1 .1 .1 .1 .1 .1 .1 .1 .1 .0 ∙ reads (opens c .before) .read-sheet .kept .1 .1 .1 .1 .1 .1 .1 .1 .0
+same-length-16 c = opens c .open-front .kept .1 .1 .1 .1 .1 .1 .1 .1 .1 .1 .1 .1 .1 .1 .1 .1 .1 .1 .1 .1 .1 .1 .1 .0 ∙ reads (opens c .before) .read-sheet .kept .1 .1 .1 .1 .1 .1 .1 .1 .0
 
 same-length-17 : tie.Need-same-length-17
-same-length-17 c = opens c .open-front .kept .1 .1 .1 .1 .1 .1 .1 .0
+same-length-17 c = opens c .open-front .kept .1 .1 .1 .1 .1 .1 .1 .1 .0
 
 same-length-18 : tie.Need-same-length-18
-same-length-18 c = opens c .open-front .kept .1 .1 .1 .1 .1 .1 .1 .1 .0
+same-length-18 c = opens c .open-front .kept .1 .1 .1 .1 .1 .1 .1 .1 .1 .0
 
 same-length-19 : tie.Need-same-length-19
-same-length-19 c = opens c .open-front .kept .1 .1 .1 .1 .1 .1 .1 .1 .1 .0
+same-length-19 c = opens c .open-front .kept .1 .1 .1 .1 .1 .1 .1 .1 .1 .1 .0
 
 same-length-20 : tie.Need-same-length-20
-same-length-20 c = opens c .open-front .kept .1 .1 .1 .1 .1 .1 .1 .1 .1 .1 .0
+same-length-20 c = opens c .open-front .kept .1 .1 .1 .1 .1 .1 .1 .1 .1 .1 .1 .0
 
 same-length-21 : tie.Need-same-length-21
-same-length-21 c = opens c .open-front .kept .1 .1 .1 .1 .1 .1 .1 .1 .1 .1 .1 .0
+same-length-21 c = opens c .open-front .kept .1 .1 .1 .1 .1 .1 .1 .1 .1 .1 .1 .1 .0
 
 same-length-22 : tie.Need-same-length-22
-same-length-22 c = opens c .open-front .kept .1 .1 .1 .1 .1 .1 .1 .1 .1 .1 .1 .1 .0
+same-length-22 c = opens c .open-front .kept .1 .1 .1 .1 .1 .1 .1 .1 .1 .1 .1 .1 .1 .0
 
 same-length-23 : tie.Need-same-length-23
-same-length-23 c = opens c .open-front .kept .1 .1 .1 .1 .1 .1 .1 .1 .1 .1 .1 .1 .1 .0
+same-length-23 c = opens c .open-front .kept .1 .1 .1 .1 .1 .1 .1 .1 .1 .1 .1 .1 .1 .1 .0
 
 same-length-24 : tie.Need-same-length-24
-same-length-24 c = opens c .open-front .kept .1 .1 .1 .1 .1 .1 .1 .1 .1 .1 .1 .1 .1 .1 .0
+same-length-24 c = opens c .open-front .kept .1 .1 .1 .1 .1 .1 .1 .1 .1 .1 .1 .1 .1 .1 .1 .0
 
 same-length-25 : tie.Need-same-length-25
-same-length-25 c = opens c .open-front .kept .1 .1 .1 .1 .1 .1 .1 .1 .1 .1 .1 .1 .1 .1 .1 .0
+same-length-25 c = opens c .open-front .kept .1 .1 .1 .1 .1 .1 .1 .1 .1 .1 .1 .1 .1 .1 .1 .1 .0
 
 same-length-26 : tie.Need-same-length-26
-same-length-26 c = opens c .open-front .kept .1 .1 .1 .1 .1 .1 .1 .1 .1 .1 .1 .1 .1 .1 .1 .1 .0
+same-length-26 c = opens c .open-front .kept .1 .1 .1 .1 .1 .1 .1 .1 .1 .1 .1 .1 .1 .1 .1 .1 .1 .0
 
 same-length-27 : tie.Need-same-length-27
-same-length-27 c = opens c .open-front .kept .1 .1 .1 .1 .1 .1 .1 .1 .1 .1 .1 .1 .1 .1 .1 .1 .1 .0
+same-length-27 c = opens c .open-front .kept .1 .1 .1 .1 .1 .1 .1 .1 .1 .1 .1 .1 .1 .1 .1 .1 .1 .1 .0
 
 same-length-28 : tie.Need-same-length-28
-same-length-28 c = opens c .open-front .kept .1 .1 .1 .1 .1 .1 .1 .1 .1 .1 .1 .1 .1 .1 .1 .1 .1 .1 .0
+same-length-28 c = opens c .open-front .kept .1 .1 .1 .1 .1 .1 .1 .1 .1 .1 .1 .1 .1 .1 .1 .1 .1 .1 .1 .0
 
 same-length-29 : tie.Need-same-length-29
-same-length-29 c = opens c .open-front .kept .1 .1 .1 .1 .1 .1 .1 .1 .1 .1 .1 .1 .1 .1 .1 .1 .1 .1 .1 .0
+same-length-29 c = opens c .open-front .kept .1 .1 .1 .1 .1 .1 .1 .1 .1 .1 .1 .1 .1 .1 .1 .1 .1 .1 .1 .1 .0
 
 same-length-30 : tie.Need-same-length-30
-same-length-30 c = opens c .open-front .kept .1 .1 .1 .1 .1 .1 .1 .1 .1 .1 .1 .1 .1 .1 .1 .1 .1 .1 .1 .1 .0
+same-length-30 c = opens c .open-front .kept .1 .1 .1 .1 .1 .1 .1 .1 .1 .1 .1 .1 .1 .1 .1 .1 .1 .1 .1 .1 .1 .0
 
 returns-2 : tie.Need-returns-2
 returns-2 c =
     let o = opens c in
-    opened-read _ _ (read-as ((c .before .before .before .before .before .before .before .before .before .before .before .before .before .before .before .before .before .before .before .before .before .before .before .before .before .before .before .before .before .before .before .before .before .before .before .before .before .before .before .before .before .before .before .before .before .before .before .before .before .before .before .before .before .before) .n .given .1) (reads (o .before) .read-sheet .ensures)) (o .open-front .ensures)
+    opened-read _ _ (read-as ((c .before .before .before .before .before .before .before .before .before .before .before .before .before .before .before .before .before .before .before .before .before .before .before .before .before .before .before .before .before .before .before .before .before .before .before .before .before .before .before .before .before .before .before .before .before .before .before .before .before .before .before .before .before) .before .n .given .1) (reads (o .before) .read-sheet .ensures)) (o .open-front .ensures)
 
 pub open-in-spec : {M : Type 1} → statement M
 open-in-spec =

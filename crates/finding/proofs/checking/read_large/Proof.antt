@@ -1,8 +1,8 @@
--- `finding::checking::read_large` meets its contract: no sheet asks for more room than the long arrays have. Assumes nothing.
+-- `finding::checking::read_large` meets its contract: no sheet asks for more room than the arrays have. Assumes nothing.
 use native.Mathlib.Omega.{arith}
-use borrow.Author.Needs.{needs}
 use Rattle.opening.proofs.Slices.{room-most}
 use Rattle.finding.proofs.Lent.{lines-with, grids-with, entries-with}
+use borrow.Author.Needs.{needs}
 use Rattle.finding.proofs.checking.read_large.Statement.{statement}
 use Rattle.finding.proofs.checking.read_large.Tie as tie
 
@@ -42,11 +42,17 @@ slice-aggregate-open-sheet-11 c = search needs
 slice-aggregate-open-sheet-12 : tie.Need-slice-aggregate-open-sheet-12
 slice-aggregate-open-sheet-12 c = search needs
 
+slice-aggregate-open-sheet-13 : tie.Need-slice-aggregate-open-sheet-13
+slice-aggregate-open-sheet-13 c = search needs
+
+slice-aggregate-open-sheet-14 : tie.Need-slice-aggregate-open-sheet-14
+slice-aggregate-open-sheet-14 c = search needs
+
 open-sheet-requires : tie.Need-open-sheet-requires
-open-sheet-requires c κs = (lines-with (room-most _) (omega arith) (omega arith) (omega arith) (omega arith) (omega arith) (omega arith), (grids-with (room-most _) (omega arith) (omega arith), entries-with (omega arith) (omega arith) (omega arith) (omega arith)))
+open-sheet-requires c κs = (lines-with (room-most _) (omega arith) (omega arith) (omega arith) (omega arith) (omega arith) (omega arith), (grids-with (room-most _) (omega arith) (omega arith), (entries-with (omega arith) (omega arith) (omega arith) (omega arith), grids-with (room-most _) (omega arith) (omega arith))))
 
 returns : tie.Need-returns
-returns c = (c .before .before .before .before .before .before .before .before .before .before .before .before) .open-sheet .ensures .answer
+returns c = (c .before .before .before .before .before .before .before .before .before .before .before .before .before .before) .open-sheet .ensures .answer
 
 pub read-large-spec : {M : Type 1} → statement M
 read-large-spec =
@@ -64,5 +70,7 @@ read-large-spec =
     slice-aggregate-open-sheet-10
     slice-aggregate-open-sheet-11
     slice-aggregate-open-sheet-12
+    slice-aggregate-open-sheet-13
+    slice-aggregate-open-sheet-14
     open-sheet-requires
     returns)

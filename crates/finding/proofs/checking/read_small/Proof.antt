@@ -1,7 +1,7 @@
 -- `finding::checking::read_small` meets its contract: short arrays have the room that a sheet of few lines asks for. Assumes nothing.
 use native.Mathlib.Omega.{arith}
-use borrow.Author.Needs.{needs}
 use Rattle.finding.proofs.Lent.{lines-with, grids-with, entries-with}
+use borrow.Author.Needs.{needs}
 use Rattle.finding.proofs.checking.read_small.Statement.{statement}
 use Rattle.finding.proofs.checking.read_small.Tie as tie
 
@@ -41,13 +41,17 @@ slice-aggregate-open-sheet-11 c = search needs
 slice-aggregate-open-sheet-12 : tie.Need-slice-aggregate-open-sheet-12
 slice-aggregate-open-sheet-12 c = search needs
 
+slice-aggregate-open-sheet-13 : tie.Need-slice-aggregate-open-sheet-13
+slice-aggregate-open-sheet-13 c = search needs
+
+slice-aggregate-open-sheet-14 : tie.Need-slice-aggregate-open-sheet-14
+slice-aggregate-open-sheet-14 c = search needs
+
 open-sheet-requires : tie.Need-open-sheet-requires
-open-sheet-requires c κs =
-    let few = (c .before .before .before .before .before .before .before .before .before .before .before .before .before) .pre in
-    (lines-with few (omega arith) (omega arith) (omega arith) (omega arith) (omega arith) (omega arith), (grids-with few (omega arith) (omega arith), entries-with (omega arith) (omega arith) (omega arith) (omega arith)))
+open-sheet-requires c κs = let few = (c .before .before .before .before .before .before .before .before .before .before .before .before .before .before .before) .pre in (lines-with (few) (omega arith) (omega arith) (omega arith) (omega arith) (omega arith) (omega arith), (grids-with (few) (omega arith) (omega arith), (entries-with (omega arith) (omega arith) (omega arith) (omega arith), grids-with (few) (omega arith) (omega arith))))
 
 returns : tie.Need-returns
-returns c = (c .before .before .before .before .before .before .before .before .before .before .before .before) .open-sheet .ensures .answer
+returns c = (c .before .before .before .before .before .before .before .before .before .before .before .before .before .before) .open-sheet .ensures .answer
 
 pub read-small-spec : {M : Type 1} → statement M
 read-small-spec =
@@ -65,5 +69,7 @@ read-small-spec =
     slice-aggregate-open-sheet-10
     slice-aggregate-open-sheet-11
     slice-aggregate-open-sheet-12
+    slice-aggregate-open-sheet-13
+    slice-aggregate-open-sheet-14
     open-sheet-requires
     returns)

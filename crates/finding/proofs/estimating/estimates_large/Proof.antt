@@ -1,16 +1,15 @@
--- `finding::estimating::estimates_large` meets its contract: no sheet asks for more room than the long arrays have,
--- and the lent buffers hold the figures of the measured sheet. Assumes nothing.
+-- `finding::estimating::estimates_large` meets its contract: no sheet asks for more room than the arrays have. Assumes nothing.
 use native.Mathlib.Omega.{arith}
-use borrow.Author.Needs.{needs}
 use Rattle.opening.proofs.Slices.{room-most}
 use Rattle.finding.proofs.Lent.{lines-with, grids-with, entries-with, figures-less}
 use Rattle.finding.proofs.Measuring.{found-read}
+use borrow.Author.Needs.{needs}
 use Rattle.finding.proofs.estimating.estimates_large.Statement.{statement}
 use Rattle.finding.proofs.estimating.estimates_large.Tie as tie
 
 -- the way back to the call
-abbrev measures : tie.After-span2 → tie.After-measure-sheet
-measures c = (c .before .before .before .before .before .before .before .before .before .before .before .before .before .before .before .before .before .before)
+abbrev measures : tie.After-row-end2 → tie.After-measure-sheet
+measures c = (c .before .before .before .before .before .before .before .before .before .before .before .before .before .before .before .before .before .before .before .before)
 
 slice-aggregate-measure-sheet : tie.Need-slice-aggregate-measure-sheet
 slice-aggregate-measure-sheet c = search needs
@@ -48,9 +47,16 @@ slice-aggregate-measure-sheet-11 c = search needs
 slice-aggregate-measure-sheet-12 : tie.Need-slice-aggregate-measure-sheet-12
 slice-aggregate-measure-sheet-12 c = search needs
 
+slice-aggregate-measure-sheet-13 : tie.Need-slice-aggregate-measure-sheet-13
+slice-aggregate-measure-sheet-13 c = search needs
+
+slice-aggregate-measure-sheet-14 : tie.Need-slice-aggregate-measure-sheet-14
+slice-aggregate-measure-sheet-14 c = search needs
+
 measure-sheet-requires : tie.Need-measure-sheet-requires
 measure-sheet-requires c κs =
-    (lines-with (room-most _) (omega arith) (omega arith) (omega arith) (omega arith) (omega arith) (omega arith), (grids-with (room-most _) (omega arith) (omega arith), (figures-less (room-most _) ((c .before .before .before .before .before .before .before .before .before .before .before .before .before .before .before .before .before .before .before) .pre), entries-with (omega arith) (omega arith) (omega arith) (omega arith))))
+    let p = (c .before .before .before .before .before .before .before .before .before .before .before .before .before .before .before .before .before .before .before .before .before) .pre in
+    (lines-with (room-most _) (omega arith) (omega arith) (omega arith) (omega arith) (omega arith) (omega arith), (grids-with (room-most _) (omega arith) (omega arith), (figures-less (room-most _) (p), (entries-with (omega arith) (omega arith) (omega arith) (omega arith), grids-with (room-most _) (omega arith) (omega arith)))))
 
 same-length : tie.Need-same-length
 same-length c = measures c .measure-sheet .kept .1 .1 .1 .1 .1 .1 .1 .1 .1 .1 .1 .1 .0
@@ -80,6 +86,8 @@ estimates-large-spec =
     slice-aggregate-measure-sheet-10
     slice-aggregate-measure-sheet-11
     slice-aggregate-measure-sheet-12
+    slice-aggregate-measure-sheet-13
+    slice-aggregate-measure-sheet-14
     measure-sheet-requires
     same-length
     same-length-2

@@ -1,16 +1,15 @@
--- `finding::estimating::estimates_small` meets its contract: short arrays have the room that a sheet of few lines asks for,
--- and the lent buffers hold the figures of the measured sheet. Assumes nothing.
+-- `finding::estimating::estimates_small` meets its contract: short arrays have the room that a sheet of few lines asks for. Assumes nothing.
 use native.Mathlib.Omega.{arith}
-use borrow.Author.Needs.{needs}
 use Rattle.opening.proofs.Slices.{room-most}
 use Rattle.finding.proofs.Lent.{lines-with, grids-with, entries-with, figures-less}
 use Rattle.finding.proofs.Measuring.{found-read}
+use borrow.Author.Needs.{needs}
 use Rattle.finding.proofs.estimating.estimates_small.Statement.{statement}
 use Rattle.finding.proofs.estimating.estimates_small.Tie as tie
 
 -- the way back to the call
-abbrev measures : tie.After-span2 → tie.After-measure-sheet
-measures c = (c .before .before .before .before .before .before .before .before .before .before .before .before .before .before .before .before .before .before)
+abbrev measures : tie.After-row-end2 → tie.After-measure-sheet
+measures c = (c .before .before .before .before .before .before .before .before .before .before .before .before .before .before .before .before .before .before .before .before)
 
 slice-aggregate-measure-sheet : tie.Need-slice-aggregate-measure-sheet
 slice-aggregate-measure-sheet c = search needs
@@ -48,11 +47,16 @@ slice-aggregate-measure-sheet-11 c = search needs
 slice-aggregate-measure-sheet-12 : tie.Need-slice-aggregate-measure-sheet-12
 slice-aggregate-measure-sheet-12 c = search needs
 
+slice-aggregate-measure-sheet-13 : tie.Need-slice-aggregate-measure-sheet-13
+slice-aggregate-measure-sheet-13 c = search needs
+
+slice-aggregate-measure-sheet-14 : tie.Need-slice-aggregate-measure-sheet-14
+slice-aggregate-measure-sheet-14 c = search needs
+
 measure-sheet-requires : tie.Need-measure-sheet-requires
 measure-sheet-requires c κs =
-    let p = (c .before .before .before .before .before .before .before .before .before .before .before .before .before .before .before .before .before .before .before) .pre in
-    let few = p .0 in
-    (lines-with few (omega arith) (omega arith) (omega arith) (omega arith) (omega arith) (omega arith), (grids-with few (omega arith) (omega arith), (figures-less (room-most _) (p .1), entries-with (omega arith) (omega arith) (omega arith) (omega arith))))
+    let p = (c .before .before .before .before .before .before .before .before .before .before .before .before .before .before .before .before .before .before .before .before .before) .pre in
+    (lines-with (p .0) (omega arith) (omega arith) (omega arith) (omega arith) (omega arith) (omega arith), (grids-with (p .0) (omega arith) (omega arith), (figures-less (room-most _) (p .1), (entries-with (omega arith) (omega arith) (omega arith) (omega arith), grids-with (p .0) (omega arith) (omega arith)))))
 
 same-length : tie.Need-same-length
 same-length c = measures c .measure-sheet .kept .1 .1 .1 .1 .1 .1 .1 .1 .1 .1 .1 .1 .0
@@ -82,6 +86,8 @@ estimates-small-spec =
     slice-aggregate-measure-sheet-10
     slice-aggregate-measure-sheet-11
     slice-aggregate-measure-sheet-12
+    slice-aggregate-measure-sheet-13
+    slice-aggregate-measure-sheet-14
     measure-sheet-requires
     same-length
     same-length-2

@@ -1,16 +1,14 @@
 -- `finding::grids::grid_large` meets its contract: no sheet asks for more room than the arrays have. Assumes nothing.
 use native.Mathlib.Omega.{arith}
-use borrow.Author.Needs.{needs}
 use Rattle.opening.proofs.Slices.{room-most}
+use Rattle.finding.proofs.Lent.{lines-with, grids-with}
+use borrow.Author.Needs.{needs}
 use Rattle.finding.proofs.grids.grid_large.Statement.{statement}
 use Rattle.finding.proofs.grids.grid_large.Tie as tie
 
--- the way back from the call to the entry, and from the end to the call
-abbrev entry : tie.After-grid-in-arg5 → tie.Start
-entry c = c .before .before .before .before .before .before .before .before .before .before .before .before .before .before .before .before .before .before .before .before
-
+-- the way back to the call
 abbrev called : tie.After-slice-known10 → tie.After-grid-in
-called c = c .before .before .before .before .before .before .before .before .before .before .before .before .before .before .before .before .before .before .before
+called c = (c .before .before .before .before .before .before .before .before .before .before .before .before .before .before .before .before .before .before .before)
 
 slice-aggregate-grid-in : tie.Need-slice-aggregate-grid-in
 slice-aggregate-grid-in c = search needs
@@ -40,10 +38,7 @@ slice-aggregate-grid-in-9 : tie.Need-slice-aggregate-grid-in-9
 slice-aggregate-grid-in-9 c = search needs
 
 grid-in-requires : tie.Need-grid-in-requires
-grid-in-requires c κs = (
-  record { depth-room = room-most _; kind-room = room-most _; number-room = room-most _; cols-room = room-most _; rows-room = room-most _; own-room = room-most _ },
-  (record { first-room = room-most _; span-room = room-most _ }, (omega arith, entry c .pre)),
-)
+grid-in-requires c κs = let p = (c .before .before .before .before .before .before .before .before .before .before .before .before .before .before .before .before .before .before .before .before) .pre in (lines-with (room-most _) (omega arith) (omega arith) (omega arith) (omega arith) (omega arith) (omega arith), (grids-with (room-most _) (omega arith) (omega arith), (omega arith, p)))
 
 same-length : tie.Need-same-length
 same-length c = called c .grid-in .kept .1 .1 .1 .1 .1 .1 .1 .1 .1 .1 .1 .0

@@ -1,15 +1,13 @@
--- `finding::grids::grid_small` meets its contract: a small sheet asks for no more room than the short arrays have. Assumes nothing.
+-- `finding::grids::grid_small` meets its contract: short arrays have the room that a sheet of few lines asks for. Assumes nothing.
 use native.Mathlib.Omega.{arith}
+use Rattle.finding.proofs.Lent.{lines-with, grids-with}
 use borrow.Author.Needs.{needs}
 use Rattle.finding.proofs.grids.grid_small.Statement.{statement}
 use Rattle.finding.proofs.grids.grid_small.Tie as tie
 
--- the way back from the call to the entry, and from the end to the call
-abbrev entry : tie.After-grid-in-arg5 → tie.Start
-entry c = c .before .before .before .before .before .before .before .before .before .before .before .before .before .before .before .before .before .before .before .before
-
+-- the way back to the call
 abbrev called : tie.After-slice-known10 → tie.After-grid-in
-called c = c .before .before .before .before .before .before .before .before .before .before .before .before .before .before .before .before .before .before .before
+called c = (c .before .before .before .before .before .before .before .before .before .before .before .before .before .before .before .before .before .before .before)
 
 slice-aggregate-grid-in : tie.Need-slice-aggregate-grid-in
 slice-aggregate-grid-in c = search needs
@@ -39,11 +37,7 @@ slice-aggregate-grid-in-9 : tie.Need-slice-aggregate-grid-in-9
 slice-aggregate-grid-in-9 c = search needs
 
 grid-in-requires : tie.Need-grid-in-requires
-grid-in-requires c κs =
-    let few = entry c .pre .0 in (
-      record { depth-room = few; kind-room = few; number-room = few; cols-room = few; rows-room = few; own-room = few },
-      (record { first-room = few; span-room = few }, (omega arith, entry c .pre .1)),
-    )
+grid-in-requires c κs = let p = (c .before .before .before .before .before .before .before .before .before .before .before .before .before .before .before .before .before .before .before .before) .pre in (lines-with (p .0) (omega arith) (omega arith) (omega arith) (omega arith) (omega arith) (omega arith), (grids-with (p .0) (omega arith) (omega arith), (omega arith, p .1)))
 
 same-length : tie.Need-same-length
 same-length c = called c .grid-in .kept .1 .1 .1 .1 .1 .1 .1 .1 .1 .1 .1 .0

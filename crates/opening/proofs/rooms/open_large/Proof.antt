@@ -1,13 +1,13 @@
 -- `opening::rooms::open_large` meets its contract: no sheet asks for more room than the arrays have. Assumes nothing.
 use native.Mathlib.Omega.{arith}
+use Rattle.opening.proofs.Slices.{room-most, room-with}
 use borrow.Author.Needs.{needs}
-use Rattle.opening.proofs.Slices.{room-with, room-most}
 use Rattle.opening.proofs.rooms.open_large.Statement.{statement}
 use Rattle.opening.proofs.rooms.open_large.Tie as tie
 
 -- the way back to the call
-abbrev opens : tie.After-row-end2 → tie.After-open-in
-opens c = (c .before .before .before .before .before .before .before .before .before .before .before .before .before .before .before .before .before .before .before .before .before .before .before .before .before .before .before .before .before .before .before .before .before .before)
+abbrev opens : tie.After-slice-known28 → tie.After-open-in
+opens c = (c .before .before .before .before .before .before .before .before .before .before .before .before .before .before .before .before .before .before .before .before .before .before .before .before .before .before .before .before .before .before .before .before .before .before .before .before)
 
 slice-aggregate-open-in : tie.Need-slice-aggregate-open-in
 slice-aggregate-open-in c = search needs
@@ -33,16 +33,8 @@ slice-aggregate-open-in-7 c = search needs
 slice-aggregate-open-in-8 : tie.Need-slice-aggregate-open-in-8
 slice-aggregate-open-in-8 c = search needs
 
-slice-aggregate-open-in-9 : tie.Need-slice-aggregate-open-in-9
-slice-aggregate-open-in-9 c = search needs
-
-slice-aggregate-open-in-10 : tie.Need-slice-aggregate-open-in-10
-slice-aggregate-open-in-10 c = search needs
-
 open-in-requires : tie.Need-open-in-requires
-open-in-requires c κs =
-    let p = (c .before .before .before .before .before .before .before .before .before .before .before .before .before .before .before .before .before .before .before .before .before .before .before .before .before .before .before .before .before .before .before .before .before .before .before) .pre in
-    (p .0, (p .1 .0, room-with (room-most _) (p .1 .1) (omega arith) (omega arith) (omega arith) (omega arith) (omega arith) (omega arith) (omega arith) (omega arith) (omega arith) (omega arith)))
+open-in-requires c κs = let p = (c .before .before .before .before .before .before .before .before .before .before .before .before .before .before .before .before .before .before .before .before .before .before .before .before .before .before .before .before .before .before .before .before .before .before .before .before .before) .pre in (p .0, (p .1 .0, room-with (room-most _) (room-most _) (p .1 .1 .0) (p .1 .1 .1) (omega arith) (omega arith) (omega arith) (omega arith) (omega arith) (omega arith) (omega arith) (omega arith)))
 
 same-length : tie.Need-same-length
 same-length c = opens c .open-in .kept .1 .1 .1 .0
@@ -80,6 +72,12 @@ same-length-11 c = opens c .open-in .kept .1 .1 .1 .1 .1 .1 .1 .1 .1 .1 .1 .1 .1
 same-length-12 : tie.Need-same-length-12
 same-length-12 c = opens c .open-in .kept .1 .1 .1 .1 .1 .1 .1 .1 .1 .1 .1 .1 .1 .1 .1 .1 .1 .1 .1 .1 .1 .1 .0
 
+same-length-13 : tie.Need-same-length-13
+same-length-13 c = opens c .open-in .kept .1 .1 .1 .1 .1 .1 .1 .1 .1 .1 .1 .1 .1 .1 .1 .1 .1 .1 .1 .1 .1 .1 .1 .0
+
+same-length-14 : tie.Need-same-length-14
+same-length-14 c = opens c .open-in .kept .1 .1 .1 .1 .1 .1 .1 .1 .1 .1 .1 .1 .1 .1 .1 .1 .1 .1 .1 .1 .1 .1 .1 .1 .0
+
 returns : tie.Need-returns
 returns c = opens c .open-in .ensures
 
@@ -95,8 +93,6 @@ open-large-spec =
     slice-aggregate-open-in-6
     slice-aggregate-open-in-7
     slice-aggregate-open-in-8
-    slice-aggregate-open-in-9
-    slice-aggregate-open-in-10
     open-in-requires
     same-length
     same-length-2
@@ -110,4 +106,6 @@ open-large-spec =
     same-length-10
     same-length-11
     same-length-12
+    same-length-13
+    same-length-14
     returns)

@@ -1,0 +1,3 @@
+-- Laws of the layout of one table in a sheet.
+pub mod Rooms
+pub mod Laying
