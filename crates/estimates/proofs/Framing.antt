@@ -1,6 +1,8 @@
--- The turns of `table`: a body or a row, a cell with all below it, and the end, where its cells are spread over its columns.
+-- The turns of `table`: a body, a row or a cell that holds nothing, a cell with all below it, and the end, where its cells are spread over
+-- its columns.
 -- Assumes nothing.
 use mathlib.Core.Path.{_≡_, sym, ap, _∙_}
+use mathlib.Core.Bool.{Bool, false}
 use mathlib.Core.List.{List, _∷_}
 use Prim.Native.Nat.{ℕ, zero, suc, _+_, _-_, _≤_, _<_}
 use native.Mathlib.Nat.{mul-div-le}
@@ -15,7 +17,7 @@ use Rattle.estimates.specs.Estimates.{estimate, none}
 use Rattle.estimates.specs.Walk.{Held, spread, cellBoxes, tabledBy}
 use Rattle.estimates.specs.Spread.{Lines, lines, boxesIn, boxesOf, TableReady, Tabulated}
 use Rattle.estimates.specs.Sheet.{Slices, Sheet, walkedOf}
-use Rattle.estimates.specs.Meets.{Buffers, Passed, Ends, Holder, CellMeets, TableMeets, estAt, heldAt, weight}
+use Rattle.estimates.specs.Meets.{Buffers, Passed, Ends, FilledAt, Holder, CellMeets, TableMeets, estAt, heldAt, weight}
 use Rattle.estimates.specs.declared.Part.{Part}
 use Rattle.estimates.proofs.Laws.{nodeAt, boxFor, boxes-stop, boxes-take, boxes-skip, boxes-cell}
 use Rattle.estimates.proofs.ByKind.{body-est, row-est, holder-est, cell-plain}
@@ -23,6 +25,7 @@ use Rattle.estimates.proofs.Nesting.{Framed, framed}
 use Rattle.estimates.proofs.Weighing.{weight-more, fits}
 use Rattle.estimates.proofs.Tabling.{tabled-small}
 use Rattle.estimates.proofs.Passing.{put, step, stored, begin}
+use Rattle.estimates.proofs.Children.{cell-start, cell-end}
 
 -- at line i: the cells passed weigh no more than the lines passed
 pub record TableLoop (wrap : ℕ) (s : Slices) (b c : Buffers) (at i : ℕ) : Type 0 where
@@ -113,7 +116,7 @@ module _ {wrap : ℕ} {s : Slices} {b : Buffers} {at : ℕ} (w : Sheet s) where
         }
 
     -- a body's line or a row's
-    pub table-frame : (getD (s .kind) i 0 ≡ cellKind → ⊥) → TableLoop wrap s b (put c i none) at (i + 1)
+    table-frame : (getD (s .kind) i 0 ≡ cellKind → ⊥) → TableLoop wrap s b (put c i none) at (i + 1)
     table-frame e =
         let k = frame-est e in
         let v = stored (begin (walkedOf wrap s) (l .passed .sized) h) (k .1) (record { small = omega arith; least-size = omega arith }) in
@@ -123,6 +126,18 @@ module _ {wrap : ℕ} {s : Slices} {b : Buffers} {at : ℕ} (w : Sheet s) where
           frame = frame-on (i + 1) (λ j x y. absurd (omega arith));
           small = omega (arith, ap spread (boxes-skip wrap s (getD (s .depth) at 0) i h u (omega (arith, k .0))), l .small, weight-more (s .own) i);
         }
+
+    -- a cell that ends where it begins
+    table-bare : getD (s .kind) i 0 ≡ cellKind → Ends (s .depth) (getD (s .depth) i 0) (i + 1) → TableLoop wrap s b (put c i none) at (i + 1)
+    table-bare e z = table-again e (cell-end (cell-start w (begin (walkedOf wrap s) (l .passed .sized) h)) z)
+
+    -- a line that is passed without a call
+    pub table-unfilled : {r : Bool} → FilledAt (s .depth) (s .kind) i r → r ≡ false → TableLoop wrap s b (put c i none) at (i + 1)
+    table-unfilled f e = go (ℕ-discrete (getD (s .kind) i 0) cellKind)
+      where
+        go : Dec (getD (s .kind) i 0 ≡ cellKind) → TableLoop wrap s b (put c i none) at (i + 1)
+        go (yes k) = table-bare k (f .bare e k)
+        go (no k) = table-frame k
 
   -- the end: the lines of the table, as the code reads them
   module _ (t : getD (s .kind) at 0 ≡ tableKind) (a : at < length (s .depth)) {c : Buffers} {i : ℕ} (l : TableLoop wrap s b c at i)

@@ -1,13 +1,13 @@
 -- What the functions that walk over a sheet's lines take and promise. These are definitions; nothing is assumed.
 use mathlib.Core.Path.{_≡_}
-use mathlib.Core.Bool.{false}
+use mathlib.Core.Bool.{Bool, true, false}
 use mathlib.Core.List.{List, map}
 use Prim.Native.Nat.{ℕ, zero, suc, _+_, _≤_, _<_}
 use lib.ListN.{length, getD, drop}
 use Rattle.lists.specs.Lists.{over}
 use Rattle.lists.specs.Limits.{maxPosition}
 use Rattle.text.specs.declared.Estimate.{Estimate}
-use Rattle.line.specs.Kinds.{tableKind, bodyKind, rowKind, isLeaf, isFrame}
+use Rattle.line.specs.Kinds.{tableKind, bodyKind, rowKind, cellKind, isLeaf, isFrame}
 use Rattle.estimates.specs.Walk.{Walked, unwalked, Held, holdsNone, collect, cellBoxes, tabledBy}
 use Rattle.estimates.specs.Single.{heldOf}
 use Rattle.estimates.specs.Sheet.{Slices, Sheet, walkedOf, maxSize}
@@ -71,6 +71,11 @@ pub record Passed (s : Slices) (es : List Walked) (b c : Buffers) (at lo r : ℕ
 -- what is below a line of depth d ends at r
 abbrev pub Ends : List ℕ → ℕ → ℕ → Type 0
 Ends depths d r = r < length depths → getD depths r 0 ≤ d
+
+-- whether the line at i is a cell that holds anything: if not and it is a cell, it ends where it begins
+pub record FilledAt (depths kinds : List ℕ) (i : ℕ) (r : Bool) : Type 0 where
+  pub cell : r ≡ true → getD kinds i 0 ≡ cellKind
+  pub bare : r ≡ false → getD kinds i 0 ≡ cellKind → Ends depths (getD depths i 0) (i + 1)
 
 -- a line that `node` takes: no body, row or cell
 abbrev pub Plain : Slices → ℕ → Type 0

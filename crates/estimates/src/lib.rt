@@ -4,10 +4,11 @@ pub mod single;
 pub mod spread;
 
 ghost use mathlib.Core.Path.{_≡_};
-ghost use lib.ListN.{getD};
+ghost use Prim.Native.Nat.{_<_};
+ghost use lib.ListN.{length, getD};
 ghost use Rattle.line.specs.Kinds.{tableKind};
 ghost use Rattle.estimates.specs.Sheet.{slices, walkedOf};
-ghost use Rattle.estimates.specs.Meets.{buffers, Ready, Plain, Holder, NodeMeets, CellMeets, TableMeets, Lent, Estimated};
+ghost use Rattle.estimates.specs.Meets.{buffers, Ready, Plain, Holder, FilledAt, NodeMeets, CellMeets, TableMeets, Lent, Estimated};
 
 // What the lines below a line come to: the line after them, size and least width, and how many children there are.
 pub struct Part {
@@ -85,6 +86,21 @@ fn node(
     }
 }
 
+// Whether the line at `i` is a cell that holds anything: the line after it is deeper.
+fn is_filled(depth: &[u32], kind: &[u32], i: usize) -> bool
+    requires { ⌜ (i < length (now depth)) × (i < length (now kind)) ⌝ }
+    ensures { λ r. ⌜ FilledAt (now (depth .entry)) (now (kind .entry)) i r ⌝ }
+{
+    if kind[i] != kinds::CELL {
+        return false;
+    }
+    let next = i + 1;
+    if next >= depth.len() {
+        return false;
+    }
+    depth[i] < depth[next]
+}
+
 // Measures all below the table at `at`, and returns the table's own figures. Ports `RenderTable::calc_size_estimate`.
 fn table(
     depth: &[u32],
@@ -110,7 +126,7 @@ fn table(
         if depth[i] <= d {
             break;
         }
-        if kind[i] == kinds::CELL {
+        if is_filled(depth, kind, i) {
             let p = cell(
                 depth,
                 kind,
@@ -130,7 +146,7 @@ fn table(
             prefix[i] = 0;
             i = p.after;
         } else {
-            // a body or a row
+            // a body, a row, or a cell that holds nothing, which needs no call
             size[i] = 0;
             least[i] = 0;
             prefix[i] = 0;

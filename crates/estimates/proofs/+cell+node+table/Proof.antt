@@ -1,8 +1,8 @@
 -- The cycle `node`, `table`, `cell` meets its contracts. Each call passes a line and all below it: `node` a line that stands anywhere, `cell`
--- the children of a line one after the other (a leaf without a call, by the law that `node` has for it), `table` the lines of a table, whose
--- cells it then spreads over its columns. The loops' invariants say that the lines passed have their estimates, and that what is combined so
--- far, with the lines left, comes to the whole. The measure is twice the lines left, and one more for `node`, which may call for its own
--- line. Assumes nothing.
+-- the children of a line one after the other (a leaf without a call, by the law that `node` has for it), `table` the lines of a table (a cell
+-- that holds nothing without a call, by the laws that `cell` has for it), whose cells it then spreads over its columns. The loops' invariants
+-- say that the lines passed have their estimates, and that what is combined so far, with the lines left, comes to the whole. The measure is
+-- twice the lines left, and one more for `node`, which may call for its own line. Assumes nothing.
 use Prim.Native.Nat.{ℕ, _+_, _*_, _-_, _<_}
 use mathlib.Core.Logic.{⊎-elim}
 use mathlib.Core.Path.{_≡_, refl, sym, _∙_}
@@ -13,7 +13,7 @@ use Rattle.estimates.specs.Sheet.{slices}
 use Rattle.estimates.specs.Meets.{Ends, buffers}
 use Rattle.estimates.proofs.Passing.{begin}
 use Rattle.estimates.proofs.Children.{CellLoop, cell-start, cell-ready, cell-child, cell-again, cell-leaf, cell-fits, cell-end, plain-holder, leaf-meets, table-meets, holder-ready, holder-meets}
-use Rattle.estimates.proofs.Framing.{TableLoop, table-start, table-cell, table-again, table-frame, table-ready, table-end}
+use Rattle.estimates.proofs.Framing.{TableLoop, table-start, table-cell, table-again, table-unfilled, table-ready, table-end}
 use borrow.Fn.Kinds.{In}
 use borrow.Fn.PlainCycle.{Measures, is, falls, and}
 use Rattle.estimates.proofs.cell.Reads as cell
@@ -25,6 +25,7 @@ use Rattle.estimates.proofs.+cell+node+table.Lts-node as node-lts
 use Rattle.estimates.proofs.table.Reads as table
 use Rattle.estimates.proofs.table.Kinds as table-kinds
 use Rattle.estimates.proofs.+cell+node+table.Lts-table as table-lts
+use Rattle.estimates.proofs.is_filled.Reads as is-filled-reads
 use Rattle.estimates.proofs.single.holder.Reads as holder-reads
 use Rattle.estimates.proofs.single.is_leaf.Reads as is-leaf-reads
 use Rattle.estimates.proofs.single.leaf.Reads as leaf-reads
@@ -412,7 +413,7 @@ node-returns-3 t c =
     holder-meets (start .pre .1 .0) (plain-holder (start .pre .1 .1) (sym (at-is-leaf .is-leaf .ensures) ∙ test1 .if1 .left) (test2 .if2 .left)) (at-cell .cell .ensures) (c .holder .ensures)
 
 abbrev table-claims : ℕ → table-lts.Claims
-table-claims t = (cell-below t, cell.Post, tabulate-reads.Asked, tabulate-reads.Learnt)
+table-claims t = (is-filled-reads.Asked, is-filled-reads.Learnt, cell-below t, cell.Post, tabulate-reads.Asked, tabulate-reads.Learnt)
 
 abbrev table-Inv-loop : table-lts.InvT-loop
 table-Inv-loop depth kind number own first span size₀ least₀ prefix₀ leasts₀ wrap at d i₀ size least prefix leasts i =
@@ -448,16 +449,17 @@ table-mul-if1 t c = search needs
 table-shared-slice-read-if1 : (t : ℕ) → table-lts.Need-shared-slice-read-if1 (table-claims t) (table-at t) table.Post table-Inv-loop table-μ-loop
 table-shared-slice-read-if1 t c = search needs
 
-table-mul-if2 : (t : ℕ) → table-lts.Need-mul-if2 (table-claims t) (table-at t) table.Post table-Inv-loop table-μ-loop
-table-mul-if2 t c = search needs
-
-table-shared-slice-read-if2 : (t : ℕ) → table-lts.Need-shared-slice-read-if2 (table-claims t) (table-at t) table.Post table-Inv-loop table-μ-loop
-table-shared-slice-read-if2 t c = search needs
+table-is-filled-requires : (t : ℕ) → table-lts.Need-is-filled-requires (table-claims t) (table-at t) table.Post table-Inv-loop table-μ-loop
+table-is-filled-requires t c κs =
+    let turn = c .before .before in
+    let start = turn .before .before .before .before .before .before .before .before .before .before .before .before .before in
+    let h = turn .loop-test .taken in (h, omega (arith, h, start .pre .1 .0 .sheet .kinds))
 
 table-cell-requires : (t : ℕ) → table-lts.Need-cell-requires (table-claims t) (table-at t) table.Post table-Inv-loop table-μ-loop
 table-cell-requires t c κs =
     let test2 = c .before .before .before .before in
-    let test1 = test2 .before .before in
+    let at-is-filled = test2 .before in
+    let test1 = at-is-filled .before in
     let turn = test1 .before .before in
     let head = turn .before in
     let start = head .before .before .before .before .before .before .before .before .before .before .before .before in
@@ -465,7 +467,7 @@ table-cell-requires t c κs =
     let v = head .loop .inv in
     let h = turn .loop-test .taken in (
       omega (arith, start .pre .0, h, v .1 .passed .after),
-      (record { sheet = r .sheet; sized = v .1 .passed .sized; scratch = omega (arith, r .scratch, v .0); within = h }, table-cell (start .pre .1 .0 .sheet) (start .pre .1 .1) (head .loop .inv .1) (turn .loop-test .taken) (test1 .if1 .left) (test2 .if2 .taken)),
+      (record { sheet = r .sheet; sized = v .1 .passed .sized; scratch = omega (arith, r .scratch, v .0); within = h }, table-cell (start .pre .1 .0 .sheet) (start .pre .1 .1) (head .loop .inv .1) (turn .loop-test .taken) (test1 .if1 .left) (at-is-filled .is-filled .ensures .cell (test2 .if2 .taken))),
     )
 
 table-mul-size : (t : ℕ) → table-lts.Need-mul-size (table-claims t) (table-at t) table.Post table-Inv-loop table-μ-loop
@@ -502,11 +504,12 @@ table-loop-again : (t : ℕ) → table-lts.Need-loop-again (table-claims t) (tab
 table-loop-again t c =
     let at-cell = c .before .before .before .before .before .before .before .before in
     let test2 = at-cell .before .before .before .before .before in
-    let test1 = test2 .before .before in
+    let at-is-filled = test2 .before in
+    let test1 = at-is-filled .before in
     let turn = test1 .before .before in
     let head = turn .before in
     let start = head .before .before .before .before .before .before .before .before .before .before .before .before in
-    (at-cell .cell .kept .1 .1 .1 .1 .1 .1 .1 .1 .1 .0 ∙ head .loop .inv .0, table-again (start .pre .1 .0 .sheet) (start .pre .1 .1) (head .loop .inv .1) (turn .loop-test .taken) (test1 .if1 .left) (test2 .if2 .taken) (at-cell .cell .ensures))
+    (at-cell .cell .kept .1 .1 .1 .1 .1 .1 .1 .1 .1 .0 ∙ head .loop .inv .0, table-again (start .pre .1 .0 .sheet) (start .pre .1 .1) (head .loop .inv .1) (turn .loop-test .taken) (test1 .if1 .left) (at-is-filled .is-filled .ensures .cell (test2 .if2 .taken)) (at-cell .cell .ensures))
 
 table-mul-size-2 : (t : ℕ) → table-lts.Need-mul-size-2 (table-claims t) (table-at t) table.Post table-Inv-loop table-μ-loop
 table-mul-size-2 t c = search needs
@@ -534,11 +537,12 @@ table-loop-less-2 t c = search needs
 
 table-loop-again-2 : (t : ℕ) → table-lts.Need-loop-again-2 (table-claims t) (table-at t) table.Post table-Inv-loop table-μ-loop
 table-loop-again-2 t c =
-    let test1 = c .before .before in
+    let at-is-filled = c .before in
+    let test1 = at-is-filled .before in
     let turn = test1 .before .before in
     let head = turn .before in
     let start = head .before .before .before .before .before .before .before .before .before .before .before .before in
-    (head .loop .inv .0, table-frame (start .pre .1 .0 .sheet) (start .pre .1 .1) (head .loop .inv .1) (turn .loop-test .taken) (test1 .if1 .left) (c .if2 .left))
+    (head .loop .inv .0, table-unfilled (start .pre .1 .0 .sheet) (start .pre .1 .1) (head .loop .inv .1) (turn .loop-test .taken) (test1 .if1 .left) (at-is-filled .is-filled .ensures) (c .if2 .left))
 
 table-tabulate-requires : (t : ℕ) → table-lts.Need-tabulate-requires (table-claims t) (table-at t) table.Post table-Inv-loop table-μ-loop
 table-tabulate-requires t c κs =
@@ -663,8 +667,7 @@ pub +cell+node+table-spec : {M : Type 1} → statement M
     (table-loop-holds t)
     (table-mul-if1 t)
     (table-shared-slice-read-if1 t)
-    (table-mul-if2 t)
-    (table-shared-slice-read-if2 t)
+    (table-is-filled-requires t)
     (table-cell-requires t)
     (table-mul-size t)
     (table-slice-write-size t)
