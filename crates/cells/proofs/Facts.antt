@@ -10,11 +10,12 @@ use native.Mathlib.Omega.{arith}
 use lib.Dec.{leb, eqb}
 use lib.ListN.{length, getD, length-append, length-map, List·getD-append}
 use borrow.Author.Tests.{eq-eqb, ne-eqb}
+use Rattle.lists.specs.Limits.{maxCols, maxRows}
 use Rattle.lists.specs.Lists.{over, sum}
-use Rattle.line.specs.Fields.{Line}
+use Rattle.records.specs.declared.Kept.{Kept}
 use Rattle.cells.specs.Cells.{Cell, Row, Frame, cell, row, noFrame, openBody, openRow, openCell, frame, bodiesOf, rowSum, widest, resolveCell, resolveRow, resolveBody, resolved}
-use Rattle.cells.specs.Listed.{allCells, maxCols}
-use Rattle.cells.specs.Facts.{Every, none, and, maxRows, LineFits, CellFits, RowFits}
+use Rattle.cells.specs.Listed.{allCells}
+use Rattle.cells.specs.Facts.{Every, none, and, LineFits, CellFits, RowFits}
 use Rattle.cells.proofs.Rows.{cells-append, cells-resolved}
 
 -- ---- Every
@@ -67,10 +68,10 @@ cond-both : (P : Frame → Type 0) (b : Bool) {f g : Frame} → P f → P g → 
 cond-both P true p q = p
 cond-both P false p q = q
 
-frame-all : (P : ℕ → List Line → Frame → Type 0) (d : ℕ)
-    → ((k : ℕ) (ls : List Line) → P k ls noFrame)
-    → ((k : ℕ) (l : Line) (ls : List Line) (f : Frame) → P (suc k) ls f → P k (l ∷ ls) (openBody f) × P k (l ∷ ls) (openRow k f) × P k (l ∷ ls) (openCell k l f) × P k (l ∷ ls) f)
-    → (k : ℕ) (ls : List Line) → P k ls (frame d k ls)
+frame-all : (P : ℕ → List Kept → Frame → Type 0) (d : ℕ)
+    → ((k : ℕ) (ls : List Kept) → P k ls noFrame)
+    → ((k : ℕ) (l : Kept) (ls : List Kept) (f : Frame) → P (suc k) ls f → P k (l ∷ ls) (openBody f) × P k (l ∷ ls) (openRow k f) × P k (l ∷ ls) (openCell k l f) × P k (l ∷ ls) f)
+    → (k : ℕ) (ls : List Kept) → P k ls (frame d k ls)
 unfolding frame
 frame-all P d p q k [] = p k []
 frame-all P d p q k (l ∷ ls) =
@@ -104,7 +105,7 @@ size-resolved (b ∷ bs) =
       length-append (allCells (resolveBody b)) (allCells (resolved bs)),
     )
 
-frame-few : (d k : ℕ) (ls : List Line) → length (frame d k ls .cells) + size (frame d k ls .rows) + sizes (frame d k ls .bodies) + length (frame d k ls .bodies) ≤ length ls
+frame-few : (d k : ℕ) (ls : List Kept) → length (frame d k ls .cells) + size (frame d k ls .rows) + sizes (frame d k ls .bodies) + length (frame d k ls .bodies) ≤ length ls
 unfolding allCells
 frame-few d =
     frame-all (λ k ls f. length (f .cells) + size (f .rows) + sizes (f .bodies) + length (f .bodies) ≤ length ls) d
@@ -112,12 +113,12 @@ frame-few d =
     (λ k l ls f h. (omega (arith, h), omega (arith, h, length-append (f .cells) (allCells (f .rows))), omega (arith, h), omega (arith, h)))
 
 -- bodies, rows and cells are no more than the lines that follow the table's
-pub rows-few : (d t : ℕ) (ls : List Line)
+pub rows-few : (d t : ℕ) (ls : List Kept)
     → length (resolved (bodiesOf d t ls)) + length (allCells (resolved (bodiesOf d t ls))) + length (bodiesOf d t ls) ≤ length ls
 rows-few d t ls = omega (arith, size-resolved (bodiesOf d t ls), frame-few d (suc t) ls)
 
 -- and where there is a row, there is a body
-pub rows-fewer : (d t : ℕ) (ls : List Line) → 0 < length (resolved (bodiesOf d t ls))
+pub rows-fewer : (d t : ℕ) (ls : List Kept) → 0 < length (resolved (bodiesOf d t ls))
     → length (resolved (bodiesOf d t ls)) + length (allCells (resolved (bodiesOf d t ls))) < length ls
 unfolding resolved
 rows-fewer d t ls h = omega (arith, rows-few d t ls, some (bodiesOf d t ls) h)
@@ -161,7 +162,7 @@ frame-more k n f h = record {
   bodies = every-weaken (λ b. every-weaken (row-in k n)) (h .bodies);
 }
 
-frame-turn : (k : ℕ) (l : Line) (ls : List Line) (f : Frame) → LineFits l → FrameIn (suc k) (length ls) f
+frame-turn : (k : ℕ) (l : Kept) (ls : List Kept) (f : Frame) → LineFits l → FrameIn (suc k) (length ls) f
     → FrameIn k (suc (length ls)) (openBody f) × FrameIn k (suc (length ls)) (openRow k f) × FrameIn k (suc (length ls)) (openCell k l f) × FrameIn k (suc (length ls)) f
 frame-turn k l ls f e h =
     let m = frame-more k (length ls) f h in (
@@ -181,7 +182,7 @@ frame-turn k l ls f e h =
       m,
     )
 
-frame-in : (d k : ℕ) (ls : List Line) → Every LineFits ls → FrameIn k (length ls) (frame d k ls)
+frame-in : (d k : ℕ) (ls : List Kept) → Every LineFits ls → FrameIn k (length ls) (frame d k ls)
 frame-in d =
     frame-all (λ k ls f. Every LineFits ls → FrameIn k (length ls) f) d
     (λ k ls e. record { few = omega arith; cells = none; rows = none; bodies = none })
@@ -229,7 +230,7 @@ bodies-fit t n none = none
 bodies-fit t n (and {x = b} p ps) = every-append (every-map (resolveRow (widest b)) (row-fits t n (widest b) (body-small p)) p) (bodies-fit t n ps)
 
 -- the rows of the table of depth d whose line is line t, where the lines ls follow
-pub rows-fit : (d t : ℕ) (ls : List Line) → Every LineFits ls → Every (RowFits t (length ls)) (resolved (bodiesOf d t ls))
+pub rows-fit : (d t : ℕ) (ls : List Kept) → Every LineFits ls → Every (RowFits t (length ls)) (resolved (bodiesOf d t ls))
 rows-fit d t ls e = bodies-fit t (length ls) (frame-in d (suc t) ls e .bodies)
 
 -- every resolved cols is at least 1, whatever the rows are

@@ -8,10 +8,12 @@ use native.Mathlib.Numerals.{add-one}
 use native.Mathlib.Omega.{arith}
 use lib.ListN.{length, getD, set, drop, length-append, length-map, length-set, List·getD-eq-default}
 use lib.Seq.{getD-set-same, getD-set-other}
-use Rattle.lists.specs.Limits.{maxLines, maxDepth}
+use Rattle.lists.specs.Limits.{maxLines, maxDepth, maxCols}
 use Rattle.lists.proofs.Over.{over-none}
+use Rattle.records.specs.Kept.{noKept}
+use Rattle.records.specs.declared.Kept.{Kept}
 use Rattle.cells.specs.Cells.{Cell, Row, Frame, cell, row, noFrame, openBody, openRow, frame, widest, resolveRow, resolveBody, resolved}
-use Rattle.cells.specs.Listed.{allCells, cellEnds, ListsRows, maxCols, heldLines, heldRows, TableReady, TableListed}
+use Rattle.cells.specs.Listed.{allCells, cellEnds, ListsRows, heldRows, ListingReady, TableListed}
 use Rattle.cells.specs.Spans.{part, rowsAt, BodyHeld, WrittenBack}
 use Rattle.cells.proofs.Rows.{cells-append, extend, extend-none, extend-extend, extend-append, length-extend, cells-extend}
 use Rattle.cells.proofs.Written.{written-row, written-cell, last-held, last-resolved, same-cells}
@@ -46,10 +48,10 @@ rest-cell last c f = ap (λ (l : List Row). resolveBody (l ++ f .rows) ++ resolv
 
 -- ---- the loop
 
-pub record Listing (ds cs rs : List ℕ) (at : ℕ) (line₀ span₀ rows₀ row₀ end₀ line span rows row′ end : List ℕ) (n r first-cell first-row i : ℕ) : Type 0 where
+pub record Listing (ks : List Kept) (at : ℕ) (line₀ span₀ rows₀ row₀ end₀ line span rows row′ end : List ℕ) (n r first-cell first-row i : ℕ) : Type 0 where
   pub done : List Row
   pub last : List Row
-  pub whole : done ++ rest last (framed ds cs rs (getD ds at 0) i) ≡ heldRows ds cs rs at
+  pub whole : done ++ rest last (framed ks (getD ks at noKept .depth) i) ≡ heldRows ks at
   pub written : ListsRows (done ++ last) line₀ span₀ rows₀ row₀ end₀ line span rows row′ end
   pub cells-are : n ≡ length (allCells (done ++ last))
   pub rows-are : r ≡ length (done ++ last)
@@ -57,9 +59,9 @@ pub record Listing (ds cs rs : List ℕ) (at : ℕ) (line₀ span₀ rows₀ row
   pub first-row-is : first-row ≡ length done
   pub order : first-row ≤ r
   pub few : n + r + (at + 1) ≤ i
-  pub within : i ≤ length ds
+  pub within : i ≤ length ks
   -- where the last body has no row yet, no cell comes next
-  pub fresh : first-row ≡ r → getD ds i 0 ≤ getD ds at 0 + 2
+  pub fresh : first-row ≡ r → getD ks i noKept .depth ≤ getD ks at noKept .depth + 2
   pub narrow : (k : ℕ) → first-cell ≤ k → k < n → getD span k 0 ≤ maxCols
   pub same-line : length line ≡ length line₀
   pub same-span : length span ≡ length span₀
@@ -68,40 +70,38 @@ pub record Listing (ds cs rs : List ℕ) (at : ℕ) (line₀ span₀ rows₀ row
   pub same-end : length end ≡ length end₀
 
 -- what a turn at the place i may use: the line, and a place for one row and one cell more
-pub record Room (ds cs rs : List ℕ) (at : ℕ) (line span rows row′ end : List ℕ) (n r first-row i : ℕ) : Type 0 where
-  pub more : i < length ds
-  pub short : length ds ≤ maxLines
-  pub shallow : getD ds at 0 ≤ maxDepth
-  pub few : n + r < i
+pub record Room (ks : List Kept) (at : ℕ) (line span rows row′ end : List ℕ) (n r first-row i : ℕ) : Type 0 where
+  pub more : i < length ks
+  pub short : length ks ≤ maxLines
+  pub shallow : getD ks at noKept .depth ≤ maxDepth
+  pub few : n + r + at < i
   pub order : first-row ≤ r
-  pub cols-length : length cs ≡ length ds
-  pub rows-length : length rs ≡ length ds
-  pub line-room : length ds ≤ length line
-  pub span-room : length ds ≤ length span
-  pub rows-room : length ds ≤ length rows
-  pub row-room : length ds ≤ length row′
-  pub end-room : length ds ≤ length end
+  pub line-room : length ks ≤ at + length line
+  pub span-room : length ks ≤ at + length span
+  pub rows-room : length ks ≤ at + length rows
+  pub row-room : length ks ≤ at + length row′
+  pub end-room : length ks ≤ at + length end
 
 -- a line is at most one deeper than the one before it, also where there is none
-step-on : (ds : List ℕ) → ((k : ℕ) → k + 1 < length ds → getD ds (k + 1) 0 ≤ getD ds k 0 + 1) → (k : ℕ) → getD ds (k + 1) 0 ≤ getD ds k 0 + 1
-step-on ds h k = at (decLt (k + 1) (length ds))
+step-on : (ks : List Kept) → ((k : ℕ) → k + 1 < length ks → getD ks (k + 1) noKept .depth ≤ getD ks k noKept .depth + 1) → (k : ℕ) → getD ks (k + 1) noKept .depth ≤ getD ks k noKept .depth + 1
+step-on ks h k = at (decLt (k + 1) (length ks))
   where
-    at : Dec (k + 1 < length ds) → getD ds (k + 1) 0 ≤ getD ds k 0 + 1
+    at : Dec (k + 1 < length ks) → getD ks (k + 1) noKept .depth ≤ getD ks k noKept .depth + 1
     at (yes g) = h k g
-    at (no g) = rw (List·getD-eq-default ds 0 {n = k + 1} (omega arith)) (omega arith)
+    at (no g) = rw (List·getD-eq-default ks noKept {n = k + 1} (omega arith)) (omega arith)
 
-module _ {ds cs rs : List ℕ} {at : ℕ} {line₀ span₀ rows₀ row₀ end₀ : List ℕ} (t : TableReady ds cs rs at line₀ span₀ rows₀ row₀ end₀) where
+module _ {ks : List Kept} {at : ℕ} {line₀ span₀ rows₀ row₀ end₀ : List ℕ} (t : ListingReady ks at line₀ span₀ rows₀ row₀ end₀) where
   abbrev d : ℕ
-  d = getD ds at 0
+  d = getD ks at noKept .depth
 
-  pub list-start : Listing ds cs rs at line₀ span₀ rows₀ row₀ end₀ line₀ span₀ rows₀ row₀ end₀ 0 0 0 0 (at + 1)
+  pub list-start : Listing ks at line₀ span₀ rows₀ row₀ end₀ line₀ span₀ rows₀ row₀ end₀ 0 0 0 0 (at + 1)
   unfolding allCells cellEnds heldRows resolveBody
   list-start = record {
     done = [];
     last = [];
     whole =
-        ap (λ (l : List Row). resolveBody l ++ resolved (framed ds cs rs d (at + 1) .bodies)) (frame-first ds cs rs d (at + 1) (step-on ds (t .step) at))
-        ∙ ap (λ (k : ℕ). resolved (frame d k (drop (at + 1) (heldLines ds cs rs)) .bodies)) (add-one (at + 1));
+        ap (λ (l : List Row). resolveBody l ++ resolved (framed ks d (at + 1) .bodies)) (frame-first ks d (at + 1) (step-on ks (t .step) at))
+        ∙ ap (λ (k : ℕ). resolved (frame d k (drop (at + 1) ks) .bodies)) (add-one (at + 1));
     written = record {
       lines = sym (over-none line₀);
       spans = sym (over-none span₀);
@@ -116,7 +116,7 @@ module _ {ds cs rs : List ℕ} {at : ℕ} {line₀ span₀ rows₀ row₀ end₀
     order = omega arith;
     few = omega arith;
     within = omega (arith, t .within);
-    fresh = λ e. omega (arith, step-on ds (t .step) at);
+    fresh = λ e. omega (arith, step-on ks (t .step) at);
     narrow = λ k a b. absurd (omega arith);
     same-line = refl;
     same-span = refl;
@@ -125,7 +125,7 @@ module _ {ds cs rs : List ℕ} {at : ℕ} {line₀ span₀ rows₀ row₀ end₀
     same-end = refl;
   }
 
-  module _ {line span rows row′ end : List ℕ} {n r fc fr i : ℕ} (z : Listing ds cs rs at line₀ span₀ rows₀ row₀ end₀ line span rows row′ end n r fc fr i) where
+  module _ {line span rows row′ end : List ℕ} {n r fc fr i : ℕ} (z : Listing ks at line₀ span₀ rows₀ row₀ end₀ line span rows row′ end n r fc fr i) where
     pub body-held : BodyHeld fc (part fr r end) span
     body-held =
         rw (z .first-cell-is, z .first-row-is, z .rows-are)
@@ -151,30 +151,28 @@ module _ {ds cs rs : List ℕ} {at : ℕ} {line₀ span₀ rows₀ row₀ end₀
         z .rows-are ∙ length-append (z .done) (z .last)
         ∙ sym (length-append (z .done) (resolveBody (z .last)) ∙ ap (λ (k : ℕ). length (z .done) + k) (length-map (z .last) (resolveRow (widest (z .last)))))
 
-    pub list-stop : getD ds i 0 ≤ d → (span′ : List ℕ) → WrittenBack (resolveBody (rowsAt fc (part fr r end) span)) fc (part fr r end) span span′
-        → TableListed (heldRows ds cs rs at) line₀ span₀ rows₀ row₀ end₀ line span′ rows row′ end n r
+    pub list-stop : getD ks i noKept .depth ≤ d → (span′ : List ℕ) → WrittenBack (resolveBody (rowsAt fc (part fr r end) span)) fc (part fr r end) span span′
+        → TableListed (heldRows ks at) line₀ span₀ rows₀ row₀ end₀ line span′ rows row′ end n r
     list-stop h span′ b =
-        let e : z .done ++ resolveBody (z .last) ≡ heldRows ds cs rs at =
-        ap (λ (l : List Row). z .done ++ l) (sym (rest-stop (z .last))) ∙ ap (λ (f : Frame). z .done ++ rest (z .last) f) (sym (frame-stop ds cs rs d i h)) ∙ z .whole in
+        let e : z .done ++ resolveBody (z .last) ≡ heldRows ks at =
+        ap (λ (l : List Row). z .done ++ l) (sym (rest-stop (z .last))) ∙ ap (λ (f : Frame). z .done ++ rest (z .last) f) (sym (frame-stop ks d i h)) ∙ z .whole in
         record {
           written = subst (λ (l : List Row). ListsRows l line₀ span₀ rows₀ row₀ end₀ line span′ rows row′ end) e (body-done span′ b);
           cells-are = cells-done ∙ ap (λ (l : List Row). length (allCells l)) e;
           rows-are = rows-done ∙ ap length e;
         }
 
-    module _ (h : d < getD ds i 0) where
-      more : i < length ds
-      more = inside ds i d h
+    module _ (h : d < getD ks i noKept .depth) where
+      more : i < length ks
+      more = inside ks i d h
 
-      pub list-room : Room ds cs rs at line span rows row′ end n r fr i
+      pub list-room : Room ks at line span rows row′ end n r fr i
       list-room = record {
         more = more;
         short = t .short;
         shallow = t .shallow;
         few = omega (arith, z .few);
         order = z .order;
-        cols-length = t .cols-length;
-        rows-length = t .rows-length;
         line-room = omega (arith, t .line-room, z .same-line);
         span-room = omega (arith, t .span-room, z .same-span);
         rows-room = omega (arith, t .rows-room, z .same-rows);
@@ -182,9 +180,9 @@ module _ {ds cs rs : List ℕ} {at : ℕ} {line₀ span₀ rows₀ row₀ end₀
         end-room = omega (arith, t .end-room, z .same-end);
       }
 
-      pub list-body : getD ds i 0 ≡ d + 1 → (span′ : List ℕ) → length span′ ≡ length span
+      pub list-body : getD ks i noKept .depth ≡ d + 1 → (span′ : List ℕ) → length span′ ≡ length span
           → WrittenBack (resolveBody (rowsAt fc (part fr r end) span)) fc (part fr r end) span span′
-          → Listing ds cs rs at line₀ span₀ rows₀ row₀ end₀ line span′ rows row′ end n r n r (i + 1)
+          → Listing ks at line₀ span₀ rows₀ row₀ end₀ line span′ rows row′ end n r n r (i + 1)
       list-body e span′ s b =
           let D = z .done ++ resolveBody (z .last) in
           let a : D ++ [] ≡ D = append-nil D in
@@ -192,8 +190,8 @@ module _ {ds cs rs : List ℕ} {at : ℕ} {line₀ span₀ rows₀ row₀ end₀
             done = D;
             last = [];
             whole =
-                append-assoc (z .done) (resolveBody (z .last)) (rest [] (after ds cs rs d i))
-                ∙ ap (λ (l : List Row). z .done ++ l) (sym (ap (rest (z .last)) (frame-body ds cs rs d i h e) ∙ rest-body (z .last) (after ds cs rs d i)))
+                append-assoc (z .done) (resolveBody (z .last)) (rest [] (after ks d i))
+                ∙ ap (λ (l : List Row). z .done ++ l) (sym (ap (rest (z .last)) (frame-body ks d i h e) ∙ rest-body (z .last) (after ks d i)))
                 ∙ z .whole;
             written = subst (λ (l : List Row). ListsRows l line₀ span₀ rows₀ row₀ end₀ line span′ rows row′ end) (sym a) (body-done span′ b);
             cells-are = cells-done ∙ ap (λ (l : List Row). length (allCells l)) (sym a);
@@ -203,7 +201,7 @@ module _ {ds cs rs : List ℕ} {at : ℕ} {line₀ span₀ rows₀ row₀ end₀
             order = omega arith;
             few = omega (arith, z .few);
             within = omega (arith, more);
-            fresh = λ q. omega (arith, step-on ds (t .step) i, e);
+            fresh = λ q. omega (arith, step-on ks (t .step) i, e);
             narrow = λ k p q. absurd (omega arith);
             same-line = z .same-line;
             same-span = s ∙ z .same-span;
@@ -212,9 +210,9 @@ module _ {ds cs rs : List ℕ} {at : ℕ} {line₀ span₀ rows₀ row₀ end₀
             same-end = z .same-end;
           }
 
-      module _ (nb : getD ds i 0 ≡ d + 1 → ⊥) where
-        pub list-row : getD ds i 0 ≡ d + 2
-            → Listing ds cs rs at line₀ span₀ rows₀ row₀ end₀ line span rows (set row′ r (i + 1)) (set end r n) n (r + 1) fc fr (i + 1)
+      module _ (nb : getD ks i noKept .depth ≡ d + 1 → ⊥) where
+        pub list-row : getD ks i noKept .depth ≡ d + 2
+            → Listing ks at line₀ span₀ rows₀ row₀ end₀ line span rows (set row′ r (i + 1)) (set end r n) n (r + 1) fc fr (i + 1)
         unfolding allCells
         list-row e =
             let new = row (i + 1) [] ∷ [] in
@@ -228,7 +226,7 @@ module _ {ds cs rs : List ℕ} {at : ℕ} {line₀ span₀ rows₀ row₀ end₀
               last = z .last ++ new;
               whole =
                   ap (λ (l : List Row). z .done ++ l)
-                  (sym (ap (rest (z .last)) (frame-row ds cs rs d i h nb e) ∙ rest-row (z .last) (i + 1) (after ds cs rs d i)))
+                  (sym (ap (rest (z .last)) (frame-row ks d i h nb e) ∙ rest-row (z .last) (i + 1) (after ks d i)))
                   ∙ z .whole;
               written = subst (λ (l : List Row). ListsRows l line₀ span₀ rows₀ row₀ end₀ line span rows (set row′ r (i + 1)) (set end r n)) a w;
               cells-are =
@@ -249,7 +247,7 @@ module _ {ds cs rs : List ℕ} {at : ℕ} {line₀ span₀ rows₀ row₀ end₀
               same-end = length-set end r n ∙ z .same-end;
             }
 
-        module _ (nr : getD ds i 0 ≡ d + 2 → ⊥) where
+        module _ (nr : getD ks i noKept .depth ≡ d + 2 → ⊥) where
           -- the last body has a row
           pub some-row : fr < r
           some-row = has (ℕ-discrete fr r)
@@ -261,13 +259,13 @@ module _ {ds cs rs : List ℕ} {at : ℕ} {line₀ span₀ rows₀ row₀ end₀
           some-last : 0 < length (z .last)
           some-last = omega (arith, some-row, z .rows-are, z .first-row-is, length-append (z .done) (z .last))
 
-          pub list-cell : getD ds i 0 ≡ d + 3
-              → Listing ds cs rs at line₀ span₀ rows₀ row₀ end₀ (set line n (i + 1)) (set span n (getD cs i 0)) (set rows n (getD rs i 0)) row′ (set end (r - 1) (n + 1)) (n + 1) r fc fr (i + 1)
+          pub list-cell : getD ks i noKept .depth ≡ d + 3
+              → Listing ks at line₀ span₀ rows₀ row₀ end₀ (set line n (i + 1)) (set span n (getD ks i noKept .cols)) (set rows n (getD ks i noKept .rows)) row′ (set end (r - 1) (n + 1)) (n + 1) r fc fr (i + 1)
           list-cell e =
-              let c = cell (i + 1) (getD cs i 0) (getD rs i 0) in
+              let c = cell (i + 1) (getD ks i noKept .cols) (getD ks i noKept .rows) in
               let a : extend (z .done ++ z .last) (c ∷ []) ≡ z .done ++ extend (z .last) (c ∷ []) = extend-append (z .done) (z .last) (c ∷ []) some-last in
               let s : 0 < length (z .done ++ z .last) = omega (arith, some-row, z .rows-are) in
-              let w : ListsRows (extend (z .done ++ z .last) (c ∷ [])) line₀ span₀ rows₀ row₀ end₀ (set line n (i + 1)) (set span n (getD cs i 0)) (set rows n (getD rs i 0)) row′ (set end (r - 1) (n + 1)) =
+              let w : ListsRows (extend (z .done ++ z .last) (c ∷ [])) line₀ span₀ rows₀ row₀ end₀ (set line n (i + 1)) (set span n (getD ks i noKept .cols)) (set rows n (getD ks i noKept .rows)) row′ (set end (r - 1) (n + 1)) =
               rw (z .rows-are, z .cells-are)
               (written-cell (z .written) c s
               (omega (arith, z .cells-are, z .few, more, t .line-room)) (omega (arith, z .cells-are, z .few, more, t .span-room)) (omega (arith, z .cells-are, z .few, more, t .rows-room))) in
@@ -276,9 +274,9 @@ module _ {ds cs rs : List ℕ} {at : ℕ} {line₀ span₀ rows₀ row₀ end₀
                 last = extend (z .last) (c ∷ []);
                 whole =
                     ap (λ (l : List Row). z .done ++ l)
-                    (sym (ap (rest (z .last)) (frame-cell ds cs rs d i h nb nr e) ∙ rest-cell (z .last) c (after ds cs rs d i)))
+                    (sym (ap (rest (z .last)) (frame-cell ks d i h nb nr e) ∙ rest-cell (z .last) c (after ks d i)))
                     ∙ z .whole;
-                written = subst (λ (l : List Row). ListsRows l line₀ span₀ rows₀ row₀ end₀ (set line n (i + 1)) (set span n (getD cs i 0)) (set rows n (getD rs i 0)) row′ (set end (r - 1) (n + 1))) a w;
+                written = subst (λ (l : List Row). ListsRows l line₀ span₀ rows₀ row₀ end₀ (set line n (i + 1)) (set span n (getD ks i noKept .cols)) (set rows n (getD ks i noKept .rows)) row′ (set end (r - 1) (n + 1))) a w;
                 cells-are = omega (arith, z .cells-are, length-append (allCells (z .done ++ z .last)) (c ∷ []), ap length (cells-extend (z .done ++ z .last) (c ∷ []) s), ap (λ (l : List Row). length (allCells l)) a);
                 rows-are = omega (arith, z .rows-are, length-extend (z .done ++ z .last) (c ∷ []), ap length a);
                 first-cell-is = z .first-cell-is;
@@ -289,22 +287,22 @@ module _ {ds cs rs : List ℕ} {at : ℕ} {line₀ span₀ rows₀ row₀ end₀
                 fresh = λ q. absurd (omega (arith, some-row));
                 narrow = λ k p q. narrow-more k p q (ℕ-discrete k n);
                 same-line = length-set line n (i + 1) ∙ z .same-line;
-                same-span = length-set span n (getD cs i 0) ∙ z .same-span;
-                same-rows = length-set rows n (getD rs i 0) ∙ z .same-rows;
+                same-span = length-set span n (getD ks i noKept .cols) ∙ z .same-span;
+                same-rows = length-set rows n (getD ks i noKept .rows) ∙ z .same-rows;
                 same-row = z .same-row;
                 same-end = length-set end (r - 1) (n + 1) ∙ z .same-end;
               }
             where
-              narrow-more : (k : ℕ) → fc ≤ k → k < n + 1 → Dec (k ≡ n) → getD (set span n (getD cs i 0)) k 0 ≤ maxCols
+              narrow-more : (k : ℕ) → fc ≤ k → k < n + 1 → Dec (k ≡ n) → getD (set span n (getD ks i noKept .cols)) k 0 ≤ maxCols
               narrow-more k p q (yes u) =
-                  rw (u, getD-set-same span n (getD cs i 0) 0 (omega (arith, z .few, more, t .span-room, z .same-span))) (t .narrow i)
-              narrow-more k p q (no u) = rw (getD-set-other span n k (getD cs i 0) 0 u) (z .narrow k p (omega arith))
+                  rw (u, getD-set-same span n (getD ks i noKept .cols) 0 (omega (arith, z .few, more, t .span-room, z .same-span))) (t .narrow i)
+              narrow-more k p q (no u) = rw (getD-set-other span n k (getD ks i noKept .cols) 0 u) (z .narrow k p (omega arith))
 
-          pub list-deeper : (getD ds i 0 ≡ d + 3 → ⊥) → Listing ds cs rs at line₀ span₀ rows₀ row₀ end₀ line span rows row′ end n r fc fr (i + 1)
+          pub list-deeper : (getD ks i noKept .depth ≡ d + 3 → ⊥) → Listing ks at line₀ span₀ rows₀ row₀ end₀ line span rows row′ end n r fc fr (i + 1)
           list-deeper e = record {
             done = z .done;
             last = z .last;
-            whole = ap (λ (f : Frame). z .done ++ rest (z .last) f) (sym (frame-deeper ds cs rs d i h nb nr e)) ∙ z .whole;
+            whole = ap (λ (f : Frame). z .done ++ rest (z .last) f) (sym (frame-deeper ks d i h nb nr e)) ∙ z .whole;
             written = z .written;
             cells-are = z .cells-are;
             rows-are = z .rows-are;

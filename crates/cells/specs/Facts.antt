@@ -1,20 +1,17 @@
 -- What holds of the resolved rows of every table, for the rooms above. These are statements; proofs/ has their proofs.
 use mathlib.Core.List.{List, [], _∷_}
 use Prim.Native.Nat.{ℕ, _+_, _*_, _≤_, _<_}
-use Rattle.line.specs.Fields.{Line}
+use Rattle.lists.specs.Limits.{maxCols, maxRows}
+use Rattle.records.specs.declared.Kept.{Kept}
 use Rattle.cells.specs.Cells.{Cell, Row}
-use Rattle.cells.specs.Listed.{maxCols}
 
 -- each element has the property
 pub data Every {A : Type 0} (P : A → Type 0) : List A → Type 0 where
   none : Every P []
   and : {x : A} {xs : List A} → P x → Every P xs → Every P (x ∷ xs)
 
-abbrev pub maxRows : ℕ
-maxRows = 65534
-
 -- a line's cols and rows are in range
-pub record LineFits (l : Line) : Type 0 where
+pub record LineFits (l : Kept) : Type 0 where
   pub narrow : l .cols ≤ maxCols
   pub short : l .rows ≤ maxRows
 

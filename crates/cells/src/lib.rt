@@ -4,8 +4,9 @@ ghost use mathlib.Core.Bool.{cond};
 ghost use mathlib.Core.List.{map};
 ghost use lib.ListN.{getD};
 ghost use lib.Dec.{ltb, eqb};
+ghost use Rattle.records.specs.Kept.{keptsOf, noKept};
 ghost use Rattle.cells.specs.Cells.{rowSum, resolveCell, resolveBody};
-ghost use Rattle.cells.specs.Listed.{colsOf, heldRows, TableReady, TableListed};
+ghost use Rattle.cells.specs.Listed.{cellCols, heldRows, ListingReady, TableListed};
 ghost use Rattle.cells.specs.Spans.{bare, rowsAt, Narrow, BodyHeld, LargestSum, WrittenBack};
 
 // How many cells and rows a table has.
@@ -37,7 +38,7 @@ fn filled(cols: u32, instead: u32) -> u32
 
 // Puts `instead` in the place of each 0 of a row.
 fn fill_zeros(spans: &mut [u32], instead: u32)
-    ensures { λ _. ⌜ now (spans .exit) ≡ map colsOf (map (resolveCell instead) (bare (now (spans .entry)))) ⌝ }
+    ensures { λ _. ⌜ now (spans .exit) ≡ map cellCols (map (resolveCell instead) (bare (now (spans .entry)))) ⌝ }
 {
     let mut i = 0;
     while i < spans.len() {
@@ -91,11 +92,12 @@ fn resolve_body(spans: &mut [u32], ends: &[u32], first: usize)
 }
 
 // Whether there is a line at the place i that is deeper than d.
-fn below(depth: &[u32], i: usize, d: u32) -> bool
-    ensures { λ r. ⌜ r ≡ ltb d (getD (now (depth .entry)) i 0) ⌝ }
+pub fn below(lines: &[u32], i: usize, d: u32) -> bool
+    ensures { λ r. ⌜ r ≡ ltb d (getD (keptsOf (now (lines .entry))) i noKept .depth) ⌝ }
 {
-    if i < depth.len() {
-        return d < depth[i];
+    if i < records::count(lines) {
+        let line = records::kept_at(lines, i);
+        return d < line.depth;
     }
     false
 }
@@ -103,9 +105,7 @@ fn below(depth: &[u32], i: usize, d: u32) -> bool
 // Lists the rows and the cells of the table at the place `at`, resolved: what `tr_to_render_tree` and `tbody_to_render_tree` gather. A body
 // is resolved where the next one begins, since only then its largest sum is known, and the last one where the table ends.
 pub fn list_rows(
-    depth: &[u32],
-    cols: &[u32],
-    rows: &[u32],
+    lines: &[u32],
     at: usize,
     cell_line: &mut [u32],
     cell_span: &mut [u32],
@@ -113,20 +113,22 @@ pub fn list_rows(
     row_line: &mut [u32],
     row_end: &mut [u32],
 ) -> Listed
-    requires { ⌜ TableReady (now depth) (now cols) (now rows) at (now «cell_line») (now «cell_span») (now «cell_rows») (now «row_line») (now «row_end») ⌝ }
-    ensures { λ r. ⌜ TableListed (heldRows (now (depth .entry)) (now (cols .entry)) (now (rows .entry)) at)
+    requires { ⌜ ListingReady (keptsOf (now lines)) at (now «cell_line») (now «cell_span») (now «cell_rows») (now «row_line») (now «row_end») ⌝ }
+    ensures { λ r. ⌜ TableListed (heldRows (keptsOf (now (lines .entry))) at)
         (now («cell_line» .entry)) (now («cell_span» .entry)) (now («cell_rows» .entry)) (now («row_line» .entry)) (now («row_end» .entry))
         (now («cell_line» .exit)) (now («cell_span» .exit)) (now («cell_rows» .exit)) (now («row_line» .exit)) (now («row_end» .exit)) (r .cells) (r .rows) ⌝ }
 {
-    let d = depth[at];
+    let table = records::kept_at(lines, at);
+    let d = table.depth;
     // the cells and the rows listed, and how many of them stand before the last body
     let mut n = 0;
     let mut r = 0;
     let mut first_cell = 0;
     let mut first_row = 0;
     let mut i = at + 1;
-    while below(depth, i, d) {
-        let e = depth[i];
+    while below(lines, i, d) {
+        let line = records::kept_at(lines, i);
+        let e = line.depth;
         if e == d + 1 {
             resolve_body(cell_span, &row_end[first_row..r], first_cell);
             first_cell = n;
@@ -139,8 +141,8 @@ pub fn list_rows(
             i += 1;
         } else if e == d + 3 {
             cell_line[n] = (i + 1) as u32;
-            cell_span[n] = cols[i];
-            cell_rows[n] = rows[i];
+            cell_span[n] = line.cols;
+            cell_rows[n] = line.rows;
             n += 1;
             row_end[r - 1] = n as u32;
             i += 1;

@@ -12,8 +12,8 @@ use Rattle.columns.proofs.Upto.{same-upTo}
 use Rattle.columns.proofs.Listed.{Every, Within}
 use Rattle.grid.specs.Grid.{Entry, GridRow, entriesOf}
 use Rattle.estimates.specs.Estimates.{Done, boxOf, boxRows, tabled}
-use Rattle.estimates.specs.Walk.{spread, tabledBy}
-use Rattle.estimates.specs.Kept.{noEntry}
+use Rattle.estimates.specs.inner.Walk.{EveryPlace, spreadCells, tabledBy}
+use Rattle.estimates.specs.Held.{noEntry}
 use Rattle.estimates.proofs.Owners.{unfilled, ownerOf}
 use Rattle.estimates.proofs.Tabling.{spread-columns}
 
@@ -27,13 +27,13 @@ module _ (t : ℕ) (rest : List Done) where
   unfolding boxOf
   filled e h = rw h
 
-  spread-unfilled : (es : List Entry) → spread (map (boxOf t rest) es) ≡ spread (map (boxOf t rest) (unfilled es))
-  unfolding spread unfilled
+  spread-unfilled : (es : List Entry) → spreadCells (map (boxOf t rest) es) ≡ spreadCells (map (boxOf t rest) (unfilled es))
+  unfolding spreadCells unfilled
   spread-unfilled [] = refl
   spread-unfilled (e ∷ es) = go (e .filler) refl (spread-unfilled es)
     where
-      go : (f : Bool) → e .filler ≡ f → spread (map (boxOf t rest) es) ≡ spread (map (boxOf t rest) (unfilled es))
-          → spread (map (boxOf t rest) (e ∷ es)) ≡ spread (map (boxOf t rest) (cond f (unfilled es) (e ∷ unfilled es)))
+      go : (f : Bool) → e .filler ≡ f → spreadCells (map (boxOf t rest) es) ≡ spreadCells (map (boxOf t rest) (unfilled es))
+          → spreadCells (map (boxOf t rest) (e ∷ es)) ≡ spreadCells (map (boxOf t rest) (cond f (unfilled es) (e ∷ unfilled es)))
       go true h r =
           let z : e .span * (0 / e .span) ≡ 0 = rw (zero-div (e .span)) (mul-zero (e .span)) in
           rw (filled e h) (omega (arith, z, r))
@@ -87,10 +87,12 @@ every-unfilled P (e ∷ es) h = go (e .filler) refl (every-unfilled P es (λ k l
     go true q r = r
     go false q r = (h zero (omega arith) q, r)
 
--- every place of a list has P
-unfoldable pub EveryPlace : (ℕ → Type 0) → List ℕ → Type 0
-EveryPlace P [] = Unit {0}
-EveryPlace P (q ∷ ps) = P q × EveryPlace P ps
+-- what holds of every place
+
+pub every-both : (P Q R : ℕ → Type 0) (ps : List ℕ) → EveryPlace P ps → EveryPlace Q ps → ((q : ℕ) → P q → Q q → R q) → EveryPlace R ps
+unfolding EveryPlace
+every-both P Q R [] a b h = tt
+every-both P Q R (q ∷ ps) a b h = (h q (a .0) (b .0), every-both P Q R ps (a .1) (b .1) h)
 
 pub map-places : {A : Type 0} (P : ℕ → Type 0) (f g : ℕ → A) (ps : List ℕ) → EveryPlace P ps → ((q : ℕ) → P q → f q ≡ g q) → map f ps ≡ map g ps
 unfolding EveryPlace

@@ -1,23 +1,17 @@
 -- The cells of a table in order are the lines three deeper than it, in order. By induction on the lines after the table's: a body's line is
 -- followed by no cell's, since depths grow by one at most, so that no cell is lost; and resolving changes no line. Assumes nothing.
 use mathlib.Core.Path.{_≡_, refl, sym, ap, _∙_}
-use mathlib.Core.Bool.{cond}
 use mathlib.Core.List.{List, [], _∷_, _++_, map, map-append, append-assoc}
 use Prim.Native.Nat.{ℕ, zero, suc, _+_, _-_, _≤_, _<_}
 use native.Mathlib.Omega.{arith}
 use native.Mathlib.Decide.{decLe, ℕ-discrete}
-use lib.Dec.{leb, eqb}
 use lib.ListN.{length, getD}
 use borrow.Author.Tests.{le-leb, lt-leb, eq-eqb, ne-eqb}
-use Rattle.line.specs.Fields.{Line, noLine}
+use Rattle.records.specs.Kept.{noKept}
+use Rattle.records.specs.declared.Kept.{Kept}
 use Rattle.cells.specs.Cells.{Cell, Row, Frame, frame, row, widest, resolveCell, resolveRow, resolveBody, resolved, rowSum}
-use Rattle.cells.specs.Listed.{lineOf, allCells}
-
--- the places of a table's cells: from place q on, the lines three deeper than d, up to the first that is no deeper
-unfoldable pub cellPlaces : ℕ → ℕ → List Line → List ℕ
-cellPlaces d q [] = []
-cellPlaces d q (l ∷ ls) =
-    cond (leb (l .depth) d) [] (cond (eqb (l .depth) (d + 3)) (q ∷ cellPlaces d (suc q) ls) (cellPlaces d (suc q) ls))
+use Rattle.cells.specs.Listed.{cellLine, allCells}
+use Rattle.estimates.specs.inner.Walk.{cellPlaces}
 
 -- all cells of bodies, and of a frame
 
@@ -35,44 +29,44 @@ unfolding allCells
 cells-append [] ys = refl
 cells-append (r ∷ xs) ys = rw (cells-append xs ys) (sym (append-assoc (r .cells) (allCells xs) (allCells ys)))
 
-same-lines : (i : ℕ) (cs : List Cell) → map lineOf (map (resolveCell i) cs) ≡ map lineOf cs
+same-lines : (i : ℕ) (cs : List Cell) → map cellLine (map (resolveCell i) cs) ≡ map cellLine cs
 same-lines i [] = refl
 same-lines i (c ∷ cs) = ap (λ (l : List ℕ). c .line ∷ l) (same-lines i cs)
 
-rows-lines : (m : ℕ) (rs : List Row) → map lineOf (allCells (map (resolveRow m) rs)) ≡ map lineOf (allCells rs)
+rows-lines : (m : ℕ) (rs : List Row) → map cellLine (allCells (map (resolveRow m) rs)) ≡ map cellLine (allCells rs)
 unfolding allCells resolveRow
 rows-lines m [] = refl
 rows-lines m (r ∷ rs) =
-    map-append lineOf (map (resolveCell (m - rowSum (r .cells) + 1)) (r .cells)) (allCells (map (resolveRow m) rs))
-    ∙ rw (same-lines (m - rowSum (r .cells) + 1) (r .cells), rows-lines m rs) (sym (map-append lineOf (r .cells) (allCells rs)))
+    map-append cellLine (map (resolveCell (m - rowSum (r .cells) + 1)) (r .cells)) (allCells (map (resolveRow m) rs))
+    ∙ rw (same-lines (m - rowSum (r .cells) + 1) (r .cells), rows-lines m rs) (sym (map-append cellLine (r .cells) (allCells rs)))
 
-resolved-lines : (bs : List (List Row)) → map lineOf (allCells (resolved bs)) ≡ map lineOf (allBodies bs)
+resolved-lines : (bs : List (List Row)) → map cellLine (allCells (resolved bs)) ≡ map cellLine (allBodies bs)
 unfolding allCells allBodies resolved resolveBody
 resolved-lines [] = refl
 resolved-lines (b ∷ bs) =
-    ap (map lineOf) (cells-append (map (resolveRow (widest b)) b) (resolved bs))
-    ∙ map-append lineOf (allCells (map (resolveRow (widest b)) b)) (allCells (resolved bs))
-    ∙ rw (rows-lines (widest b) b, resolved-lines bs) (sym (map-append lineOf (allCells b) (allBodies bs)))
+    ap (map cellLine) (cells-append (map (resolveRow (widest b)) b) (resolved bs))
+    ∙ map-append cellLine (allCells (map (resolveRow (widest b)) b)) (allCells (resolved bs))
+    ∙ rw (rows-lines (widest b) b, resolved-lines bs) (sym (map-append cellLine (allCells b) (allBodies bs)))
 
 -- the first line, if there is one, is at most so deep
-abbrev pub Head : ℕ → List Line → Type 0
+abbrev pub Head : ℕ → List Kept → Type 0
 Head x [] = Unit {0}
 Head x (m ∷ ls) = m .depth ≤ x
 
 -- each line is at most one deeper than the one before
-abbrev pub Steps : List Line → Type 0
-Steps ls = (k : ℕ) → suc k < length ls → getD ls (suc k) noLine .depth ≤ getD ls k noLine .depth + 1
+abbrev pub Steps : List Kept → Type 0
+Steps ls = (k : ℕ) → suc k < length ls → getD ls (suc k) noKept .depth ≤ getD ls k noKept .depth + 1
 
-head-after : (l : Line) (ls : List Line) → Steps (l ∷ ls) → Head (l .depth + 1) ls
+head-after : (l : Kept) (ls : List Kept) → Steps (l ∷ ls) → Head (l .depth + 1) ls
 head-after l [] s = tt
 head-after l (m ∷ ls) s = s zero (omega arith)
 
-steps-after : (l : Line) (ls : List Line) → Steps (l ∷ ls) → Steps ls
+steps-after : (l : Kept) (ls : List Kept) → Steps (l ∷ ls) → Steps ls
 steps-after l ls s k h = s (suc k) (omega arith)
 
 -- what a line makes of the frame after it
 
-module _ (d k : ℕ) (l : Line) (ls : List Line) where
+module _ (d k : ℕ) (l : Kept) (ls : List Kept) where
   frame-end : l .depth ≤ d → frame d k (l ∷ ls) ≡ record { cells = []; rows = []; bodies = [] }
   unfolding frame
   frame-end h = rw (le-leb (l .depth) d h)
@@ -106,7 +100,7 @@ module _ (d k : ℕ) (l : Line) (ls : List Line) where
         ne-eqb (l .depth) (d + 3) (omega arith),
       )
 
-module _ (d q : ℕ) (l : Line) (ls : List Line) where
+module _ (d q : ℕ) (l : Kept) (ls : List Kept) where
   pub places-end : l .depth ≤ d → cellPlaces d q (l ∷ ls) ≡ []
   unfolding cellPlaces
   places-end h = rw (le-leb (l .depth) d h)
@@ -120,7 +114,7 @@ module _ (d q : ℕ) (l : Line) (ls : List Line) where
   places-other h e = rw (lt-leb (l .depth) d h, ne-eqb (l .depth) (d + 3) e)
 
 -- no cell waits for its row, no row for its body
-no-cells : (d k : ℕ) (ls : List Line) → Head (d + 2) ls → frame d k ls .cells ≡ []
+no-cells : (d k : ℕ) (ls : List Kept) → Head (d + 2) ls → frame d k ls .cells ≡ []
 unfolding frame
 no-cells d k [] h = refl
 no-cells d k (l ∷ ls) h = go (decLe (l .depth) d) (ℕ-discrete (l .depth) (d + 1))
@@ -130,7 +124,7 @@ no-cells d k (l ∷ ls) h = go (decLe (l .depth) d) (ℕ-discrete (l .depth) (d 
     go (no a) (yes b) = ap (λ (f : Frame). f .cells) (frame-body d k l ls b)
     go (no a) (no b) = ap (λ (f : Frame). f .cells) (frame-row d k l ls (omega arith))
 
-no-rows : (d k : ℕ) (ls : List Line) → Head (d + 1) ls → frame d k ls .rows ≡ []
+no-rows : (d k : ℕ) (ls : List Kept) → Head (d + 1) ls → frame d k ls .rows ≡ []
 unfolding frame
 no-rows d k [] h = refl
 no-rows d k (l ∷ ls) h = go (decLe (l .depth) d)
@@ -139,7 +133,7 @@ no-rows d k (l ∷ ls) h = go (decLe (l .depth) d)
     go (yes a) = ap (λ (f : Frame). f .rows) (frame-end d k l ls a)
     go (no a) = ap (λ (f : Frame). f .rows) (frame-body d k l ls (omega arith))
 
-frame-lines : (d q : ℕ) (ls : List Line) → Steps ls → map lineOf (allOf (frame d (suc q) ls)) ≡ map suc (cellPlaces d q ls)
+frame-lines : (d q : ℕ) (ls : List Kept) → Steps ls → map cellLine (allOf (frame d (suc q) ls)) ≡ map suc (cellPlaces d q ls)
 unfolding frame cellPlaces allCells allBodies
 frame-lines d q [] s = refl
 frame-lines d q (l ∷ ls) s =
@@ -150,20 +144,20 @@ frame-lines d q (l ∷ ls) s =
     f = frame d (suc (suc q)) ls
 
     lines : Frame → List ℕ
-    lines g = map lineOf (allOf g)
+    lines g = map cellLine (allOf g)
 
     go : Dec (l .depth ≤ d) → Dec (l .depth ≡ d + 1) → Dec (l .depth ≡ d + 2) → Dec (l .depth ≡ d + 3)
-        → map lineOf (allOf f) ≡ map suc (cellPlaces d (suc q) ls) → map lineOf (allOf (frame d (suc q) (l ∷ ls))) ≡ map suc (cellPlaces d q (l ∷ ls))
+        → map cellLine (allOf f) ≡ map suc (cellPlaces d (suc q) ls) → map cellLine (allOf (frame d (suc q) (l ∷ ls))) ≡ map suc (cellPlaces d q (l ∷ ls))
     go (yes a) b c e r = ap lines (frame-end d (suc q) l ls a) ∙ sym (ap (map suc) (places-end d q l ls a))
     go (no a) (yes b) c e r =
         let x : l .depth + 1 ≡ d + 2 = omega arith in
         ap lines (frame-body d (suc q) l ls b)
-        ∙ ap (λ (cs : List Cell). map lineOf (cs ++ (allCells (f .rows) ++ allBodies (f .bodies)))) (sym (no-cells d (suc (suc q)) ls (rw x at (head-after l ls s))))
+        ∙ ap (λ (cs : List Cell). map cellLine (cs ++ (allCells (f .rows) ++ allBodies (f .bodies)))) (sym (no-cells d (suc (suc q)) ls (rw x at (head-after l ls s))))
         ∙ r
         ∙ sym (ap (map suc) (places-other d q l ls (omega arith) (omega arith)))
     go (no a) (no b) (yes c) e r =
         ap lines (frame-row d (suc q) l ls c)
-        ∙ ap (map lineOf) (append-assoc (f .cells) (allCells (f .rows)) (allBodies (f .bodies)))
+        ∙ ap (map cellLine) (append-assoc (f .cells) (allCells (f .rows)) (allBodies (f .bodies)))
         ∙ r
         ∙ sym (ap (map suc) (places-other d q l ls (omega arith) (omega arith)))
     go (no a) (no b) (no c) (yes e) r =
@@ -172,15 +166,15 @@ frame-lines d q (l ∷ ls) s =
         ap lines (frame-deep d (suc q) l ls (omega arith)) ∙ r ∙ sym (ap (map suc) (places-other d q l ls (omega arith) e))
 
 -- the cells of the table whose line is line q, of depth d
-pub table-lines : (d q : ℕ) (ls : List Line) → Steps ls → Head (d + 1) ls
-    → map lineOf (allCells (resolved (frame d (suc q) ls .bodies))) ≡ map suc (cellPlaces d q ls)
+pub table-lines : (d q : ℕ) (ls : List Kept) → Steps ls → Head (d + 1) ls
+    → map cellLine (allCells (resolved (frame d (suc q) ls .bodies))) ≡ map suc (cellPlaces d q ls)
 unfolding allCells
 table-lines d q ls s h =
     resolved-lines (frame d (suc q) ls .bodies)
-    ∙ ap (λ (cs : List Cell). map lineOf (cs ++ (allCells [] ++ allBodies (frame d (suc q) ls .bodies)))) (sym (no-cells d (suc q) ls (less ls h)))
-    ∙ ap (λ (rs : List Row). map lineOf (frame d (suc q) ls .cells ++ (allCells rs ++ allBodies (frame d (suc q) ls .bodies)))) (sym (no-rows d (suc q) ls h))
+    ∙ ap (λ (cs : List Cell). map cellLine (cs ++ (allCells [] ++ allBodies (frame d (suc q) ls .bodies)))) (sym (no-cells d (suc q) ls (less ls h)))
+    ∙ ap (λ (rs : List Row). map cellLine (frame d (suc q) ls .cells ++ (allCells rs ++ allBodies (frame d (suc q) ls .bodies)))) (sym (no-rows d (suc q) ls h))
     ∙ frame-lines d q ls s
   where
-    less : (ms : List Line) → Head (d + 1) ms → Head (d + 2) ms
+    less : (ms : List Kept) → Head (d + 1) ms → Head (d + 2) ms
     less [] p = tt
     less (m ∷ ms) p = omega arith

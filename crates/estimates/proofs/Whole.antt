@@ -1,47 +1,70 @@
 -- The walk from the first line goes over the whole sheet, so that every result is written. Assumes nothing.
-use mathlib.Core.Path.{_≡_, refl, sym, _∙_}
-use mathlib.Core.List.{List, map, _++_}
-use Prim.Native.Nat.{ℕ, _<_}
+use mathlib.Core.Path.{_≡_, sym, ap, _∙_}
+use mathlib.Core.List.{List, _++_}
+use Prim.Native.Nat.{ℕ, _+_, _-_, _<_}
 use native.Mathlib.Omega.{arith}
 use native.Mathlib.Decide.{decLt}
-use lib.ListN.{length, getD, drop, length-map, List·getD-map}
-use lib.Seq.{ext-getD}
-use Rattle.lists.specs.Lists.{over}
+use lib.ListN.{length, getD, drop, length-map, length-append, length-drop, List·getD-map, List·getD-append}
+use lib.Seq.{ext-getD, getD-append-add, getD-drop}
 use Rattle.text.specs.declared.Estimate.{Estimate}
-use Rattle.estimates.specs.Estimates.{none}
-use Rattle.estimates.specs.Walk.{Walked, unwalked}
-use Rattle.estimates.specs.Sheet.{Slices, Sheet, walkedOf}
-use Rattle.estimates.specs.Meets.{Buffers, buffers, NodeMeets, Estimated, estAt}
+use Rattle.records.specs.Kept.{keptsOf, placesOf}
+use Rattle.records.specs.declared.Kept.{Kept}
+use Rattle.records.proofs.Kepts.{length-kepts}
+use Rattle.estimates.specs.Estimates.{none, undone, estOf, estimates}
+use Rattle.estimates.specs.Sheet.{Sheet}
+use Rattle.estimates.specs.Meets.{Lent, Measured}
+use Rattle.estimates.specs.inner.Figures.{figuresOf}
+use Rattle.estimates.specs.inner.Cycle.{NodeReady, NodeMeets, estAt, doneOf}
+use Rattle.estimates.proofs.Packing.{length-figures, length-places}
 use Rattle.estimates.proofs.Laws.{length-all}
 
-module _ {wrap : ℕ} {s : Slices} {b c : Buffers} {r : ℕ} (w : Sheet s) (m : NodeMeets wrap s b c 0 r) where
-  to-the-end : r ≡ length (s .depth)
-  to-the-end = go (decLt r (length (s .depth)))
+-- what is lent, in slices
+pub ready : {lines places figures leasts : List ℕ} → Lent (keptsOf lines) (placesOf places) (figuresOf figures) leasts → NodeReady lines places figures leasts 0
+ready {lines} {places} {figures} l = record {
+  sheet = l .sheet;
+  held = l .held;
+  grids = l .grids;
+  places-fit = omega (arith, l .places, length-kepts lines, length-places places);
+  figures-fit = omega (arith, l .results, length-kepts lines, length-figures figures);
+  scratch = l .scratch;
+  within = omega (arith, l .sheet .some, length-kepts lines);
+}
+
+module _ {wrap : ℕ} {ls : List Kept} {b c : List Estimate} {r : ℕ} (w : Sheet ls) (m : NodeMeets wrap ls b c 0 r) where
+  to-the-end : r ≡ length ls
+  to-the-end = go (decLt r (length ls))
     where
-      go : Dec (r < length (s .depth)) → r ≡ length (s .depth)
+      go : Dec (r < length ls) → r ≡ length ls
       go (yes h) = absurd (omega (arith, w .top, m .ends h, w .under r (m .passed .after) h))
       go (no h) = omega (arith, m .passed .within)
 
-  -- a result that holds the figure f of each estimate, with what stands after it
-  written : (f : Estimate → ℕ) (l rest : List ℕ) → f none ≡ 0 → length l ≡ length (s .depth)
-      → ((k : ℕ) → k < r → getD l k 0 ≡ f (estAt (walkedOf wrap s) k))
-      → l ++ drop (length (s .depth)) rest ≡ over (map (λ (e : Walked). f (e .est)) (walkedOf wrap s)) rest
-  unfolding over
-  written f l rest z n h =
-      let many = length-map (walkedOf wrap s) (λ (e : Walked). f (e .est)) ∙ length-all wrap s in
-      let same : l ≡ map (λ (e : Walked). f (e .est)) (walkedOf wrap s)
-      = ext-getD 0 l (map (λ (e : Walked). f (e .est)) (walkedOf wrap s)) (n ∙ sym many)
-      (λ k p. h k (omega (arith, to-the-end, n)) ∙ sym (rw z at (List·getD-map (λ (e : Walked). f (e .est)) (walkedOf wrap s) k unwalked))) in
-      rw (same, many)
+  est-in : (k : ℕ) → getD (estimates wrap ls) k none ≡ estAt (doneOf wrap ls) k
+  est-in k = List·getD-map estOf (doneOf wrap ls) k undone
 
-  pub estimated : (size least prefix : List ℕ)
-      → Estimated (walkedOf wrap s) (buffers size least prefix)
-      (buffers (c .size ++ drop (length (s .depth)) size) (c .least ++ drop (length (s .depth)) least) (c .prefix ++ drop (length (s .depth)) prefix))
-  estimated size least prefix =
-      let p = m .passed in
+  many : length (estimates wrap ls) ≡ length ls
+  many = length-map (doneOf wrap ls) estOf ∙ length-all wrap ls
+
+  at-place : (k : ℕ) → Dec (k < length ls) → getD c k none ≡ getD (estimates wrap ls ++ drop (length ls) b) k none
+  at-place k (yes h) =
+      m .passed .done k (omega arith) (omega (arith, to-the-end))
+      ∙ sym (List·getD-append (estimates wrap ls) (drop (length ls) b) none k (omega (arith, many)) ∙ est-in k)
+  at-place k (no h) =
+      let e : length (estimates wrap ls) + (k - length ls) ≡ k = omega (arith, many) in
+      let f : length ls + (k - length ls) ≡ k = omega arith in
+      m .passed .past k (omega (arith, to-the-end))
+      ∙ sym
+      (ap (λ (j : ℕ). getD (estimates wrap ls ++ drop (length ls) b) j none) (sym e)
+      ∙ getD-append-add (estimates wrap ls) (drop (length ls) b) (k - length ls) none
+      ∙ getD-drop (length ls) b (k - length ls) none
+      ∙ ap (λ (j : ℕ). getD b j none) f)
+
+  pub measured : length c ≡ length b → Measured wrap ls b c
+  measured s =
+      let n = m .passed .sized in
       record {
-        size = written (λ e. e .size) (c .size) size refl (p .sized .size) (λ k h. p .done k (omega arith) h .size);
-        least = written (λ e. e .least) (c .least) least refl (p .sized .least) (λ k h. p .done k (omega arith) h .least);
-        prefix = written (λ e. e .prefix) (c .prefix) prefix refl (p .sized .prefix) (λ k h. p .done k (omega arith) h .prefix);
-        sound = λ k h. p .sound k (omega arith) (omega (arith, to-the-end, length-all wrap s));
+        results =
+            ext-getD none c (estimates wrap ls ++ drop (length ls) b)
+            (omega (arith, length-append (estimates wrap ls) (drop (length ls) b), length-drop (length ls) b, many))
+            (λ k h. at-place k (decLt k (length ls)));
+        sound = λ k h. rw (est-in k) (m .passed .sound k (omega arith) (omega (arith, to-the-end)));
       }

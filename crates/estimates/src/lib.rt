@@ -1,14 +1,18 @@
-// The estimates of a sheet's lines: node, table and cell in a cycle of calls.
+// The estimates of a sheet's lines: node, table and cell in a cycle of calls. A line is a record of six numbers, its place in a grid one of
+// two, and its estimate one of three.
 pub mod kinds;
+pub mod packed;
 pub mod single;
 pub mod spread;
 
 ghost use mathlib.Core.Path.{_≡_};
 ghost use Prim.Native.Nat.{_<_};
-ghost use lib.ListN.{length, getD};
 ghost use Rattle.line.specs.Kinds.{tableKind};
-ghost use Rattle.estimates.specs.Sheet.{slices, walkedOf};
-ghost use Rattle.estimates.specs.Meets.{buffers, Ready, Plain, Holder, FilledAt, NodeMeets, CellMeets, TableMeets, Lent, Estimated};
+ghost use Rattle.records.specs.Kept.{keptsOf, keptCount, placesOf};
+ghost use Rattle.estimates.specs.Sheet.{lineAt};
+ghost use Rattle.estimates.specs.Meets.{Lent, Measured};
+ghost use Rattle.estimates.specs.inner.Figures.{figuresOf};
+ghost use Rattle.estimates.specs.inner.Cycle.{NodeReady, Plain, Holder, FilledAt, NodeMeets, CellMeets, TableMeets};
 
 // What the lines below a line come to: the line after them, size and least width, and how many children there are.
 pub struct Part {
@@ -20,199 +24,138 @@ pub struct Part {
 
 // Measures the line at `at` and all below it, and returns the line after those. Ports `RenderNode::calc_size_estimate`.
 fn node(
-    depth: &[u32],
-    kind: &[u32],
-    number: &[u32],
-    own: &[u32],
-    first: &[u32],
-    span: &[u32],
-    size: &mut [u32],
-    least: &mut [u32],
-    prefix: &mut [u32],
+    lines: &[u32],
+    places: &[u32],
+    figures: &mut [u32],
     leasts: &mut [u32],
     wrap: u32,
     at: usize,
 ) -> usize
-    requires { ⌜ Ready (slices (now depth) (now kind) (now number) (now own) (now first) (now span)) (buffers (now size) (now least) (now prefix)) (now leasts) at ⌝ }
-    requires { ⌜ Plain (slices (now depth) (now kind) (now number) (now own) (now first) (now span)) at ⌝ }
-    ensures { λ r. ⌜ NodeMeets wrap (slices (now (depth .entry)) (now (kind .entry)) (now (number .entry)) (now (own .entry)) (now (first .entry)) (now (span .entry))) (buffers (now (size .entry)) (now (least .entry)) (now (prefix .entry))) (buffers (now (size .exit)) (now (least .exit)) (now (prefix .exit))) at r ⌝ }
+    requires { ⌜ NodeReady (now lines) (now places) (now figures) (now leasts) at ⌝ }
+    requires { ⌜ Plain (lineAt (keptsOf (now lines)) at) ⌝ }
+    ensures { λ r. ⌜ NodeMeets wrap (keptsOf (now (lines .entry))) (figuresOf (now (figures .entry))) (figuresOf (now (figures .exit))) at r ⌝ }
 {
-    let k = kind[at];
-    if single::is_leaf(k) {
-        let e = single::leaf(k, own[at], wrap);
-        size[at] = e.size;
-        least[at] = e.least;
-        prefix[at] = e.prefix;
+    let line = records::kept_at(lines, at);
+    if single::is_leaf(line.kind) {
+        let e = single::leaf(line, wrap);
+        packed::put_estimate(figures, at, e);
         at + 1
-    } else if k == kinds::TABLE {
-        let p = table(
-            depth,
-            kind,
-            number,
-            own,
-            first,
-            span,
-            size,
-            least,
-            prefix,
-            leasts,
-            wrap,
-            at,
-        );
-        size[at] = p.size;
-        least[at] = p.least;
-        prefix[at] = 0;
+    } else if line.kind == kinds::TABLE {
+        let p = table(lines, places, figures, leasts, wrap, at);
+        let e = text::Estimate {
+            size: p.size,
+            least: p.least,
+            prefix: 0,
+        };
+        packed::put_estimate(figures, at, e);
         p.after
     } else {
-        let p = cell(
-            depth,
-            kind,
-            number,
-            own,
-            first,
-            span,
-            size,
-            least,
-            prefix,
-            leasts,
-            wrap,
-            at,
-        );
-        let e = single::holder(k, number[at], p);
-        size[at] = e.size;
-        least[at] = e.least;
-        prefix[at] = e.prefix;
+        let p = cell(lines, places, figures, leasts, wrap, at);
+        let e = single::holder(line, p);
+        packed::put_estimate(figures, at, e);
         p.after
     }
 }
 
 // Whether the line at `i` is a cell that holds anything: the line after it is deeper.
-fn is_filled(depth: &[u32], kind: &[u32], i: usize) -> bool
-    requires { ⌜ (i < length (now depth)) × (i < length (now kind)) ⌝ }
-    ensures { λ r. ⌜ FilledAt (now (depth .entry)) (now (kind .entry)) i r ⌝ }
+fn is_filled(lines: &[u32], i: usize) -> bool
+    requires { ⌜ i < keptCount (now lines) ⌝ }
+    ensures { λ r. ⌜ FilledAt (keptsOf (now (lines .entry))) i r ⌝ }
 {
-    if kind[i] != kinds::CELL {
+    let line = records::kept_at(lines, i);
+    if line.kind != kinds::CELL {
         return false;
     }
     let next = i + 1;
-    if next >= depth.len() {
+    if next >= records::count(lines) {
         return false;
     }
-    depth[i] < depth[next]
+    let after = records::kept_at(lines, next);
+    line.depth < after.depth
 }
 
 // Measures all below the table at `at`, and returns the table's own figures. Ports `RenderTable::calc_size_estimate`.
 fn table(
-    depth: &[u32],
-    kind: &[u32],
-    number: &[u32],
-    own: &[u32],
-    first: &[u32],
-    span: &[u32],
-    size: &mut [u32],
-    least: &mut [u32],
-    prefix: &mut [u32],
+    lines: &[u32],
+    places: &[u32],
+    figures: &mut [u32],
     leasts: &mut [u32],
     wrap: u32,
     at: usize,
 ) -> Part
-    requires { ⌜ Ready (slices (now depth) (now kind) (now number) (now own) (now first) (now span)) (buffers (now size) (now least) (now prefix)) (now leasts) at ⌝ }
-    requires { ⌜ getD (now kind) at 0 ≡ tableKind ⌝ }
-    ensures { λ r. ⌜ TableMeets wrap (slices (now (depth .entry)) (now (kind .entry)) (now (number .entry)) (now (own .entry)) (now (first .entry)) (now (span .entry))) (buffers (now (size .entry)) (now (least .entry)) (now (prefix .entry))) (buffers (now (size .exit)) (now (least .exit)) (now (prefix .exit))) at r ⌝ }
+    requires { ⌜ NodeReady (now lines) (now places) (now figures) (now leasts) at ⌝ }
+    requires { ⌜ lineAt (keptsOf (now lines)) at .kind ≡ tableKind ⌝ }
+    ensures { λ r. ⌜ TableMeets wrap (keptsOf (now (lines .entry))) (figuresOf (now (figures .entry))) (figuresOf (now (figures .exit))) at r ⌝ }
 {
-    let d = depth[at];
+    let top = records::kept_at(lines, at);
+    let n = records::count(lines);
     let mut i = at + 1;
-    while i < depth.len() {
-        if depth[i] <= d {
+    while i < n {
+        let line = records::kept_at(lines, i);
+        if line.depth <= top.depth {
             break;
         }
-        if is_filled(depth, kind, i) {
-            let p = cell(
-                depth,
-                kind,
-                number,
-                own,
-                first,
-                span,
-                size,
-                least,
-                prefix,
-                leasts,
-                wrap,
-                i,
-            );
-            size[i] = p.size;
-            least[i] = p.least;
-            prefix[i] = 0;
+        if is_filled(lines, i) {
+            let p = cell(lines, places, figures, leasts, wrap, i);
+            let e = text::Estimate {
+                size: p.size,
+                least: p.least,
+                prefix: 0,
+            };
+            packed::put_estimate(figures, i, e);
             i = p.after;
         } else {
             // a body, a row, or a cell that holds nothing, which needs no call
-            size[i] = 0;
-            least[i] = 0;
-            prefix[i] = 0;
+            let e = text::Estimate {
+                size: 0,
+                least: 0,
+                prefix: 0,
+            };
+            packed::put_estimate(figures, i, e);
             i += 1;
         }
     }
-    spread::tabulate(depth, first, span, size, least, leasts, at, i)
+    spread::tabulate(lines, places, figures, leasts, at, i)
 }
 
 // Measures all below the line at `at`, and returns its children combined. Ports `RenderTableCell::get_size_estimate`, and the folds over
 // children of `RenderNode::calc_size_estimate`.
 fn cell(
-    depth: &[u32],
-    kind: &[u32],
-    number: &[u32],
-    own: &[u32],
-    first: &[u32],
-    span: &[u32],
-    size: &mut [u32],
-    least: &mut [u32],
-    prefix: &mut [u32],
+    lines: &[u32],
+    places: &[u32],
+    figures: &mut [u32],
     leasts: &mut [u32],
     wrap: u32,
     at: usize,
 ) -> Part
-    requires { ⌜ Ready (slices (now depth) (now kind) (now number) (now own) (now first) (now span)) (buffers (now size) (now least) (now prefix)) (now leasts) at ⌝ }
-    requires { ⌜ Holder (slices (now depth) (now kind) (now number) (now own) (now first) (now span)) at ⌝ }
-    ensures { λ r. ⌜ CellMeets wrap (slices (now (depth .entry)) (now (kind .entry)) (now (number .entry)) (now (own .entry)) (now (first .entry)) (now (span .entry))) (buffers (now (size .entry)) (now (least .entry)) (now (prefix .entry))) (buffers (now (size .exit)) (now (least .exit)) (now (prefix .exit))) at r ⌝ }
+    requires { ⌜ NodeReady (now lines) (now places) (now figures) (now leasts) at ⌝ }
+    requires { ⌜ Holder (lineAt (keptsOf (now lines)) at) ⌝ }
+    ensures { λ r. ⌜ CellMeets wrap (keptsOf (now (lines .entry))) (figuresOf (now (figures .entry))) (figuresOf (now (figures .exit))) at r ⌝ }
 {
-    let d = depth[at];
+    let top = records::kept_at(lines, at);
+    let n = records::count(lines);
     let mut sum: u32 = 0;
     let mut most: u32 = 0;
     let mut children: u32 = 0;
     let mut i = at + 1;
-    while i < depth.len() {
-        if depth[i] <= d {
+    while i < n {
+        let line = records::kept_at(lines, i);
+        if line.depth <= top.depth {
             break;
         }
-        let k = kind[i];
-        if single::is_leaf(k) {
+        if single::is_leaf(line.kind) {
             // most children are texts, which need no call of `node`
-            let e = single::leaf(k, own[i], wrap);
-            size[i] = e.size;
-            least[i] = e.least;
-            prefix[i] = e.prefix;
+            let e = single::leaf(line, wrap);
+            packed::put_estimate(figures, i, e);
             sum += e.size;
             most = lists::larger(most, e.least);
             children += 1;
             i += 1;
         } else {
-            let next = node(
-                depth,
-                kind,
-                number,
-                own,
-                first,
-                span,
-                size,
-                least,
-                prefix,
-                leasts,
-                wrap,
-                i,
-            );
-            sum += size[i];
-            most = lists::larger(most, least[i]);
+            let next = node(lines, places, figures, leasts, wrap, i);
+            let child = packed::estimate_at(figures, i);
+            sum += child.size;
+            most = lists::larger(most, child.least);
             children += 1;
             i = next;
         }
@@ -226,35 +169,9 @@ fn cell(
 }
 
 // Measures every line of a sheet; `leasts` is scratch. Ports `precalc_size_estimate`.
-pub fn estimate_all(
-    depth: &[u32],
-    kind: &[u32],
-    number: &[u32],
-    own: &[u32],
-    first: &[u32],
-    span: &[u32],
-    size: &mut [u32],
-    least: &mut [u32],
-    prefix: &mut [u32],
-    leasts: &mut [u32],
-    wrap: u32,
-)
-    requires { ⌜ Lent (slices (now depth) (now kind) (now number) (now own) (now first) (now span)) (buffers (now size) (now least) (now prefix)) (now leasts) ⌝ }
-    ensures { λ _. ⌜ Estimated (walkedOf wrap (slices (now (depth .entry)) (now (kind .entry)) (now (number .entry)) (now (own .entry)) (now (first .entry)) (now (span .entry)))) (buffers (now (size .entry)) (now (least .entry)) (now (prefix .entry))) (buffers (now (size .exit)) (now (least .exit)) (now (prefix .exit))) ⌝ }
+pub fn measure(wrap: u32, lines: &[u32], places: &[u32], figures: &mut [u32], leasts: &mut [u32])
+    requires { ⌜ Lent (keptsOf (now lines)) (placesOf (now places)) (figuresOf (now figures)) (now leasts) ⌝ }
+    ensures { λ _. ⌜ Measured wrap (keptsOf (now (lines .entry))) (figuresOf (now (figures .entry))) (figuresOf (now (figures .exit))) ⌝ }
 {
-    let n = depth.len();
-    node(
-        depth,
-        kind,
-        number,
-        own,
-        first,
-        span,
-        &mut size[..n],
-        &mut least[..n],
-        &mut prefix[..n],
-        leasts,
-        wrap,
-        0,
-    );
+    node(lines, places, figures, leasts, wrap, 0);
 }

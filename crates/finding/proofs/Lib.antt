@@ -1,8 +1,5 @@
--- Laws of what is found in a sheet, for the functions here and for the rooms above.
+-- What is found in a sheet, by what opening and measuring it leave.
 pub mod Openings
-pub mod Lent
 pub mod Measured
-pub mod Measuring
-pub mod Asking
-pub mod AskedGrid
-pub mod Gridding
+pub mod Gridded
+pub mod LaidOut

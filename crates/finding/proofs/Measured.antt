@@ -1,99 +1,75 @@
--- A sheet that was opened and measured: the front of its slices is as laying out a table takes it, whichever line a call asks for, if any.
--- Assumes nothing.
+-- The estimates of a sheet's lines, told of the records of a measured sheet. Assumes nothing.
 use mathlib.Core.Path.{_≡_, refl, sym, ap, _∙_}
-use mathlib.Core.Bool.{Bool}
-use mathlib.Core.List.{List, [], _∷_, map, map-map}
-use Prim.Native.Nat.{ℕ, zero, suc, _+_, _≤_, _<_}
+use mathlib.Core.Bool.{false}
+use mathlib.Core.List.{List, map}
+use Prim.Native.Nat.{ℕ, _+_, _*_, _/_, _≤_, _<_}
 use native.Mathlib.Omega.{arith}
-use lib.ListN.{length, getD, take, drop, List·getD-map}
-use lib.Seq.{getD-take}
+use lib.ListN.{length, getD, take}
+use Rattle.lists.specs.Lists.{over}
 use Rattle.lists.specs.Limits.{maxLines}
-use Rattle.line.specs.Fields.{Line}
+use Rattle.lists.specs.Refusals.{first}
+use Rattle.text.specs.declared.Estimate.{Estimate}
+use Rattle.records.specs.Records.{numbersOf}
 use Rattle.sheet.specs.Sheet.{sheetLines}
 use Rattle.sheet.specs.Steps.{roomFor}
-use Rattle.sheet.specs.Reading.{readingOf, depthOf, kindOfLine}
 use Rattle.sheet.specs.declared.Reading.{Reading}
-use Rattle.sheet.specs.declared.Reading.the-variants.{Lines}
-use Rattle.sheet.proofs.Nests.{lines-ranged, accepted-nested}
-use Rattle.sheet.proofs.Bounds.{accepted-lines, accepted-room}
-use Rattle.grid.specs.Judging.{Lined}
-use Rattle.judge.specs.Kept.{HoldsKinds}
-use Rattle.estimates.specs.Estimates.{Done, undone, measured, estOf}
-use Rattle.opening.specs.Opening.{openedOf}
-use Rattle.opening.specs.Opened.{SheetMeasured}
-use Rattle.opening.proofs.Answers.{holds-front}
-use Rattle.opening.proofs.Slices.{long, lined}
-use Rattle.opening.proofs.Opens.{opened-reads}
-use Rattle.laying.specs.Grids.{All, Fits, sizeOf, leastOf}
-use Rattle.laying.proofs.Every.{all-at}
-use Rattle.arranging.specs.Layouts.{AllMeasured}
+use Rattle.sheet.specs.declared.Reading.the-variants.{Lines, Refused}
+use Rattle.estimates.specs.Estimates.{estimates}
+use Rattle.estimates.specs.inner.Figures.{figureBy, figuresOf}
+use Rattle.opening.specs.Opening.{keptLines, openChecks, openedOf}
+use Rattle.opening.specs.inner.Measures.{SheetMeasured}
+use Rattle.table.proofs.Rooms.{unpacked}
+use Rattle.finding.specs.Figures.{ifPasses, sizeOf, leastOf, prefixOf}
+use Rattle.finding.specs.inner.Found.{linesIn, LinesRoom, EstimatesFound}
+use Rattle.finding.specs.inner.Made.{FiguresFit, FiguresTold}
+use Rattle.finding.proofs.Openings.{passed, failed, lines-few}
 
--- each line is measured
-pub measured-length : (wrap t : ℕ) (ls : List Line) → length (measured wrap t ls) ≡ length ls
-unfolding measured
-measured-length wrap t [] = refl
-measured-length wrap t (l ∷ ls) = ap suc (measured-length wrap (suc t) ls)
+pub figures-told : (n : ℕ) (figures size₀ least₀ prefix₀ : List ℕ) {size least prefix : List ℕ} → n ≤ length figures / 3
+    → size ≡ over (numbersOf 3 0 n figures) size₀ → least ≡ over (numbersOf 3 1 n figures) least₀ → prefix ≡ over (numbersOf 3 2 n figures) prefix₀
+    → FiguresTold n (figuresOf figures) size least prefix
+figures-told n xs p q r h a b c = record {
+  sizes = unpacked 3 0 n xs p figureBy sizeOf (λ r. refl) h a;
+  leasts = unpacked 3 1 n xs q figureBy leastOf (λ r. refl) h b;
+  prefixes = unpacked 3 2 n xs r figureBy prefixOf (λ r. refl) h c;
+}
 
-pub measured-drop : (wrap t k u : ℕ) (ls : List Line) → u ≡ t + k → drop k (measured wrap t ls) ≡ measured wrap u (drop k ls)
-unfolding measured
-measured-drop wrap t zero u ls e = let j : t ≡ u = omega arith in ap (λ (v : ℕ). measured wrap v ls) j
-measured-drop wrap t (suc k) u [] e = refl
-measured-drop wrap t (suc k) u (l ∷ ls) e = measured-drop wrap (suc t) k u ls (omega arith)
+-- buffers that are as long as they were have the same room
+pub lines-still : {size size′ least prefix : List ℕ} → length size′ ≡ length size → LinesRoom size least prefix → LinesRoom size′ least prefix
+lines-still e l = record { size-room = omega (arith, l .size-room); least-room = l .least-room; prefix-room = l .prefix-room }
 
-module _ {asks : Bool} {s : List ℕ} {line wrap : ℕ} {read : Reading} {depth kind number cols rows own first-of span-of size least prefix cell first′ span row end : List ℕ}
-    (m : SheetMeasured asks s line wrap read depth kind number cols rows own first-of span-of size least prefix cell first′ span row end) {n : ℕ} (e : read ≡ Lines n) where
-  abbrev every : List Done
-  every = measured wrap 1 (sheetLines s)
-
-  -- the reader accepts it
-  pub sheet-reads : readingOf s ≡ Lines n
-  sheet-reads = opened-reads asks s line n (sym (m .opened .answer) ∙ e)
-
-  pub sheet-count : n ≡ length (sheetLines s)
-  sheet-count = accepted-lines s n sheet-reads .0
-
-  pub sheet-few : n ≤ maxLines
-  sheet-few = omega (arith, sheet-count, accepted-lines s n sheet-reads .1)
-
-  -- its lines lie within the room that it asks for
-  pub sheet-room : n ≤ roomFor s
-  sheet-room = accepted-room s n sheet-reads
-
-  pub sheet-holds : HoldsKinds (sheetLines s) (take n depth) (take n kind) (take n cols) (take n rows)
-  sheet-holds = holds-front {number = number} {own = own} n (record { answer = sym sheet-reads; holds = λ k q. m .opened .holds n e })
-
-  pub sheet-length : length (take n depth) ≡ length (sheetLines s)
-  sheet-length = long depthOf (sheetLines s) (take n depth) (sheet-holds .figures .depths)
-
-  -- as many kinds as depths
-  pub sheet-kinds : length (take n kind) ≡ length (take n depth)
-  sheet-kinds = long kindOfLine (sheetLines s) (take n kind) (sheet-holds .kinds) ∙ sym sheet-length
-
-  pub sheet-lined : Lined (take n depth) (take n cols) (take n rows)
-  sheet-lined = lined sheet-holds (accepted-nested s n sheet-reads) (accepted-lines s n sheet-reads .1) (lines-ranged s)
-
-  pub sheet-sizes : take n size ≡ map sizeOf every
-  sheet-sizes = ap (λ (k : ℕ). take k size) sheet-count ∙ m .measured n e .figures .sizes ∙ map-map _ estOf every
-
-  pub sheet-leasts : take n least ≡ map leastOf every
-  sheet-leasts = ap (λ (k : ℕ). take k least) sheet-count ∙ m .measured n e .figures .leasts ∙ map-map _ estOf every
-
-  pub sheet-fits : All Fits every
-  sheet-fits =
-      all-at Fits undone every (λ k h.
-      let g : k < n = omega (arith, measured-length wrap 1 (sheetLines s), sheet-count) in
-      let a : getD (take n size) k 0 ≡ getD every k undone .est .size = ap (λ (l : List ℕ). getD l k 0) sheet-sizes ∙ List·getD-map sizeOf every k undone in
-      let b : getD (take n least) k 0 ≡ getD every k undone .est .least = ap (λ (l : List ℕ). getD l k 0) sheet-leasts ∙ List·getD-map leastOf every k undone in
-      let i : getD (take n size) k 0 ≡ getD size k 0 = getD-take n size k 0 g in
-      let j : getD (take n least) k 0 ≡ getD least k 0 = getD-take n least k 0 g in
-      omega (arith, m .measured n e .least-size k (omega (arith, sheet-count))))
-
-  unfoldable pub sheet-measured : AllMeasured (length (take n depth)) (take n size) (take n least)
-  sheet-measured =
+module _ {s : List ℕ} {wrap : ℕ} {r : Reading} {lines places figures : List ℕ} (m : SheetMeasured false s 0 wrap r lines places figures) {n : ℕ} (e : n ≡ linesIn r) where
+  -- the figures of all lines are there, and places for them
+  pub figures-fit : {size least prefix : List ℕ} → LinesRoom size least prefix → roomFor s ≤ length figures / 3 → FiguresFit n figures size least prefix
+  figures-fit l h =
+      let f = lines-few false s 0 r (m .opened .answer) in
       record {
-        all = every;
-        count = measured-length wrap 1 (sheetLines s) ∙ sym sheet-length;
-        sizes = sheet-sizes;
-        leasts = sheet-leasts;
-        fits = sheet-fits;
+        figures-in = omega arith;
+        size-in = omega (arith, l .size-room);
+        least-in = omega (arith, l .least-room);
+        prefix-in = omega (arith, l .prefix-room);
       }
+
+  -- one figure of all lines, where the sheet is accepted
+  front : (figure : Estimate → ℕ) (slice : List ℕ) → take n slice ≡ map figure (take n (figuresOf figures))
+      → take (linesIn r) slice ≡ ifPasses (openChecks false s 0) (map figure (estimates wrap (keptLines s)))
+  unfolding linesIn
+  front figure slice q = at r refl
+    where
+      at : (r′ : Reading) → r ≡ r′ → take (linesIn r) slice ≡ ifPasses (openChecks false s 0) (map figure (estimates wrap (keptLines s)))
+      at (Lines k) f =
+          let p = passed false s 0 k (sym (m .opened .answer) ∙ f) in
+          let i : linesIn r ≡ length (keptLines s) = ap linesIn f ∙ p .kept in
+          let j : n ≡ length (keptLines s) = e ∙ i in
+          rw (p .all) (ap (λ (t : ℕ). take t slice) (sym e) ∙ q ∙ ap (λ (t : ℕ). map figure (take t (figuresOf figures))) j ∙ ap (map figure) (m .measured k f .figures))
+      at (Refused number l) f = rw (failed false s 0 number l (sym (m .opened .answer) ∙ f), f)
+
+  pub estimates-found : {size least prefix : List ℕ} → FiguresTold n (figuresOf figures) size least prefix
+      → EstimatesFound (openChecks false s 0) s wrap r size least prefix
+  unfolding openedOf
+  estimates-found {size} {least} {prefix} t = record {
+    answer = m .opened .answer;
+    few = omega (arith, lines-few false s 0 r (m .opened .answer));
+    sizes = front sizeOf size (t .sizes);
+    leasts = front leastOf least (t .leasts);
+    prefixes = front prefixOf prefix (t .prefixes);
+  }

@@ -1,47 +1,52 @@
--- What the answer of opening a sheet says of the checks, and of the sheet's lines. Assumes nothing.
+-- What the answer of opening a sheet says of the checks, of the sheet's lines and of the line that a call asks for. Assumes nothing.
 use mathlib.Core.Path.{_≡_, refl, sym, ap, _∙_}
 use mathlib.Core.Bool.{Bool, true, false}
 use mathlib.Core.List.{List, [], append-nil}
-use Prim.Native.Nat.{ℕ, _≤_}
+use Prim.Native.Nat.{ℕ, _-_, _*_, _/_, _≤_, _<_}
 use native.Mathlib.Omega.{arith}
-use lib.ListN.{length}
+use lib.ListN.{length, take}
 use Rattle.lists.specs.Limits.{maxLines}
 use Rattle.lists.specs.Refusals.{first, passes}
-use Rattle.sheet.specs.Sheet.{sheetChecks, sheetLines}
+use Rattle.records.specs.Kept.{keptCount, keptsOf, placeBy, placesOf}
+use Rattle.records.proofs.Records.{length-of}
+use Rattle.records.proofs.Kepts.{kepts-take}
+use Rattle.sheet.specs.Sheet.{sheetLines}
 use Rattle.sheet.specs.Steps.{roomFor}
 use Rattle.sheet.specs.Reading.{readingOf}
+use Rattle.sheet.specs.declared.Reading.{Reading}
 use Rattle.sheet.specs.declared.Reading.the-variants.{Lines, Refused}
-use Rattle.sheet.proofs.First.{both-true, first-passes, first-accepts, first-carries, passes-append}
+use Rattle.sheet.proofs.First.{first-passes, first-accepts, first-carries}
 use Rattle.sheet.proofs.Bounds.{accepted-lines, accepted-room}
-use Rattle.opening.specs.Opening.{asked, openChecks, openedOf}
+use Rattle.estimates.specs.inner.Figures.{figureBy, figuresOf}
+use Rattle.opening.specs.Opening.{keptLines, openChecks, openedOf}
+use Rattle.opening.specs.inner.Opened.{Opened}
+use Rattle.opening.proofs.Answers.{Apt, table-apt}
+use Rattle.opening.proofs.Ready.{kept-count, kept-lined}
+use Rattle.opening.proofs.Opens.{opened-reads, opened-asked}
+use Rattle.table.specs.inner.Fitting.{Asked}
+use Rattle.finding.specs.inner.Found.{linesIn}
+use Rattle.finding.specs.inner.Made.{AskedIn, OpenedAt}
+
+-- ---- the checks
 
 module _ (asks : Bool) (s : List ℕ) (line : ℕ) where
   -- an opened sheet has passed every check
   pub record Passed (n : ℕ) : Type 0 where
     pub all : passes (openChecks asks s line) ≡ true
-    pub sheet : passes (sheetChecks s) ≡ true
-    pub more : passes (asked asks s line) ≡ true
     pub reading : readingOf s ≡ Lines n
     pub count : n ≡ length (sheetLines s)
+    pub kept : n ≡ length (keptLines s)
     pub few : n ≤ maxLines
     pub room : n ≤ roomFor s
 
   pub passed : (n : ℕ) → openedOf asks s line ≡ Lines n → Passed n
-  unfolding openedOf readingOf
+  unfolding openedOf
   passed n e =
       let (p, q) =
       first-accepts Refused (Lines (length (sheetLines s))) (Lines n) (openChecks asks s line) (λ number l f. let z : _≡_ {A = ℕ} 0 1 = cc in omega arith) e in
-      let (a, b) = both-true (passes (sheetChecks s)) (passes (asked asks s line)) (sym (passes-append (sheetChecks s) (asked asks s line)) ∙ p) in
-      let r : readingOf s ≡ Lines n = first-passes Refused (Lines (length (sheetLines s))) (sheetChecks s) a ∙ q in
-      record {
-        all = p;
-        sheet = a;
-        more = b;
-        reading = r;
-        count = accepted-lines s n r .0;
-        few = omega (arith, accepted-lines s n r);
-        room = accepted-room s n r;
-      }
+      let r : readingOf s ≡ Lines n = opened-reads asks s line n e in
+      let c = accepted-lines s n r in
+      record { all = p; reading = r; count = c .0; kept = kept-count s n r; few = omega arith; room = accepted-room s n r }
 
   -- a refused one has not
   pub failed : (number l : ℕ) → openedOf asks s line ≡ Refused number l → passes (openChecks asks s line) ≡ false
@@ -62,3 +67,50 @@ module _ (asks : Bool) (s : List ℕ) (line : ℕ) where
       let cs = openChecks asks s line in
       ap (first refused accepted) (sym (append-nil cs))
       ∙ first-carries Refused (Lines (length (sheetLines s))) refused accepted number l (λ n m f. (cc, cc)) (λ f. let z : _≡_ {A = ℕ} 0 1 = cc in omega arith) cs [] e
+
+  -- there are no more lines than there is room for
+  pub lines-few : (r : Reading) → r ≡ openedOf asks s line → linesIn r ≤ roomFor s
+  unfolding linesIn
+  lines-few (Lines n) e = passed n (sym e) .room
+  lines-few (Refused number l) e = omega arith
+
+-- ---- the line asked for
+
+module _ {s : List ℕ} {line : ℕ} {r : Reading} {lines places : List ℕ} (w : Opened true s line r lines places) where
+  pub opened-at : OpenedAt s line r lines
+  opened-at = record {
+    answer = w .answer;
+    holds = w .holds;
+    sound = λ n e.
+        let t = table-apt (keptLines s) line (opened-asked true s line n (sym (w .answer) ∙ e) refl) in
+        w .kept n e .table (line - 1) (omega (arith, t .from-one, t .within)) (t .kind) .sound;
+  }
+
+module _ {s : List ℕ} {line : ℕ} {r : Reading} {lines : List ℕ} (w : OpenedAt s line r lines) where
+  pub opened-passed : (n : ℕ) → r ≡ Lines n → Passed true s line n
+  opened-passed n e = passed true s line n (sym (w .answer) ∙ e)
+
+  pub opened-apt : (n : ℕ) → r ≡ Lines n → Apt (keptLines s) line
+  opened-apt n e = table-apt (keptLines s) line (opened-asked true s line n (sym (w .answer) ∙ e) refl)
+
+  pub asked-in : roomFor s ≤ keptCount lines → AskedIn r lines line
+  asked-in h = record {
+    front = λ n e. omega (arith, opened-passed n e .room);
+    asked = λ n e.
+        let t = opened-apt n e in
+        rw (w .holds n e)
+        (record { from-one = t .from-one; within = omega (arith, t .from-one, t .within); lined = kept-lined s n (opened-passed n e .reading); sound = w .sound n e });
+  }
+
+-- the same of the lines that stand in the first places
+pub front-asked : {read : Reading} {lines : List ℕ} {line n : ℕ} → AskedIn read lines line → read ≡ Lines n → Asked (keptsOf (take (6 * n) lines)) line
+front-asked {lines = lines} {n = n} a e = rw (kepts-take lines n (a .front n e)) (a .asked n e)
+
+-- ---- room
+
+-- slices that are long enough for so many records
+pub places-room : (k : ℕ) (xs : List ℕ) → k ≤ length xs / 2 → k ≤ length (placesOf xs)
+places-room k xs h = omega (arith, length-of 2 placeBy xs)
+
+pub figures-room : (k : ℕ) (xs : List ℕ) → k ≤ length xs / 3 → k ≤ length (figuresOf xs)
+figures-room k xs h = omega (arith, length-of 3 figureBy xs)

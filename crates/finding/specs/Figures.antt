@@ -1,19 +1,21 @@
--- The figures of a sheet's tables and lines. These are definitions; nothing is assumed.
+-- The figures of a sheet's tables and lines, by the sheet's bytes, a line and the settings. These are definitions; nothing is assumed.
 use mathlib.Core.Bool.{cond}
 use mathlib.Core.List.{List, []}
-use Prim.Native.Nat.{ℕ, _+_, _-_}
+use Prim.Native.Nat.{ℕ, _-_}
 use lib.ListN.{drop}
 use Rattle.lists.specs.Refusals.{Check, passes}
 use Rattle.text.specs.declared.Estimate.{Estimate}
-use Rattle.sheet.specs.Sheet.{sheetLines}
 use Rattle.columns.specs.Boxes.{Box, flat}
 use Rattle.columns.specs.Columns as columns
 use Rattle.columns.specs.Columns.{largest}
-use Rattle.grid.specs.Grid.{Entry, GridRow, gridOf, columnsOf, tableRows}
+use Rattle.cells.specs.Cells as cells
+use Rattle.cells.specs.Listed.{heldRows}
+use Rattle.grid.specs.Grid.{Entry, GridRow, gridOf, columnsOf}
 use Rattle.estimates.specs.Estimates.{measured, boxRows}
 use Rattle.widths.specs.Widths.{wayOf, finalWidths, tableWidth}
 use Rattle.widths.specs.declared.Way.{Way}
 use Rattle.placing.specs.Place.{Placed, placeRows}
+use Rattle.opening.specs.Opening.{keptLines}
 
 -- the figures where every check passes; else none
 abbrev pub ifPasses : List Check → List ℕ → List ℕ
@@ -45,16 +47,20 @@ xOf p = p .x
 abbrev pub widthOf : Placed → ℕ
 widthOf p = p .width
 
--- the grid of the table in a line of the sheet, and its columns
+-- the resolved rows of the table in a line of the sheet
+abbrev pub tableAt : List ℕ → ℕ → List cells.Row
+tableAt s line = heldRows (keptLines s) (line - 1)
+
+-- its grid, and its columns
 abbrev pub rowsAt : List ℕ → ℕ → List GridRow
-rowsAt s line = gridOf (tableRows line (drop (line - 1) (sheetLines s)))
+rowsAt s line = gridOf (tableAt s line)
 
 abbrev pub columnsAt : List ℕ → ℕ → ℕ
-columnsAt s line = columnsOf (tableRows line (drop (line - 1) (sheetLines s)))
+columnsAt s line = columnsOf (tableAt s line)
 
--- its rows of boxes: the entries with their cells' estimates at this wrap
+-- its rows of boxes: the entries with their cells' estimates at this wrap, which are among those of the lines after the table's
 abbrev pub boxesAt : List ℕ → ℕ → ℕ → List (List Box)
-boxesAt s line wrap = boxRows line (measured wrap (line + 1) (drop line (sheetLines s))) (rowsAt s line)
+boxesAt s line wrap = boxRows line (drop line (measured wrap 1 (keptLines s))) (rowsAt s line)
 
 -- the way, the final widths, the table's width and the places of the entries
 abbrev pub sizesAt : List ℕ → ℕ → ℕ → List ℕ

@@ -1,3 +1,3 @@
--- The figures of a sheet, and what is found of them.
+-- The figures of a sheet's tables and lines, by the sheet's bytes.
 pub mod Figures
-pub mod Found
+pub mod inner

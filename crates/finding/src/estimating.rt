@@ -1,17 +1,38 @@
 // The estimates of a sheet's lines, written to the lent buffers, with arrays of two sizes to work in.
 ghost use mathlib.Core.Bool.{false};
+ghost use mathlib.Core.Path.{_≡_};
 ghost use Prim.Native.Nat.{_≤_};
-ghost use Rattle.lists.specs.Limits.{maxLines, smallLines};
+ghost use Rattle.lists.specs.Sizes.{smallLines};
 ghost use Rattle.sheet.specs.Steps.{roomFor};
+ghost use Rattle.estimates.specs.inner.Figures.{figuresOf};
 ghost use Rattle.opening.specs.Opening.{openChecks};
-ghost use Rattle.opening.specs.Opened.{FiguresRoom};
-ghost use Rattle.finding.specs.Found.{EstimatesFound};
-use lists::MAX_ENTRIES;
+ghost use Rattle.finding.specs.inner.Found.{linesIn, LinesRoom, EstimatesFound};
+ghost use Rattle.finding.specs.inner.Made.{FiguresFit, FiguresTold};
 use lists::MAX_LINES;
 use lists::SMALL_LINES;
 use sheet::Reading;
 
-// The estimates of a small sheet.
+// How many lines were read.
+fn lines_in(read: Reading) -> usize
+    ensures { λ r. ⌜ r ≡ linesIn read ⌝ }
+{
+    match read {
+        Reading::Lines(n) => n,
+        Reading::Refused { number: _, line: _ } => 0,
+    }
+}
+
+// The three figures of each of the first n lines, each to its buffer.
+fn tell_figures(n: usize, figures: &[u32], size: &mut [u32], least: &mut [u32], prefix: &mut [u32])
+    requires { ⌜ FiguresFit n (now figures) (now size) (now least) (now prefix) ⌝ }
+    ensures { λ _. ⌜ FiguresTold n (figuresOf (now (figures .entry))) (now (size .exit)) (now (least .exit)) (now (prefix .exit)) ⌝ }
+{
+    records::unpack(figures, 3, 0, n, size);
+    records::unpack(figures, 3, 1, n, least);
+    records::unpack(figures, 3, 2, n, prefix);
+}
+
+// The estimates of a small sheet. The sizes are written last, and until then their buffer is room to work in.
 pub fn estimates_small(
     sheet: &[u8],
     wrap: u32,
@@ -20,49 +41,27 @@ pub fn estimates_small(
     prefix: &mut [u32],
 ) -> Reading
     requires { ⌜ roomFor (now sheet) ≤ smallLines ⌝ }
-    requires { ⌜ FiguresRoom maxLines (now size) (now least) (now prefix) ⌝ }
+    requires { ⌜ LinesRoom (now size) (now least) (now prefix) ⌝ }
     ensures { λ r. ⌜ EstimatesFound (openChecks false (now (sheet .entry)) 0) (now (sheet .entry)) wrap r (now (size .exit)) (now (least .exit)) (now (prefix .exit)) ⌝ }
 {
-    let mut depth = [0u32; SMALL_LINES];
-    let mut kind = [0u32; SMALL_LINES];
-    let mut number = [0u32; SMALL_LINES];
-    let mut cols = [0u32; SMALL_LINES];
-    let mut rows = [0u32; SMALL_LINES];
-    let mut own = [0u32; SMALL_LINES];
-    let mut first_of = [0u32; SMALL_LINES];
-    let mut span_of = [0u32; SMALL_LINES];
-    let mut row = [0u32; SMALL_LINES];
-    let mut row_end = [0u32; SMALL_LINES];
-    let mut wide = [0u32; MAX_ENTRIES];
-    let mut cell = [0u32; MAX_ENTRIES];
-    let mut first = [0u32; MAX_ENTRIES];
-    let mut span = [0u32; MAX_ENTRIES];
-    opening::measure_sheet(
+    let mut lines = [0u32; 6 * SMALL_LINES];
+    let mut places = [0u32; 2 * SMALL_LINES];
+    let mut figures = [0u32; 3 * SMALL_LINES];
+    let read = opening::measuring::measure_sheet(
         sheet,
         false,
         0,
         wrap,
-        &mut depth,
-        &mut kind,
-        &mut number,
-        &mut cols,
-        &mut rows,
-        &mut own,
-        &mut first_of,
-        &mut span_of,
+        &mut lines,
+        &mut places,
+        &mut figures,
         size,
-        least,
-        prefix,
-        &mut wide,
-        &mut cell,
-        &mut first,
-        &mut span,
-        &mut row,
-        &mut row_end,
-    )
+    );
+    tell_figures(lines_in(read), &figures, size, least, prefix);
+    read
 }
 
-// The estimates of any sheet.
+// The estimates of any sheet, in the same way.
 pub fn estimates_large(
     sheet: &[u8],
     wrap: u32,
@@ -70,44 +69,22 @@ pub fn estimates_large(
     least: &mut [u32],
     prefix: &mut [u32],
 ) -> Reading
-    requires { ⌜ FiguresRoom maxLines (now size) (now least) (now prefix) ⌝ }
+    requires { ⌜ LinesRoom (now size) (now least) (now prefix) ⌝ }
     ensures { λ r. ⌜ EstimatesFound (openChecks false (now (sheet .entry)) 0) (now (sheet .entry)) wrap r (now (size .exit)) (now (least .exit)) (now (prefix .exit)) ⌝ }
 {
-    let mut depth = [0u32; MAX_LINES];
-    let mut kind = [0u32; MAX_LINES];
-    let mut number = [0u32; MAX_LINES];
-    let mut cols = [0u32; MAX_LINES];
-    let mut rows = [0u32; MAX_LINES];
-    let mut own = [0u32; MAX_LINES];
-    let mut first_of = [0u32; MAX_LINES];
-    let mut span_of = [0u32; MAX_LINES];
-    let mut row = [0u32; MAX_LINES];
-    let mut row_end = [0u32; MAX_LINES];
-    let mut wide = [0u32; MAX_ENTRIES];
-    let mut cell = [0u32; MAX_ENTRIES];
-    let mut first = [0u32; MAX_ENTRIES];
-    let mut span = [0u32; MAX_ENTRIES];
-    opening::measure_sheet(
+    let mut lines = [0u32; 6 * MAX_LINES];
+    let mut places = [0u32; 2 * MAX_LINES];
+    let mut figures = [0u32; 3 * MAX_LINES];
+    let read = opening::measuring::measure_sheet(
         sheet,
         false,
         0,
         wrap,
-        &mut depth,
-        &mut kind,
-        &mut number,
-        &mut cols,
-        &mut rows,
-        &mut own,
-        &mut first_of,
-        &mut span_of,
+        &mut lines,
+        &mut places,
+        &mut figures,
         size,
-        least,
-        prefix,
-        &mut wide,
-        &mut cell,
-        &mut first,
-        &mut span,
-        &mut row,
-        &mut row_end,
-    )
+    );
+    tell_figures(lines_in(read), &figures, size, least, prefix);
+    read
 }

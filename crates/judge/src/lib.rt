@@ -1,35 +1,52 @@
-// Judges every table of a sheet, and keeps of each grid what the measuring needs: the first column and the span of each cell, by its line. Of
-// the one table that is asked for, the whole grid is kept: it is judged last.
+// Judges every table of a sheet, and keeps of each grid what the measuring needs: the first column and the span of each cell, by its line, and
+// of each table how many rows and columns it has. The records of a grid are the judge's own, of three sizes, and cleared once for a sheet.
 use grid::Judged;
+use lists::MAX_ENTRIES;
+use lists::MAX_LINES;
 use lists::Verdict;
+use records::Place;
 ghost use mathlib.Core.Path.{_≡_};
+ghost use mathlib.Core.Bool.{true};
 ghost use Prim.Native.Nat.{_≤_, _<_};
-ghost use lib.ListN.{length, getD};
-ghost use Rattle.line.specs.Kinds.{tableKind};
+ghost use lib.ListN.{length, take};
+ghost use Rattle.records.specs.Kept.{keptsOf, entriesOf, rowsOf, placesOf};
 ghost use Rattle.cells.specs.Listed.{heldRows};
-ghost use Rattle.positions.specs.Slices.{Enough};
-ghost use Rattle.grid.specs.Judging.{Lined, Room};
-ghost use Rattle.judge.specs.Kept.{EntriesFit, EntriesStored, JudgedFits, JudgedStored, TableStored, Nests, AllEnough, isOther, earlierOf, OthersJudged, TablesJudged};
+ghost use Rattle.grid.specs.Judging.{Lined};
+ghost use Rattle.judge.specs.Places.{Nests, TablesJudged};
+ghost use Rattle.judge.specs.inner.Keeping.{storedIn, EntriesFit, JudgedFits, JudgedStored, TableKept, Roomy, Sparse};
+
+// Lines of a sheet for which short arrays do: 128 and 512. Its tables have no more entries than twice as many, one for each line, and one for
+// each row that a cell asks for. A row takes two numbers, an entry three. The sizes are for speed alone.
+const FEW_ROWS: usize = 2 * 128;
+
+const FEW_ENTRIES: usize = 3 * 256;
+
+const SOME_ROWS: usize = 2 * 512;
+
+const SOME_ENTRIES: usize = 3 * 1024;
+
+const MOST_ROWS: usize = 2 * MAX_LINES;
+
+const MOST_ENTRIES: usize = 3 * MAX_ENTRIES;
 
 // Stores the first column and the span of each of the first n entries that is a cell at its line's place: line k has place k - 1.
-fn keep(
-    line: &[u32],
-    first: &[u32],
-    span: &[u32],
-    n: usize,
-    first_of: &mut [u32],
-    span_of: &mut [u32],
-)
-    requires { ⌜ EntriesFit n (now line) (now first) (now span) (now «first_of») (now «span_of») ⌝ }
-    ensures { λ _. ⌜ EntriesStored n (now (line .entry)) (now (first .entry)) (now (span .entry)) (now («first_of» .entry)) (now («span_of» .entry)) (now («first_of» .exit)) (now («span_of» .exit)) ⌝ }
+fn keep(entries: &[u32], n: usize, places: &mut [u32])
+    requires { ⌜ EntriesFit n (entriesOf (now entries)) (placesOf (now places)) ⌝ }
+    ensures { λ _. ⌜ placesOf (now (places .exit)) ≡ storedIn (take n (entriesOf (now (entries .entry)))) (placesOf (now (places .entry))) ⌝ }
 {
     let mut i = 0;
     while i < n {
-        let l = line[i];
-        if l != 0 {
-            let at = (l - 1) as usize;
-            first_of[at] = first[i];
-            span_of[at] = span[i];
+        let e = records::entry_at(entries, i);
+        if e.cell != 0 {
+            let at = (e.cell - 1) as usize;
+            records::put_place(
+                places,
+                at,
+                Place {
+                    first: e.first,
+                    span: e.span,
+                },
+            );
             i += 1;
         } else {
             i += 1;
@@ -37,170 +54,71 @@ fn keep(
     }
 }
 
-// What is kept of the table at the place `at`, if it has a grid: its entries, and its rows and columns at its own place. 0, or the refusal's
-// number.
-fn keep_grid(
-    judged: Judged,
-    at: usize,
-    line: &[u32],
-    first: &[u32],
-    span: &[u32],
-    first_of: &mut [u32],
-    span_of: &mut [u32],
-) -> u32
-    requires { ⌜ JudgedFits judged at (now line) (now first) (now span) (now «first_of») (now «span_of») ⌝ }
-    ensures { λ r. ⌜ JudgedStored judged at (now (line .entry)) (now (first .entry)) (now (span .entry)) (now («first_of» .entry)) (now («span_of» .entry)) r (now («first_of» .exit)) (now («span_of» .exit)) ⌝ }
+// What is kept of the table at the place `at`, if it has a grid: its entries, and its rows and columns at its own place.
+fn keep_grid(judged: Judged, at: usize, entries: &[u32], places: &mut [u32])
+    requires { ⌜ JudgedFits judged at (entriesOf (now entries)) (placesOf (now places)) ⌝ }
+    ensures { λ _. ⌜ JudgedStored judged at (entriesOf (now (entries .entry))) (placesOf (now (places .entry))) (placesOf (now (places .exit))) ⌝ }
 {
-    match judged {
-        Judged::Refused(number) => number,
-        Judged::Grid {
-            rows,
-            entries,
-            columns,
-        } => {
-            keep(line, first, span, entries, first_of, span_of);
-            first_of[at] = rows as u32;
-            span_of[at] = columns as u32;
-            0
-        }
-    }
-}
-
-// The table at the place `at`: its grid, and what is kept of it. 0, or the number of the first refusal that applies.
-fn keep_table(
-    depth: &[u32],
-    cols: &[u32],
-    rows: &[u32],
-    at: usize,
-    room: usize,
-    wide: &mut [u32],
-    cell_rows: &mut [u32],
-    cell_end: &mut [u32],
-    left: &mut [u32],
-    hang_at: &mut [u32],
-    hang: &mut [u32],
-    next_left: &mut [u32],
-    next_at: &mut [u32],
-    next_wide: &mut [u32],
-    line: &mut [u32],
-    first: &mut [u32],
-    span: &mut [u32],
-    row_line: &mut [u32],
-    row_end: &mut [u32],
-    first_of: &mut [u32],
-    span_of: &mut [u32],
-) -> u32
-    requires { ⌜ at < length (now depth) ⌝ }
-    requires { ⌜ Lined (now depth) (now cols) (now rows) ⌝ }
-    requires { ⌜ Enough room (heldRows (now depth) (now cols) (now rows) at) ⌝ }
-    requires { ⌜ Room (length (now depth)) room (now wide) (now «cell_rows») (now «cell_end») (now left) (now «hang_at») (now hang) (now «next_left») (now «next_at») (now «next_wide»)
-        (now line) (now first) (now span) (now «row_line») (now «row_end») ⌝ }
-    requires { ⌜ (length (now depth) ≤ length (now «first_of»)) × (length (now depth) ≤ length (now «span_of»)) ⌝ }
-    ensures { λ r. ⌜ TableStored (heldRows (now (depth .entry)) (now (cols .entry)) (now (rows .entry)) at) at r
-        (now («first_of» .entry)) (now («span_of» .entry)) (now («first_of» .exit)) (now («span_of» .exit))
-        (now (line .exit)) (now (first .exit)) (now (span .exit)) (now («row_line» .exit)) (now («row_end» .exit)) ⌝ }
-{
-    let judged = grid::table_grid(
-        depth,
-        cols,
+    if let Judged::Grid {
         rows,
-        at,
-        room,
-        wide,
-        cell_rows,
-        cell_end,
-        left,
-        hang_at,
-        hang,
-        next_left,
-        next_at,
-        next_wide,
-        line,
-        first,
-        span,
-        row_line,
-        row_end,
-    );
-    keep_grid(judged, at, line, first, span, first_of, span_of)
-}
-
-// Whether the line at the place t is a table, and not the one that is asked for.
-fn is_other(kind: u32, t: usize, asked: usize) -> bool
-    ensures { λ r. ⌜ r ≡ isOther kind t asked ⌝ }
-{
-    if t == asked {
-        return false;
+        entries: n,
+        columns,
+    } = judged {
+        keep(entries, n, places);
+        records::put_place(
+            places,
+            at,
+            records::table_place(rows as u32, columns as u32),
+        );
     }
-    kind == line::kinds::TABLE
 }
 
-// Judges each table of a sheet but the one at the place `asked`, in the order of lines: the first refusal that applies, on the table's line.
-// If there is none, first_of and span_of hold what is kept of them.
-fn judge_others(
-    depth: &[u32],
-    kind: &[u32],
-    cols: &[u32],
-    rows: &[u32],
-    asked: usize,
-    room: usize,
-    wide: &mut [u32],
-    cell_rows: &mut [u32],
-    cell_end: &mut [u32],
-    left: &mut [u32],
-    hang_at: &mut [u32],
-    hang: &mut [u32],
-    next_left: &mut [u32],
-    next_at: &mut [u32],
-    next_wide: &mut [u32],
-    line: &mut [u32],
-    first: &mut [u32],
-    span: &mut [u32],
-    row_line: &mut [u32],
-    row_end: &mut [u32],
-    first_of: &mut [u32],
-    span_of: &mut [u32],
-) -> Verdict
-    requires { ⌜ Nests (now depth) (now kind) ⌝ }
-    requires { ⌜ Lined (now depth) (now cols) (now rows) ⌝ }
-    requires { ⌜ AllEnough room (now depth) (now cols) (now rows) ⌝ }
-    requires { ⌜ Room (length (now depth)) room (now wide) (now «cell_rows») (now «cell_end») (now left) (now «hang_at») (now hang) (now «next_left») (now «next_at») (now «next_wide»)
-        (now line) (now first) (now span) (now «row_line») (now «row_end») ⌝ }
-    requires { ⌜ (length (now depth) ≤ length (now «first_of»)) × (length (now depth) ≤ length (now «span_of»)) ⌝ }
-    ensures { λ r. ⌜ OthersJudged (now (depth .entry)) (now (kind .entry)) (now (cols .entry)) (now (rows .entry)) asked r (now («first_of» .exit)) (now («span_of» .exit)) ⌝ }
+// The table at the place `at`: its grid, and what is kept of it.
+fn keep_table(
+    lines: &[u32],
+    at: usize,
+    entries: &mut [u32],
+    rows: &mut [u32],
+    places: &mut [u32],
+) -> Judged
+    requires { ⌜ at < length (keptsOf (now lines)) ⌝ }
+    requires { ⌜ Lined (keptsOf (now lines)) ⌝ }
+    requires { ⌜ Roomy (keptsOf (now lines)) (length (entriesOf (now entries))) (length (rowsOf (now rows))) (length (placesOf (now places))) ⌝ }
+    ensures { λ r. ⌜ TableKept (heldRows (keptsOf (now (lines .entry))) at) at r (placesOf (now (places .entry))) (placesOf (now (places .exit))) ⌝ }
 {
+    let judged = gridding::make(lines, at, entries, rows);
+    keep_grid(judged, at, entries, places);
+    judged
+}
+
+// Judges each table of a sheet; each grid is made in the same records.
+fn judge_in(lines: &[u32], entries: &mut [u32], rows: &mut [u32], places: &mut [u32]) -> Verdict
+    requires { ⌜ Lined (keptsOf (now lines)) ⌝ }
+    requires { ⌜ Nests (keptsOf (now lines)) ⌝ }
+    requires { ⌜ Roomy (keptsOf (now lines)) (length (entriesOf (now entries))) (length (rowsOf (now rows))) (length (placesOf (now places))) ⌝ }
+    ensures { λ r. ⌜ TablesJudged (keptsOf (now (lines .entry))) r (placesOf (now (places .exit))) ⌝ }
+{
+    let n = records::count(lines);
     let mut t = 0;
-    while t < kind.len() {
-        if is_other(kind[t], t, asked) {
-            let number = keep_table(
-                depth,
-                cols,
-                rows,
-                t,
-                room,
-                wide,
-                cell_rows,
-                cell_end,
-                left,
-                hang_at,
-                hang,
-                next_left,
-                next_at,
-                next_wide,
-                line,
-                first,
-                span,
-                row_line,
-                row_end,
-                first_of,
-                span_of,
-            );
-            if number != 0 {
-                return Verdict::Refused {
-                    number,
-                    line: (t + 1) as u32,
-                };
+    while t < n {
+        let here = records::kept_at(lines, t);
+        if here.kind == line::kinds::TABLE {
+            let judged = keep_table(lines, t, entries, rows, places);
+            match judged {
+                Judged::Refused(number) => {
+                    return Verdict::Refused {
+                        number,
+                        line: (t + 1) as u32,
+                    };
+                }
+                Judged::Grid {
+                    rows: r,
+                    entries: e,
+                    columns: c,
+                } => {
+                    t += 1;
+                }
             }
-            t += 1;
         } else {
             t += 1;
         }
@@ -208,116 +126,78 @@ fn judge_others(
     Verdict::Accepted
 }
 
-// The earlier of two refusals: of the other tables, and of the one in a line, whose number is 0 if there is none.
-fn earlier(others: Verdict, number: u32, line: u32) -> Verdict
-    ensures { λ r. ⌜ r ≡ earlierOf others number line ⌝ }
+// Whether short arrays do for the tables of a sheet: there are at most so many lines, and the cells ask for at most as many rows.
+pub fn is_sparse(lines: &[u32], most: u32) -> bool
+    ensures { λ r. ⌜ (r ≡ true → Sparse most (keptsOf (now (lines .entry)))) ⌝ }
 {
-    if number == 0 {
-        return others;
+    let n = records::count(lines);
+    if n > most as usize {
+        return false;
     }
-    match others {
-        Verdict::Accepted => Verdict::Refused { number, line },
-        Verdict::Refused {
-            number: other,
-            line: at,
-        } => {
-            if at < line {
-                return Verdict::Refused {
-                    number: other,
-                    line: at,
-                };
-            }
-            Verdict::Refused { number, line }
+    let mut left = most;
+    let mut i = 0;
+    while i < n {
+        let here = records::kept_at(lines, i);
+        if here.rows > left {
+            return false;
         }
+        left -= here.rows;
+        i += 1;
     }
+    true
 }
 
-// Judges each table of a sheet: of all refusals that apply the one on the first line, on the table's line. If there is none, first_of and
-// span_of hold the first column and the span of each cell at its line's place, and the rows and columns of each table at its own. The table
-// at the place `asked`, if there is a line, is judged last, so that the slices from line to row_end hold its grid.
-pub fn judge_tables(
-    depth: &[u32],
-    kind: &[u32],
-    cols: &[u32],
-    rows: &[u32],
-    asked: usize,
-    room: usize,
-    wide: &mut [u32],
-    cell_rows: &mut [u32],
-    cell_end: &mut [u32],
-    left: &mut [u32],
-    hang_at: &mut [u32],
-    hang: &mut [u32],
-    next_left: &mut [u32],
-    next_at: &mut [u32],
-    next_wide: &mut [u32],
-    line: &mut [u32],
-    first: &mut [u32],
-    span: &mut [u32],
-    row_line: &mut [u32],
-    row_end: &mut [u32],
-    first_of: &mut [u32],
-    span_of: &mut [u32],
-) -> Verdict
-    requires { ⌜ Nests (now depth) (now kind) ⌝ }
-    requires { ⌜ Lined (now depth) (now cols) (now rows) ⌝ }
-    requires { ⌜ AllEnough room (now depth) (now cols) (now rows) ⌝ }
-    requires { ⌜ Room (length (now depth)) room (now wide) (now «cell_rows») (now «cell_end») (now left) (now «hang_at») (now hang) (now «next_left») (now «next_at») (now «next_wide»)
-        (now line) (now first) (now span) (now «row_line») (now «row_end») ⌝ }
-    requires { ⌜ (length (now depth) ≤ length (now «first_of»)) × (length (now depth) ≤ length (now «span_of»)) ⌝ }
-    requires { ⌜ (asked < length (now kind) → getD (now kind) asked 0 ≡ tableKind) ⌝ }
-    ensures { λ r. ⌜ TablesJudged (now (depth .entry)) (now (kind .entry)) (now (cols .entry)) (now (rows .entry)) asked r (now («first_of» .exit)) (now («span_of» .exit))
-        (now (line .exit)) (now (first .exit)) (now (span .exit)) (now («row_line» .exit)) (now («row_end» .exit)) ⌝ }
+// Judges each table of a sheet, of which there are few lines.
+fn judge_few(lines: &[u32], places: &mut [u32]) -> Verdict
+    requires { ⌜ Lined (keptsOf (now lines)) ⌝ }
+    requires { ⌜ Nests (keptsOf (now lines)) ⌝ }
+    requires { ⌜ length (keptsOf (now lines)) ≤ length (placesOf (now places)) ⌝ }
+    requires { ⌜ Sparse 128 (keptsOf (now lines)) ⌝ }
+    ensures { λ r. ⌜ TablesJudged (keptsOf (now (lines .entry))) r (placesOf (now (places .exit))) ⌝ }
 {
-    let others = judge_others(
-        depth,
-        kind,
-        cols,
-        rows,
-        asked,
-        room,
-        wide,
-        cell_rows,
-        cell_end,
-        left,
-        hang_at,
-        hang,
-        next_left,
-        next_at,
-        next_wide,
-        line,
-        first,
-        span,
-        row_line,
-        row_end,
-        first_of,
-        span_of,
-    );
-    if asked >= kind.len() {
-        return others;
+    let mut entries = [0u32; FEW_ENTRIES];
+    let mut rows = [0u32; FEW_ROWS];
+    judge_in(lines, &mut entries, &mut rows, places)
+}
+
+// Judges each table of a sheet, of which there are some.
+fn judge_some(lines: &[u32], places: &mut [u32]) -> Verdict
+    requires { ⌜ Lined (keptsOf (now lines)) ⌝ }
+    requires { ⌜ Nests (keptsOf (now lines)) ⌝ }
+    requires { ⌜ length (keptsOf (now lines)) ≤ length (placesOf (now places)) ⌝ }
+    requires { ⌜ Sparse 512 (keptsOf (now lines)) ⌝ }
+    ensures { λ r. ⌜ TablesJudged (keptsOf (now (lines .entry))) r (placesOf (now (places .exit))) ⌝ }
+{
+    let mut entries = [0u32; SOME_ENTRIES];
+    let mut rows = [0u32; SOME_ROWS];
+    judge_in(lines, &mut entries, &mut rows, places)
+}
+
+// Judges each table of a sheet, however many lines there are.
+fn judge_many(lines: &[u32], places: &mut [u32]) -> Verdict
+    requires { ⌜ Lined (keptsOf (now lines)) ⌝ }
+    requires { ⌜ Nests (keptsOf (now lines)) ⌝ }
+    requires { ⌜ length (keptsOf (now lines)) ≤ length (placesOf (now places)) ⌝ }
+    ensures { λ r. ⌜ TablesJudged (keptsOf (now (lines .entry))) r (placesOf (now (places .exit))) ⌝ }
+{
+    let mut entries = [0u32; MOST_ENTRIES];
+    let mut rows = [0u32; MOST_ROWS];
+    judge_in(lines, &mut entries, &mut rows, places)
+}
+
+// Judges each table of a sheet, in the order of lines: the first refusal that applies, on the table's line. If there is none, the place of each
+// cell's line holds its first column and its span, and that of each table's line its rows and columns.
+pub fn judge_tables(lines: &[u32], places: &mut [u32]) -> Verdict
+    requires { ⌜ Lined (keptsOf (now lines)) ⌝ }
+    requires { ⌜ Nests (keptsOf (now lines)) ⌝ }
+    requires { ⌜ length (keptsOf (now lines)) ≤ length (placesOf (now places)) ⌝ }
+    ensures { λ r. ⌜ TablesJudged (keptsOf (now (lines .entry))) r (placesOf (now (places .exit))) ⌝ }
+{
+    if is_sparse(lines, 128) {
+        return judge_few(lines, places);
     }
-    let number = keep_table(
-        depth,
-        cols,
-        rows,
-        asked,
-        room,
-        wide,
-        cell_rows,
-        cell_end,
-        left,
-        hang_at,
-        hang,
-        next_left,
-        next_at,
-        next_wide,
-        line,
-        first,
-        span,
-        row_line,
-        row_end,
-        first_of,
-        span_of,
-    );
-    earlier(others, number, (asked + 1) as u32)
+    if is_sparse(lines, 512) {
+        return judge_some(lines, places);
+    }
+    judge_many(lines, places)
 }

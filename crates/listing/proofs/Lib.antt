@@ -1,2 +1,2 @@
--- Laws of the slices that the tables of a sheet are laid out in, one after the other.
-pub mod Lengths
+-- What the functions that lay out and list a sheet need of its tables and of the slices they are laid out in.
+pub mod Ready

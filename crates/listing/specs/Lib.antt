@@ -1,2 +1,3 @@
 -- The definitions that the contracts of this crate cite. Assumes nothing.
 pub mod Listing
+pub mod inner

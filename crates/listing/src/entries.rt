@@ -1,5 +1,5 @@
-// The entries of a grid, row by row, with two figures of each. What a call of `tables` left in the buffers is not trusted: each index is
-// tested against the buffer that it reads.
+// The entries of a grid, row by row, with two figures of each. The grid is given as records of its entries and rows. What a call left in the
+// buffers is not trusted: each index is tested against the buffer that it reads.
 ghost use Rattle.listing.specs.Listing.{Place};
 use super::lines::four;
 use super::lines::two;
@@ -10,7 +10,7 @@ fn entry(
     out: &mut [u8],
     at: usize,
     line: u32,
-    cell: &[u32],
+    entries: &[u32],
     start: &[u32],
     extent: &[u32],
     e: usize,
@@ -18,7 +18,7 @@ fn entry(
     requires { ⌜ Place (now out) at ⌝ }
     ensures { λ r. ⌜ Place (now (out .exit)) r ⌝ }
 {
-    if e >= cell.len() {
+    if e >= entries.len() / 3 {
         return at;
     }
     if e >= start.len() {
@@ -30,7 +30,8 @@ fn entry(
     if extent[e] == 0 {
         return at;
     }
-    four(out, at, line, cell[e], start[e], extent[e])
+    let shown = records::entry_at(entries, e);
+    four(out, at, line, shown.cell, start[e], extent[e])
 }
 
 // Puts the entries of one row, from a place of the buffers up to another.
@@ -38,7 +39,7 @@ fn row_entries(
     out: &mut [u8],
     at: usize,
     line: u32,
-    cell: &[u32],
+    entries: &[u32],
     start: &[u32],
     extent: &[u32],
     from: u32,
@@ -50,20 +51,19 @@ fn row_entries(
     let mut next = at;
     let mut e = from;
     while e < to {
-        next = entry(out, next, line, cell, start, extent, e as usize);
+        next = entry(out, next, line, entries, start, extent, e as usize);
         e += 1;
     }
     next
 }
 
-// Puts the entries of all rows: those of a row end where its row end says, and the next row's begin there.
+// Puts the entries of the first rows: those of a row end where its record says, and the next row's begin there.
 pub fn entries(
     out: &mut [u8],
     at: usize,
-    row: &[u32],
-    row_end: &[u32],
-    rows: u32,
-    cell: &[u32],
+    rows: &[u32],
+    count: usize,
+    entries: &[u32],
     start: &[u32],
     extent: &[u32],
 ) -> usize
@@ -72,18 +72,32 @@ pub fn entries(
 {
     let mut next = at;
     let mut from = 0u32;
-    let mut i = 0u32;
-    while i < rows {
-        let place = i as usize;
-        if place >= row.len() {
+    let mut i = 0;
+    while i < count {
+        if i >= rows.len() / 2 {
             return next;
         }
-        if place >= row_end.len() {
+        let row = records::row_at(rows, i);
+        next = row_entries(out, next, row.line, entries, start, extent, from, row.end);
+        from = row.end;
+        i += 1;
+    }
+    next
+}
+
+// Puts the line and the end of each of the first rows.
+pub fn row_ends(out: &mut [u8], at: usize, rows: &[u32], count: usize) -> usize
+    requires { ⌜ Place (now out) at ⌝ }
+    ensures { λ r. ⌜ Place (now (out .exit)) r ⌝ }
+{
+    let mut next = at;
+    let mut i = 0;
+    while i < count {
+        if i >= rows.len() / 2 {
             return next;
         }
-        let to = row_end[place];
-        next = row_entries(out, next, row[place], cell, start, extent, from, to);
-        from = to;
+        let row = records::row_at(rows, i);
+        next = two(out, next, row.line, row.end);
         i += 1;
     }
     next

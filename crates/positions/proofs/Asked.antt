@@ -10,17 +10,19 @@ use lib.Dec.{leb, eqb}
 use lib.ListN.{length, getD, drop}
 use Rattle.lists.specs.Lists.{sum}
 use Rattle.lists.proofs.Sum.{sum-append}
-use Rattle.line.specs.Fields.{Line}
+use Rattle.records.specs.Kept.{noKept}
+use Rattle.records.specs.declared.Kept.{Kept}
 use Rattle.cells.specs.Cells.{Cell, Frame, frame, bodiesOf, widest, resolveBody, resolved}
 use Rattle.cells.specs.Cells as cells
-use Rattle.cells.specs.Listed.{allCells, heldLines, heldRows}
+use Rattle.cells.specs.Listed.{allCells, heldRows}
 use Rattle.cells.proofs.Rows.{cells-append, kept-resolved}
 use Rattle.rows.specs.Row.{Item, itemOf, hangs, nexts}
 use Rattle.rows.proofs.Merging.{Merging, after, filler, free, before, merging}
-use Rattle.positions.specs.Positions.{lowered, leastLeft, originals, hangBelow, extras, originalRows, extraRows, allRows, entryCount}
-use Rattle.positions.proofs.Nexts.{nexts-induction}
-use Rattle.positions.proofs.Extra.{extraItems, extras-induction}
-use Rattle.positions.proofs.RowLists.{count-append}
+use Rattle.extras.specs.Extras.{lowered, leastLeft, extras, entryCount}
+use Rattle.positions.specs.Positions.{originals, hangBelow, originalRows, extraRows, allRows}
+use Rattle.extras.proofs.Nexts.{nexts-induction}
+use Rattle.extras.proofs.Extra.{extraItems, extras-induction}
+use Rattle.extras.proofs.RowLists.{count-append}
 use Rattle.positions.proofs.TableFacts.{entries}
 
 -- ---- what the entries of a row take from this row on: each the rows that are left to it, and one at least
@@ -114,14 +116,14 @@ resolved-asked (b ∷ bs) =
 abbrev frameAsked : Frame → ℕ
 frameAsked f = asked (f .cells) + asked (allCells (f .rows)) + bodiesAsked (f .bodies)
 
-abbrev rowsIn : List Line → ℕ
-rowsIn ls = sum (map (λ (l : Line). l .rows) ls)
+abbrev pub rowsIn : List Kept → ℕ
+rowsIn ls = sum (map (λ (l : Kept). l .rows) ls)
 
 cond-asked : (b : Bool) (f g : Frame) (n : ℕ) → frameAsked f ≤ n → frameAsked g ≤ n → frameAsked (cond b f g) ≤ n
 cond-asked true f g n p q = p
 cond-asked false f g n p q = q
 
-frame-asked : (d k : ℕ) (ls : List Line) → frameAsked (frame d k ls) ≤ rowsIn ls + length ls
+frame-asked : (d k : ℕ) (ls : List Kept) → frameAsked (frame d k ls) ≤ rowsIn ls + length ls
 unfolding frame allCells sum
 frame-asked d k [] = omega arith
 frame-asked d k (l ∷ ls) =
@@ -135,31 +137,21 @@ frame-asked d k (l ∷ ls) =
 
 -- ---- the sheet's lines
 
+-- no table has more entries than the rows of the lines after its own together and one for each of them
+pub held-after : (ks : List Kept) (at : ℕ) → entryCount (allRows (heldRows ks at)) ≤ rowsIn (drop (at + 1) ks) + length (drop (at + 1) ks)
+unfolding heldRows
+held-after ks at =
+    let d = getD ks at noKept .depth in
+    let bs = bodiesOf d (at + 1) (drop (at + 1) ks) in
+    omega (arith, rows-asked (resolved bs), resolved-asked bs, frame-asked d (suc (at + 1)) (drop (at + 1) ks))
+
 -- those from a line on
-rest-asked : (n : ℕ) (ls : List Line) → rowsIn (drop n ls) + length (drop n ls) ≤ rowsIn ls + length ls
+rest-asked : (n : ℕ) (ls : List Kept) → rowsIn (drop n ls) + length (drop n ls) ≤ rowsIn ls + length ls
 unfolding sum
 rest-asked zero ls = omega arith
 rest-asked (suc n) [] = omega arith
 rest-asked (suc n) (l ∷ ls) = omega (arith, rest-asked n ls)
 
--- those of the slices; where `rows` is too short, a line's rows are 0
-held-asked : (ds cs rs : List ℕ) → rowsIn (heldLines ds cs rs) + length (heldLines ds cs rs) ≤ sum rs + length ds
-unfolding heldLines sum
-held-asked [] cs rs = omega arith
-held-asked (d ∷ ds) cs [] = omega (arith, held-asked ds (drop 1 cs) [])
-held-asked (d ∷ ds) cs (r ∷ rs) = omega (arith, held-asked ds (drop 1 cs) rs)
-
--- no table of a sheet has more entries than the rows of its lines together and one for each line
-pub held-entries : (depth cols rows : List ℕ) (at : ℕ) → entryCount (allRows (heldRows depth cols rows at)) ≤ sum rows + length depth
-unfolding heldRows
-held-entries depth cols rows at =
-    let ls = drop (at + 1) (heldLines depth cols rows) in
-    let bs = bodiesOf (getD depth at 0) (at + 1) ls in
-    omega (
-      arith,
-      rows-asked (resolved bs),
-      resolved-asked bs,
-      frame-asked (getD depth at 0) (suc (at + 1)) ls,
-      rest-asked (at + 1) (heldLines depth cols rows),
-      held-asked depth cols rows,
-    )
+-- so no table of a sheet has more than the rows of its lines together and one for each line
+pub held-entries : (ks : List Kept) (at : ℕ) → entryCount (allRows (heldRows ks at)) ≤ rowsIn ks + length ks
+held-entries ks at = omega (arith, held-after ks at, rest-asked (at + 1) ks)

@@ -4,8 +4,7 @@ use mathlib.Core.List.{List}
 use Prim.Native.Nat.{ℕ, zero, suc, _-_, _/_, _^_, _≤_, _<_}
 use native.Mathlib.Omega.{arith}
 use lib.ListN.{length, length-append}
-use Rattle.io.specs.Digits.{Fewest}
-use Rattle.io.specs.Digits.{digits as lastDigits}
+use Rattle.io.specs.Digits.{Fewest, digits as lastDigits}
 use Rattle.text.specs.Decimal.{digits}
 use Rattle.text.proofs.Digits.{digits-less, digits-at, digits-le, digits-pos}
 use Rattle.printing.specs.Printing.{decimal, Put, PutWithin}

@@ -106,7 +106,7 @@ fn case_listed(out: &mut [u8], at: usize, number: u32, case: &[u8]) -> usize
     let at_number = lines::words(out, at, b"case ");
     let at_feed = lines::number(out, at_number, number);
     let next = lines::words(out, at_feed, b"\n");
-    listing::answers(out, next, case)
+    answering::answers(out, next, case)
 }
 
 // Puts what is listed of each case, up to the end of the input or the first malformed frame.

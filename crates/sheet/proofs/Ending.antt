@@ -3,20 +3,22 @@ use mathlib.Core.Path.{_≡_, refl, sym, ap, ap₂, _∙_}
 use mathlib.Core.Bool.{Bool, true, false, _||_}
 use mathlib.Core.List.{List, [], _∷_, map}
 use Prim.Native.Nat.{ℕ, zero, suc, _+_, _≤_, _<_}
-use native.Mathlib.Nat.{le-of-suc-le-suc, not-suc-le-zero}
 use native.Mathlib.Numerals.{add-one}
 use native.Mathlib.Omega.{arith}
 use native.Mathlib.Decide.{decLt}
 use lib.Dec.{leb}
-use lib.ListN.{length, getD, drop, drop-of-length-le, length-map}
+use lib.ListN.{length, getD, drop, drop-of-length-le, length-map, List·getD-map}
 use lib.Seq.{drop-cons}
 use borrow.Author.Tests.{le-leb, lt-leb}
 use Rattle.lists.specs.Refusals.{Check, check, first}
+use Rattle.records.specs.Kept.{noKept, keptCount, keptsOf}
+use Rattle.records.proofs.Kepts.{length-kepts}
+use Rattle.records.specs.declared.Kept.{Kept}
 use Rattle.line.specs.Fields.{Line, noLine}
 use Rattle.sheet.specs.Nesting.{childless, leftEmpty, depthAt, kindAt}
 use Rattle.sheet.specs.Sheet.{emptyChecks}
-use Rattle.sheet.specs.Reading.{depthOf, kindOfLine}
-use Rattle.sheet.specs.Steps.{emptyAt, endOf, bare}
+use Rattle.sheet.specs.Reading.{keptOf}
+use Rattle.sheet.specs.Steps.{emptyAt, lineEnd, bareLine, bare}
 use Rattle.sheet.specs.declared.Reading.the-variants.{Lines, Refused}
 
 -- the line at a place is left empty by what stands at the next place
@@ -33,66 +35,51 @@ module _ (ls : List Line) (i : ℕ) where
       at (yes h) = rw (drop-cons ls (i + 1) noLine h, lt-leb (length ls) (i + 1) h)
       at (no h) = rw (drop-of-length-le ls {i = i + 1} (omega arith), le-leb (length ls) (i + 1) (omega arith))
 
--- lines of which only depth and kind are known
-
-pub bare-length : (depths kinds : List ℕ) → length (bare depths kinds) ≡ length depths
-unfolding bare
-bare-length [] kinds = refl
-bare-length (d ∷ depths) kinds = ap suc (bare-length depths (drop 1 kinds))
-
-pub bare-depth : (depths kinds : List ℕ) (i : ℕ) → depthAt (bare depths kinds) i ≡ getD depths i 0
-unfolding bare
-bare-depth [] kinds i = refl
-bare-depth (d ∷ depths) kinds zero = refl
-bare-depth (d ∷ depths) kinds (suc i) = bare-depth depths (drop 1 kinds) i
-
-pub bare-kind : (depths kinds : List ℕ) (i : ℕ) → i < length depths → kindAt (bare depths kinds) i ≡ getD kinds i 0
-unfolding bare
-bare-kind [] kinds i h = absurd (not-suc-le-zero h)
-bare-kind (d ∷ depths) kinds zero h = refl
-bare-kind (d ∷ depths) [] (suc i) h = bare-kind depths [] i (le-of-suc-le-suc h)
-bare-kind (d ∷ depths) (k ∷ kinds) (suc i) h = bare-kind depths kinds i (le-of-suc-le-suc h)
-
-pub bare-empty : (depths kinds : List ℕ) (i : ℕ) → i < length depths → emptyAt depths kinds i ≡ leftEmptyAt (bare depths kinds) i
-unfolding emptyAt
-bare-empty depths kinds i h =
-    rw (childless-at (bare depths kinds) i, bare-length depths kinds, bare-depth depths kinds (i + 1), bare-depth depths kinds i, bare-kind depths kinds i h)
-
 -- no more than depth and kind is asked
 
-bare-checks : (k : ℕ) (ls : List Line) → emptyChecks k (bare (map depthOf ls) (map kindOfLine ls)) ≡ emptyChecks k ls
-unfolding emptyChecks bare childless
+pub bare-length : (xs : List ℕ) → length (bare (keptsOf xs)) ≡ keptCount xs
+bare-length xs = length-map (keptsOf xs) bareLine ∙ length-kepts xs
+
+pub bare-empty : (ks : List Kept) (i : ℕ) → emptyAt ks i ≡ leftEmptyAt (bare ks) i
+unfolding emptyAt
+bare-empty ks i =
+    let at : (j : ℕ) → getD (bare ks) j noLine ≡ bareLine (getD ks j noKept) = λ j. List·getD-map bareLine ks j noKept in
+    let d : (j : ℕ) → depthAt (bare ks) j ≡ getD ks j noKept .depth = λ j. ap (λ (l : Line). l .depth) (at j) in
+    rw (childless-at (bare ks) i, length-map ks bareLine, d (i + 1), d i, ap (λ (l : Line). l .kind) (at i))
+
+bare-checks : (k : ℕ) (ls : List Line) → emptyChecks k (bare (map keptOf ls)) ≡ emptyChecks k ls
+unfolding emptyChecks childless
 bare-checks k [] = refl
 bare-checks k (l ∷ []) = refl
 bare-checks k (l ∷ m ∷ ls) = ap (λ (cs : List Check). check (leftEmpty l (m ∷ ls)) 4 k ∷ cs) (bare-checks (suc k) (m ∷ ls))
 
-pub bare-end : (ls : List Line) → endOf (bare (map depthOf ls) (map kindOfLine ls)) ≡ endOf ls
-unfolding endOf bare
+pub bare-end : (ls : List Line) → lineEnd (bare (map keptOf ls)) ≡ lineEnd ls
+unfolding lineEnd
 bare-end [] = refl
 bare-end (l ∷ ls) =
     ap₂ (λ (m : ℕ) (cs : List Check). first Refused (Lines m) (check false 4 0 ∷ cs))
-    (bare-length (map depthOf (l ∷ ls)) (map kindOfLine (l ∷ ls)) ∙ length-map (l ∷ ls) depthOf)
+    (length-map (map keptOf (l ∷ ls)) bareLine ∙ length-map (l ∷ ls) keptOf)
     (bare-checks 1 (l ∷ ls))
 
 -- asked from a place on
 
 module _ (ls : List Line) where
   unfoldable pub EndsFrom : ℕ → Type 0
-  EndsFrom i = endOf ls ≡ first Refused (Lines (length ls)) (emptyChecks (suc i) (drop i ls))
+  EndsFrom i = lineEnd ls ≡ first Refused (Lines (length ls)) (emptyChecks (suc i) (drop i ls))
 
-  pub ends-none : length ls ≡ 0 → Refused 4 0 ≡ endOf ls
-  unfolding endOf first
+  pub ends-none : length ls ≡ 0 → Refused 4 0 ≡ lineEnd ls
+  unfolding lineEnd first
   ends-none e = at ls e
     where
-      at : (ms : List Line) → length ms ≡ 0 → Refused 4 0 ≡ endOf ms
+      at : (ms : List Line) → length ms ≡ 0 → Refused 4 0 ≡ lineEnd ms
       at [] e = refl
       at (m ∷ ms) e = absurd (omega arith)
 
   pub ends-start : 0 < length ls → EndsFrom 0
-  unfolding EndsFrom endOf first
+  unfolding EndsFrom lineEnd first
   ends-start h = at ls h
     where
-      at : (ms : List Line) → 0 < length ms → endOf ms ≡ first Refused (Lines (length ms)) (emptyChecks 1 ms)
+      at : (ms : List Line) → 0 < length ms → lineEnd ms ≡ first Refused (Lines (length ms)) (emptyChecks 1 ms)
       at [] h = absurd (omega arith)
       at (m ∷ ms) h = refl
 
@@ -101,10 +88,10 @@ module _ (ls : List Line) where
     unfolding EndsFrom emptyChecks first
     ends-more e = f ∙ rw (add-one i, drop-cons ls i noLine h, (rw (add-one i) at e))
 
-    pub ends-at : leftEmptyAt ls i ≡ true → Refused 4 (i + 1) ≡ endOf ls
+    pub ends-at : leftEmptyAt ls i ≡ true → Refused 4 (i + 1) ≡ lineEnd ls
     unfolding EndsFrom emptyChecks first
     ends-at e = sym (f ∙ rw (add-one i, drop-cons ls i noLine h, (rw (add-one i) at e)))
 
-  pub ends-all : (i : ℕ) → length ls ≤ i → EndsFrom i → Lines (length ls) ≡ endOf ls
+  pub ends-all : (i : ℕ) → length ls ≤ i → EndsFrom i → Lines (length ls) ≡ lineEnd ls
   unfolding EndsFrom emptyChecks first
   ends-all i h f = sym (f ∙ rw (drop-of-length-le ls h))

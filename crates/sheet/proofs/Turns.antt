@@ -5,13 +5,13 @@ use mathlib.Core.List.{List, [], _∷_, _++_, map}
 use Prim.Native.Nat.{ℕ, suc, _+_, _-_, _≤_, _<_}
 use native.Mathlib.Numerals.{add-one}
 use native.Mathlib.Omega.{arith}
-use lib.ListN.{length, getD, take, drop, set, replicate, length-map}
-use lib.Seq.{take-all, length-take-le}
+use lib.ListN.{length, getD, take, drop, set, replicate}
+use lib.Seq.{take-all}
 use borrow.Author.Tests.{le-ltb}
 use Rattle.lists.specs.Limits.{maxBytes, maxFeeds, maxDepth}
-use Rattle.lists.specs.Lists.{over}
 use Rattle.lists.specs.Refusals.{first}
-use Rattle.lists.proofs.Over.{over-front}
+use Rattle.records.specs.Kept.{keptsOf, keptCount}
+use Rattle.records.proofs.Kepts.{length-kepts}
 use Rattle.line.specs.Lines.{Piece, feeds, pieces, headed, nodePieces, headingBytes}
 use Rattle.line.specs.Fields.{Line, noLine, Read, readLine, isUnread, hasBadByte, orNone}
 use Rattle.line.specs.LineAt.{pieceAt, nodeOf, lineIn, lineAt}
@@ -22,8 +22,8 @@ use Rattle.line.specs.declared.LineRead.{LineRead}
 use Rattle.line.specs.declared.LineRead.the-variants.{Good, BadFields, BadByte}
 use Rattle.sheet.specs.Nesting.{misplaced}
 use Rattle.sheet.specs.Sheet.{linesChecks, linesOf, sheetLines, sheetChecks}
-use Rattle.sheet.specs.Reading.{readingOf, Slices, Room, Stored, depthOf, kindOfLine}
-use Rattle.sheet.specs.Steps.{breaksNesting, judgementOf, Put, endChecks, endOf, bare, Begun}
+use Rattle.sheet.specs.Reading.{readingOf, keptOf}
+use Rattle.sheet.specs.Steps.{breaksNesting, judgementOf, figuresOf, endChecks, lineEnd, bare, Begun}
 use Rattle.sheet.specs.declared.Reading.{Reading}
 use Rattle.sheet.specs.declared.Reading.the-variants.{Lines, Refused}
 use Rattle.sheet.specs.declared.Judgement.the-variants.{Sound, Faulty}
@@ -32,10 +32,10 @@ use Rattle.sheet.proofs.Earlier.{earlier, drop-here, drop-none, lines-d
 use Rattle.sheet.proofs.Chain.{Linked, linked-none, linked-more, linked-told}
 use Rattle.sheet.proofs.Ending.{bare-end}
 use Rattle.sheet.proofs.Ranges.{piece-ranged}
-use Rattle.sheet.proofs.Storing.{SameLengths, lengths-start, lengths-put, Figures, stored-none, stored-more}
+use Rattle.sheet.proofs.Storing.{stored-more}
 
--- after n lines, of the sheet s, at the place where the next one starts; a are the slices before the loop, b those now
-pub record ReadingLoop (s : List ℕ) (a b : Slices) (chain : List ℕ) (previous at n : ℕ) : Type 0 where
+-- after n lines, of the sheet s, at the place where the next one starts; the slice is a before the loop, and b now
+pub record ReadingLoop (s : List ℕ) (a b : List ℕ) (chain : List ℕ) (previous at n : ℕ) : Type 0 where
   pub within : at ≤ length s
   pub place : pieces (drop at s) ≡ drop n (nodePieces s)
   pub count : n ≤ length (sheetLines s)
@@ -44,10 +44,10 @@ pub record ReadingLoop (s : List ℕ) (a b : Slices) (chain : List ℕ) (previou
   pub answer : readingOf s
       ≡ first Refused (Lines (length (sheetLines s)))
       (linesChecks (suc n) (earlier n (sheetLines s)) (drop n (nodePieces s)) ++ endChecks (sheetLines s))
-  pub stored : Stored s (take n (sheetLines s)) a b
-  pub lengths : SameLengths a b
+  pub stored : take n (keptsOf b) ≡ map keptOf (take n (sheetLines s))
+  pub same : length b ≡ length a
 
-pub turns-start : (s : List ℕ) (a : Slices) → Begun s → ReadingLoop s a a (replicate 64 0) 0 headingBytes 0
+pub turns-start : (s a : List ℕ) → Begun s → ReadingLoop s a a (replicate 64 0) 0 headingBytes 0
 unfolding earlier readingOf sheetChecks first
 turns-start s a g = record {
   within = heading-long s (g .headed);
@@ -56,8 +56,8 @@ turns-start s a g = record {
   few = omega (arith, heading-feeds s (g .headed));
   linked = linked-none;
   answer = start;
-  stored = stored-none s a;
-  lengths = lengths-start a;
+  stored = refl;
+  same = refl;
 }
   where
     start : readingOf s ≡ first Refused (Lines (length (sheetLines s))) (linesChecks 1 [] (nodePieces s) ++ endChecks (sheetLines s))
@@ -107,7 +107,7 @@ told-line true y w v e = let z : _≡_ {A = ℕ} 0 1 = cc in absurd (omega arith
 told-line false true w v e = let z : _≡_ {A = ℕ} 0 1 = cc in absurd (omega arith)
 told-line false false w v e = (refl, refl, cc)
 
-module _ {s : List ℕ} {a b : Slices} {chain : List ℕ} {previous at n : ℕ} (t : ReadingLoop s a b chain previous at n) (h : at < length s) where
+module _ {s a b chain : List ℕ} {previous at n : ℕ} (t : ReadingLoop s a b chain previous at n) (h : at < length s) where
   here : Line
   here = orNone (readLine (pieceAt s at))
 
@@ -148,15 +148,7 @@ module _ {s : List ℕ} {a b : Slices} {chain : List ℕ} {previous at n : ℕ} 
   earlier-here = rw (add-one n, line-here .1)
 
   module _ (good : lineAt s at ≡ Good (nodeOf at (pieceAt s at) here)) (fits : breaksNesting chain n previous (here .depth) (here .kind) ≡ false)
-      (c : Slices) (r : Room (n + 1) a) (p : Put n (nodeOf at (pieceAt s at) here) b c) where
-    figures : Figures s (getD (sheetLines s) n noLine) (nodeOf at (pieceAt s at) here)
-    unfolding here
-    figures =
-        let g = good-line s at (nodeOf at (pieceAt s at) here) good in
-        let text = sym (g .text) ∙ ap (λ (r : Read). orNone r .text) (sym (g .read)) in
-        rw (line-here .1)
-        (record { depth = refl; kind = refl; number = refl; cols = refl; rows = refl; own = refl; text = text })
-
+      (c : List ℕ) (r : n < keptCount a) (same : length c ≡ length b) (p : keptsOf c ≡ set (keptsOf b) n (keptOf here)) where
     more : ReadingLoop s a c (set chain (here .depth) (here .kind)) (here .depth) (at + length (pieceAt s at .bytes) + 1) (n + 1)
     unfolding here after lineAt lineIn
     more =
@@ -169,8 +161,9 @@ module _ {s : List ℕ} {a b : Slices} {chain : List ℕ} {previous at n : ℕ} 
           few = omega (arith, feeds-at s at (g .ended), t .few);
           linked = rw earlier-here (linked-more (t .linked) here (piece-ranged (pieceAt s at) .0 .deep));
           answer = asked ∙ rw (u, y, sym broken ∙ fits, earlier-here, ← drop-here (pieceAt s at) (nodePieces s) n (pieceAt s at) after rest .2, add-one n);
-          stored = stored-more (sheetLines s) n (t .stored) (line-here .0) (t .lengths) r p figures;
-          lengths = lengths-put (t .lengths) p;
+          stored =
+              stored-more (sheetLines s) n (keptOf here) (keptsOf b) (keptsOf c) (t .stored) (line-here .0) (omega (arith, length-kepts b, t .same)) p (ap keptOf (sym (line-here .1)));
+          same = same ∙ t .same;
         }
 
   -- a sound line is the one that stands at the place
@@ -191,30 +184,27 @@ module _ {s : List ℕ} {a b : Slices} {chain : List ℕ} {previous at n : ℕ} 
       let w = good-line s at (nodeOf at (pieceAt s at) here) g in
       record { deep = piece-ranged (pieceAt s at) .0 .deep; ordered = omega arith; ahead = omega arith; ends = omega (arith, w .inside); few = omega (arith, feeds-at s at (w .ended), t .few) })
 
-  pub turns-more : (v : Node) (c : Slices) → judgementOf chain n previous (lineAt s at) ≡ Sound v → Room (n + 1) a → Put n v b c
-      → ReadingLoop s a c (set chain (v .depth) (v .kind)) (v .depth) (v .next) (n + 1)
-  turns-more v c e r p =
-      as-read v (λ (w : Node). Put n w b c → ReadingLoop s a c (set chain (w .depth) (w .kind)) (w .depth) (w .next) (n + 1)) e
-      (λ g f p. more g f c r p) p
+  pub turns-more : (v : Node) (c : List ℕ) → judgementOf chain n previous (lineAt s at) ≡ Sound v → n < keptCount a → length c ≡ length b
+      → keptsOf c ≡ set (keptsOf b) n (figuresOf v) → ReadingLoop s a c (set chain (v .depth) (v .kind)) (v .depth) (v .next) (n + 1)
+  unfolding here
+  turns-more v c e r m p =
+      as-read v (λ (w : Node). keptsOf c ≡ set (keptsOf b) n (figuresOf w) → ReadingLoop s a c (set chain (w .depth) (w .kind)) (w .depth) (w .next) (n + 1)) e
+      (λ g f p. more g f c r m p) p
 
-module _ {s : List ℕ} {a b : Slices} {chain : List ℕ} {previous at n : ℕ} (t : ReadingLoop s a b chain previous at n) (h : length s ≤ at) where
+module _ {s a b chain : List ℕ} {previous at n : ℕ} (t : ReadingLoop s a b chain previous at n) (h : length s ≤ at) where
   none : drop n (nodePieces s) ≡ []
   none = sym (t .place) ∙ pieces-end s at h
 
-  all : take n (sheetLines s) ≡ sheetLines s
+  count : n ≡ length (sheetLines s)
   unfolding sheetLines
-  all = take-all n (sheetLines s) (omega (arith, lines-length (nodePieces s), drop-none (nodePieces s) n none))
+  count = omega (arith, lines-length (nodePieces s), drop-none (nodePieces s) n none, t .count)
 
-  kept : (f : Line → ℕ) (x y : List ℕ) → y ≡ over (map f (take n (sheetLines s))) x → take n y ≡ map f (sheetLines s)
-  kept f x y e =
-      let m : length (map f (take n (sheetLines s))) ≡ n = length-map (take n (sheetLines s)) f ∙ length-take-le n (sheetLines s) (t .count) in
-      rw e (ap (λ (k : ℕ). take k (over (map f (take n (sheetLines s))) x)) (sym m) ∙ over-front (map f (take n (sheetLines s))) x ∙ ap (map f) all)
+  stored : take n (keptsOf b) ≡ map keptOf (sheetLines s)
+  stored = rw (take-all n (sheetLines s) (omega (arith, count))) at (t .stored)
 
-  pub turns-end : endOf (bare (take n (b .depth)) (take n (b .kind))) ≡ readingOf s
-  unfolding linesChecks endOf
-  turns-end =
-      rw (kept depthOf (a .depth) (b .depth) (t .stored .depth), kept kindOfLine (a .kind) (b .kind) (t .stored .kind))
-      (bare-end (sheetLines s) ∙ sym (t .answer ∙ rw none))
+  pub turns-stored : (m : ℕ) → m ≡ length (sheetLines s) → take m (keptsOf b) ≡ map keptOf (sheetLines s)
+  turns-stored m e = rw (e ∙ sym count) stored
 
-  pub turns-stored : Stored s (sheetLines s) a b
-  turns-stored = rw all at (t .stored)
+  pub turns-end : lineEnd (bare (take n (keptsOf b))) ≡ readingOf s
+  unfolding linesChecks lineEnd
+  turns-end = rw stored (bare-end (sheetLines s) ∙ sym (t .answer ∙ rw none))

@@ -1,18 +1,19 @@
 // The sheet reader: a whole sheet, line by line, into one slice for each figure.
-pub mod opening; // opening.rt: what is asked of a sheet before its lines
+pub mod front; // front.rt: what is asked of a sheet before its lines
 pub mod nesting; // nesting.rt: what may stand below what
 pub mod cursor; // cursor.rt: a record that holds the sheet and the current place
 
 ghost use mathlib.Core.Path.{_≡_};
-ghost use Prim.Native.Nat.{_+_, _≤_, _<_};
-ghost use lib.ListN.{length};
-ghost use Rattle.lists.specs.Limits.{maxBytes, maxLines, maxDepth};
+ghost use Prim.Native.Nat.{_≤_, _<_};
+ghost use Rattle.lists.specs.Limits.{maxLines, maxDepth};
+ghost use Rattle.records.specs.Kept.{keptsOf, keptCount};
 ghost use Rattle.text.specs.Bytes.{Classes};
 ghost use Rattle.line.specs.LineAt.{lineAt};
-ghost use Rattle.sheet.specs.Reading.{slices, Room, Reads};
-ghost use Rattle.sheet.specs.Steps.{AtLine, judgementOf, Put, emptyAt, endOf, bare, Begun, roomFor};
+ghost use Rattle.sheet.specs.Reading.{Reads};
+ghost use Rattle.sheet.specs.Steps.{AtLine, judgementOf, figuresOf, emptyAt, lineEnd, bare, Begun, roomFor};
 use line::LineRead;
 use line::Node;
+use records::Kept;
 
 // How many lines the sheet has, or why it is refused.
 pub enum Reading {
@@ -51,62 +52,49 @@ fn judge(
     }
 }
 
-// Keeps the figures of a line at place i.
-fn store(
-    depth: &mut [u32],
-    kind: &mut [u32],
-    number: &mut [u32],
-    cols: &mut [u32],
-    rows: &mut [u32],
-    own: &mut [u32],
-    from: &mut [u32],
-    to: &mut [u32],
-    i: usize,
-    node: Node,
-)
-    requires { ⌜ Room (i + 1) (slices (now depth) (now kind) (now number) (now cols) (now rows) (now own) (now from) (now to)) ⌝ }
-    requires { ⌜ node .from ≤ maxBytes ⌝ }
-    requires { ⌜ node .to ≤ maxBytes ⌝ }
-    ensures { λ _. ⌜ Put i node (slices (now (depth .entry)) (now (kind .entry)) (now (number .entry)) (now (cols .entry)) (now (rows .entry)) (now (own .entry)) (now (from .entry)) (now (to .entry))) (slices (now (depth .exit)) (now (kind .exit)) (now (number .exit)) (now (cols .exit)) (now (rows .exit)) (now (own .exit)) (now (from .exit)) (now (to .exit))) ⌝ }
+// What is kept of a line.
+fn figures(node: Node) -> Kept
+    ensures { λ r. ⌜ r ≡ figuresOf node ⌝ }
 {
-    depth[i] = node.depth;
-    kind[i] = node.kind;
-    number[i] = node.number;
-    cols[i] = node.cols;
-    rows[i] = node.rows;
-    own[i] = node.own;
-    from[i] = node.from as u32;
-    to[i] = node.to as u32;
+    Kept {
+        depth: node.depth,
+        kind: node.kind,
+        number: node.number,
+        cols: node.cols,
+        rows: node.rows,
+        own: node.own,
+    }
 }
 
 // Whether the line at place i is a table or a body without a child: no line one deeper follows it.
-fn left_empty_at(depth: &[u32], kind: &[u32], i: usize) -> bool
-    requires { ⌜ i < length (now depth) ⌝ }
-    requires { ⌜ i < length (now kind) ⌝ }
-    ensures { λ r. ⌜ r ≡ emptyAt (now (depth .entry)) (now (kind .entry)) i ⌝ }
+fn left_empty_at(lines: &[u32], i: usize) -> bool
+    requires { ⌜ i < keptCount (now lines) ⌝ }
+    ensures { λ r. ⌜ r ≡ emptyAt (keptsOf (now (lines .entry))) i ⌝ }
 {
-    if !nesting::needs_child(kind[i]) {
+    let here = records::kept_at(lines, i);
+    if !nesting::needs_child(here.kind) {
         return false;
     }
     let next = i + 1;
-    if next >= depth.len() {
+    if next >= records::count(lines) {
         return true;
     }
-    depth[next] <= depth[i]
+    let below = records::kept_at(lines, next);
+    below.depth <= here.depth
 }
 
-// What is asked after the lines, by their depths and kinds: 4 for no line, or for the first table or body left empty.
-fn finish(depth: &[u32], kind: &[u32]) -> Reading
-    requires { ⌜ length (now kind) ≡ length (now depth) ⌝ }
-    requires { ⌜ length (now depth) ≤ maxLines ⌝ }
-    ensures { λ r. ⌜ r ≡ endOf (bare (now (depth .entry)) (now (kind .entry))) ⌝ }
+// What is asked after the lines: 4 for no line, or for the first table or body left empty.
+fn finish(lines: &[u32]) -> Reading
+    requires { ⌜ keptCount (now lines) ≤ maxLines ⌝ }
+    ensures { λ r. ⌜ r ≡ lineEnd (bare (keptsOf (now (lines .entry)))) ⌝ }
 {
-    if depth.len() == 0 {
+    let n = records::count(lines);
+    if n == 0 {
         return Reading::Refused { number: 4, line: 0 };
     }
     let mut i = 0;
-    while i < depth.len() {
-        if left_empty_at(depth, kind, i) {
+    while i < n {
+        if left_empty_at(lines, i) {
             return Reading::Refused {
                 number: 4,
                 line: (i + 1) as u32,
@@ -114,31 +102,20 @@ fn finish(depth: &[u32], kind: &[u32]) -> Reading
         }
         i += 1;
     }
-    Reading::Lines(depth.len())
+    Reading::Lines(n)
 }
 
 // Reads the lines of a sheet that begins as it should.
-fn read_lines(
-    classes: &[u8],
-    bytes: &[u8],
-    depth: &mut [u32],
-    kind: &mut [u32],
-    number: &mut [u32],
-    cols: &mut [u32],
-    rows: &mut [u32],
-    own: &mut [u32],
-    from: &mut [u32],
-    to: &mut [u32],
-) -> Reading
+fn read_lines(classes: &[u8], bytes: &[u8], lines: &mut [u32]) -> Reading
     requires { ⌜ Classes (now classes) ⌝ }
     requires { ⌜ Begun (now bytes) ⌝ }
-    requires { ⌜ Room (roomFor (now bytes)) (slices (now depth) (now kind) (now number) (now cols) (now rows) (now own) (now from) (now to)) ⌝ }
-    ensures { λ r. ⌜ Reads (now (bytes .entry)) r (slices (now (depth .entry)) (now (kind .entry)) (now (number .entry)) (now (cols .entry)) (now (rows .entry)) (now (own .entry)) (now (from .entry)) (now (to .entry))) (slices (now (depth .exit)) (now (kind .exit)) (now (number .exit)) (now (cols .exit)) (now (rows .exit)) (now (own .exit)) (now (from .exit)) (now (to .exit))) ⌝ }
+    requires { ⌜ roomFor (now bytes) ≤ keptCount (now lines) ⌝ }
+    ensures { λ r. ⌜ Reads (now (bytes .entry)) r (now (lines .exit)) ⌝ }
 {
     // the kind of the last line of each depth from 0 to 63, which is all that the nesting of a line asks of those before it, and the last depth
     let mut chain = [0u32; 64];
     let mut previous: u32 = 0;
-    let mut at: usize = opening::HEADING_BYTES;
+    let mut at: usize = front::HEADING_BYTES;
     let mut n: usize = 0;
     while at < bytes.len() {
         match judge(classes, bytes, at, &chain, n, previous) {
@@ -153,47 +130,26 @@ fn read_lines(
                 let here = previous as usize;
                 chain[here] = node.kind;
                 at = node.next;
-                store(depth, kind, number, cols, rows, own, from, to, n, node);
+                records::keep_at(lines, n, figures(node));
                 n += 1;
             }
         }
     }
-    finish(&depth[..n], &kind[..n])
+    let end = records::WIDTH * n;
+    finish(&lines[..end])
 }
 
-// Reads a sheet: what each of its lines says, one slice for each figure, or the first refusal that applies. Place k holds line k + 1.
-pub fn read(
-    classes: &[u8],
-    bytes: &[u8],
-    depth: &mut [u32],
-    kind: &mut [u32],
-    number: &mut [u32],
-    cols: &mut [u32],
-    rows: &mut [u32],
-    own: &mut [u32],
-    from: &mut [u32],
-    to: &mut [u32],
-) -> Reading
+// Reads a sheet: what each of its lines says, a record for each, or the first refusal that applies. Record k is of line k + 1.
+pub fn read(classes: &[u8], bytes: &[u8], lines: &mut [u32]) -> Reading
     requires { ⌜ Classes (now classes) ⌝ }
-    requires { ⌜ Room (roomFor (now bytes)) (slices (now depth) (now kind) (now number) (now cols) (now rows) (now own) (now from) (now to)) ⌝ }
-    ensures { λ r. ⌜ Reads (now (bytes .entry)) r (slices (now (depth .entry)) (now (kind .entry)) (now (number .entry)) (now (cols .entry)) (now (rows .entry)) (now (own .entry)) (now (from .entry)) (now (to .entry))) (slices (now (depth .exit)) (now (kind .exit)) (now (number .exit)) (now (cols .exit)) (now (rows .exit)) (now (own .exit)) (now (from .exit)) (now (to .exit))) ⌝ }
+    requires { ⌜ roomFor (now bytes) ≤ keptCount (now lines) ⌝ }
+    ensures { λ r. ⌜ Reads (now (bytes .entry)) r (now (lines .exit)) ⌝ }
 {
-    if opening::too_long(bytes) {
+    if front::too_long(bytes) {
         return Reading::Refused { number: 8, line: 0 };
     }
-    if !opening::is_headed(bytes) {
+    if !front::is_headed(bytes) {
         return Reading::Refused { number: 1, line: 0 };
     }
-    read_lines(
-        classes,
-        bytes,
-        depth,
-        kind,
-        number,
-        cols,
-        rows,
-        own,
-        from,
-        to,
-    )
+    read_lines(classes, bytes, lines)
 }

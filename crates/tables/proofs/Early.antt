@@ -12,7 +12,7 @@ use Rattle.lists.specs.Lists.{padded}
 use Rattle.lists.specs.Refusals.{Check, check, first, passes}
 use Rattle.sheet.proofs.First.{neither}
 use Rattle.tables.specs.Calls.{anyShorter}
-use Rattle.tables.specs.Inner.{numberOf, early}
+use Rattle.tables.specs.inner.Telling.{numberOf, early}
 
 pub or-false : (b : Bool) → (b || false) ≡ b
 or-false true = refl

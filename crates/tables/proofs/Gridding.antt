@@ -10,19 +10,19 @@ use Rattle.lists.specs.Lists.{padded}
 use Rattle.lists.specs.Limits.{maxLines, maxEntries}
 use Rattle.lists.specs.Refusals.{Check, first, passes}
 use Rattle.grid.specs.Grid.{entriesOf}
-use Rattle.opening.specs.Opening.{openChecks}
+use Rattle.opening.specs.Opening.{asked, openChecks}
 use Rattle.finding.specs.Figures.{rowsAt, columnsAt}
-use Rattle.finding.specs.Found.{entryTotal, rowTotal, GridRoom, GridFound}
+use Rattle.table.specs.inner.Fitting.{GridRoom}
+use Rattle.finding.specs.inner.Found.{entryTotal, rowTotal, GridFound}
 use Rattle.tables.specs.Calls.{anyShorter, gridChecks}
 use Rattle.tables.specs.Answers.{griddedOf, GridAnswer}
-use Rattle.tables.specs.Inner.{numberOf, early, gridArguments}
+use Rattle.tables.specs.inner.Telling.{numberOf, early, gridArguments, griddedIn}
 use Rattle.tables.specs.declared.Gridded.{Gridded}
 use Rattle.tables.specs.declared.Gridded.the-variants.{Grid, Refused as NoGrid}
 use Rattle.tables.proofs.Early.{first-eleven, passes-eleven, none-eleven, three-fit, two-fit, fits, leaving}
 use Rattle.sheet.proofs.First.{neither, first-told}
 use Rattle.finding.specs.declared.Shape.{Shape}
 use Rattle.finding.specs.declared.Shape.the-variants.{Grid as Shaped, Refused as NotShaped}
-use Rattle.tables.specs.Inner.{griddedIn}
 
 -- refused for the arguments
 pub grid-early : (refusal : ℕ) (cs : List Check) (s : List ℕ) (line : ℕ) (cell first′ span row end : List ℕ) → (refusal ≡ 0 → ⊥)
@@ -93,7 +93,7 @@ module _ {s : List ℕ} {line number : ℕ} {cell₀ first₀ span₀ row₀ end
       → a ≡ padded (length cell) (take n cell) → b ≡ padded (length first′) (take n first′) → c ≡ padded (length span) (take n span)
       → d ≡ padded (length row) (take m row) → e ≡ padded (length end) (take m end)
       → GridAnswer s line (length cell₀ ∷ length first₀ ∷ length span₀ ∷ []) (length row₀ ∷ length end₀ ∷ []) cell₀ first₀ span₀ row₀ end₀ t a b c d e
-  unfolding griddedOf griddedIn
+  unfolding griddedOf griddedIn asked
   grid-answered t k l ka kb kc kd ke a b c d e =
       let cs = gridChecks s line (length cell₀ ∷ length first₀ ∷ length span₀ ∷ []) (length row₀ ∷ length end₀ ∷ []) in
       let shape = Shaped (length (rowsAt s line)) (length (entriesOf (rowsAt s line))) (columnsAt s line) in

@@ -12,15 +12,15 @@ use Rattle.lists.specs.Limits.{maxLines, maxEntries, maxWrap, maxWidth}
 use Rattle.lists.specs.Refusals.{Check, first, passes}
 use Rattle.sheet.proofs.First.{neither, first-told}
 use Rattle.grid.specs.Grid.{entriesOf}
-use Rattle.arranging.specs.declared.Arranged.{Arranged}
-use Rattle.arranging.specs.declared.Arranged.the-variants.{Table, Refused}
-use Rattle.opening.specs.Opening.{openChecks}
+use Rattle.finding.specs.declared.Arranged.{Arranged}
+use Rattle.finding.specs.declared.Arranged.the-variants.{Table, Refused}
+use Rattle.opening.specs.Opening.{asked, openChecks}
 use Rattle.finding.specs.Figures.{rowsAt, columnsAt, wayAt, widthAt}
-use Rattle.finding.specs.Found.{columnTotal, placeTotal, OutRoom, LayoutFound}
+use Rattle.table.specs.inner.Fitting.{OutRoom}
+use Rattle.finding.specs.inner.Layouts.{columnTotal, placeTotal, LayoutFound}
 use Rattle.tables.specs.Calls.{anyShorter, layoutChecks}
 use Rattle.tables.specs.Answers.{laidOutOf, LayoutAnswer}
-use Rattle.tables.specs.Inner.{numberOf, early, layoutArguments}
-use Rattle.tables.specs.Inner.{laidIn}
+use Rattle.tables.specs.inner.Telling.{numberOf, early, layoutArguments, laidIn}
 use Rattle.tables.specs.declared.LaidOut.{LaidOut}
 use Rattle.tables.specs.declared.LaidOut.the-variants.{Refused as NoLayout}
 use Rattle.tables.proofs.Early.{first-nines, passes-nines, none-nines, two-fit, or-false, fits, leaving}
@@ -101,10 +101,10 @@ module _ {s : List ℕ} {line wrap raw width number : ℕ} {column₀ x₀ wide�
       → length column ≡ length column₀ → length x ≡ length x₀ → length wide ≡ length wide₀
       → a ≡ padded (length column) (take n column) → b ≡ padded (length x) (take m x) → c ≡ padded (length wide) (take m wide)
       → LayoutAnswer s line wrap raw width (length column₀ ∷ []) (length x₀ ∷ length wide₀ ∷ []) column₀ x₀ wide₀ t a b c
-  unfolding laidOutOf laidIn
+  unfolding laidOutOf laidIn asked
   layout-answered t k l ka kb kc a b c =
       let cs = layoutChecks s line wrap raw width (length column₀ ∷ []) (length x₀ ∷ length wide₀ ∷ []) in
-      let table = Table (wayAt s line wrap raw width) (length (rowsAt s line)) (length (entriesOf (rowsAt s line))) (columnsAt s line) (widthAt s line wrap raw width) in
+      let table = Table (wayAt s line wrap raw width) (length (entriesOf (rowsAt s line))) (columnsAt s line) (widthAt s line wrap raw width) in
       let p : passes (early number ∷ openChecks true s line) ≡ passes cs =
       ap (λ (v : ℕ). passes (early v ∷ openChecks true s line)) judged ∙ passes-nines (openChecks true s line) _ _ in
       record {

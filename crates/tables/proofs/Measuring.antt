@@ -14,12 +14,11 @@ use Rattle.sheet.specs.declared.Reading.{Reading}
 use Rattle.sheet.specs.declared.Reading.the-variants.{Lines, Refused}
 use Rattle.sheet.proofs.First.{first-told}
 use Rattle.estimates.specs.Estimates.{estimates}
-use Rattle.opening.specs.Opening.{openChecks}
-use Rattle.finding.specs.Found.{linesIn, EstimatesFound}
+use Rattle.opening.specs.Opening.{asked, openChecks}
+use Rattle.finding.specs.inner.Found.{linesIn, LinesRoom, EstimatesFound}
 use Rattle.tables.specs.Calls.{estimatesChecks}
 use Rattle.tables.specs.Answers.{estimatedOf, EstimatesAnswer}
-use Rattle.opening.specs.Opened.{FiguresRoom}
-use Rattle.tables.specs.Inner.{numberOf, early, estimatesArguments, measuredIn}
+use Rattle.tables.specs.inner.Telling.{numberOf, early, estimatesArguments, measuredIn}
 use Rattle.tables.specs.declared.Estimated.{Estimated}
 use Rattle.tables.specs.declared.Estimated.the-variants.{Lines as Measures, Refused as NotMeasured}
 use Rattle.tables.proofs.Early.{first-nines, passes-nines, none-nines, three-fit, fits, leaving}
@@ -44,7 +43,7 @@ fit : (wrap number a b c : ℕ) → number ≡ numberOf (estimatesArguments wrap
 fit wrap number a b c judged z = three-fit maxLines a b c (none-nines _ _ (sym judged ∙ z) .1)
 
 pub figures-fit : (wrap number : ℕ) (size least prefix : List ℕ)
-    → number ≡ numberOf (estimatesArguments wrap (length size ∷ length least ∷ length prefix ∷ [])) → number ≡ 0 → FiguresRoom maxLines size least prefix
+    → number ≡ numberOf (estimatesArguments wrap (length size ∷ length least ∷ length prefix ∷ [])) → number ≡ 0 → LinesRoom size least prefix
 figures-fit wrap number size least prefix judged z =
     let (a, b, c) = fit wrap number (length size) (length least) (length prefix) judged z in
     record { size-room = a; least-room = b; prefix-room = c }
@@ -68,7 +67,7 @@ module _ {s : List ℕ} {wrap number : ℕ} {size₀ least₀ prefix₀ : List �
       → length size ≡ length size₀ → length least ≡ length least₀ → length prefix ≡ length prefix₀
       → size′ ≡ padded (length size) (take n size) → least′ ≡ padded (length least) (take n least) → prefix′ ≡ padded (length prefix) (take n prefix)
       → EstimatesAnswer s wrap (length size₀ ∷ length least₀ ∷ length prefix₀ ∷ []) size₀ least₀ prefix₀ a size′ least′ prefix′
-  unfolding estimatedOf measuredIn
+  unfolding estimatedOf measuredIn asked
   answered t k h i j a b c =
       let p : passes (early number ∷ openChecks false s 0) ≡ passes (estimatesChecks s wrap (length size₀ ∷ length least₀ ∷ length prefix₀ ∷ [])) =
       ap (λ (m : ℕ). passes (early m ∷ openChecks false s 0)) judged ∙ passes-nines (openChecks false s 0) _ _ in

@@ -11,6 +11,7 @@ use Rattle.sheet.specs.Sheet.{sheetLines}
 use Rattle.grid.specs.Grid.{shownLine, entriesOf, rowEnds}
 use Rattle.estimates.specs.Estimates.{estimates}
 use Rattle.placing.specs.Promise.{Promised}
+use Rattle.opening.specs.Opening.{keptLines}
 use Rattle.finding.specs.Figures.{ifPasses, sizeOf, leastOf, prefixOf, firstOf, spanOf, rowLine, xOf, widthOf, rowsAt, columnsAt, boxesAt, wayAt, widthsAt, widthAt, placesAt}
 use Rattle.tables.specs.Calls.{estimatesChecks, gridChecks, layoutChecks}
 use Rattle.tables.specs.declared.Estimated.{Estimated}
@@ -31,9 +32,9 @@ estimatedOf s wrap lines =
 
 pub record EstimatesAnswer (s : List ℕ) (wrap : ℕ) (lines : List ℕ) (size₀ least₀ prefix₀ : List ℕ) (r : Estimated) (size least prefix : List ℕ) : Type 0 where
   pub answer : r ≡ estimatedOf s wrap lines
-  pub sizes : size ≡ leaves (estimatesChecks s wrap lines) size₀ (map sizeOf (estimates wrap (sheetLines s)))
-  pub leasts : least ≡ leaves (estimatesChecks s wrap lines) least₀ (map leastOf (estimates wrap (sheetLines s)))
-  pub prefixes : prefix ≡ leaves (estimatesChecks s wrap lines) prefix₀ (map prefixOf (estimates wrap (sheetLines s)))
+  pub sizes : size ≡ leaves (estimatesChecks s wrap lines) size₀ (map sizeOf (estimates wrap (keptLines s)))
+  pub leasts : least ≡ leaves (estimatesChecks s wrap lines) least₀ (map leastOf (estimates wrap (keptLines s)))
+  pub prefixes : prefix ≡ leaves (estimatesChecks s wrap lines) prefix₀ (map prefixOf (estimates wrap (keptLines s)))
 
 -- `grid`
 unfoldable pub griddedOf : List ℕ → ℕ → List ℕ → List ℕ → Gridded

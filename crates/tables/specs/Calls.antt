@@ -6,7 +6,8 @@ use lib.Dec.{ltb}
 use Rattle.lists.specs.Limits.{maxWrap, maxWidth, maxLines, maxEntries}
 use Rattle.lists.specs.Refusals.{Check, check}
 use Rattle.sheet.specs.Sheet.{sheetChecks}
-use Rattle.opening.specs.Opening.{lineCheck, everyTable}
+use Rattle.grid.specs.Grid.{tablesChecks}
+use Rattle.opening.specs.Opening.{keptLines, lineCheck}
 
 -- 9: a setting out of range
 abbrev pub wrapCheck : ℕ → Check
@@ -20,6 +21,10 @@ unfoldable pub anyShorter : ℕ → List ℕ → Bool
 anyShorter n [] = false
 anyShorter n (l ∷ ls) = ltb l n || anyShorter n ls
 
+-- 5, 6, 7: every table of the sheet, in the order of lines
+abbrev pub everyTable : List ℕ → List Check
+everyTable s = tablesChecks 1 (keptLines s)
+
 abbrev pub checkChecks : List ℕ → List Check
 checkChecks s = sheetChecks s ++ everyTable s
 
@@ -29,10 +34,10 @@ estimatesChecks s wrap lines = wrapCheck wrap ∷ check (anyShorter maxLines lin
 
 abbrev pub gridChecks : List ℕ → ℕ → List ℕ → List ℕ → List Check
 gridChecks s line entries rows =
-    check (anyShorter maxEntries entries || anyShorter maxLines rows) 11 0 ∷ sheetChecks s ++ lineCheck s line ∷ everyTable s
+    check (anyShorter maxEntries entries || anyShorter maxLines rows) 11 0 ∷ sheetChecks s ++ lineCheck (keptLines s) line ∷ everyTable s
 
 abbrev pub layoutChecks : List ℕ → ℕ → ℕ → ℕ → ℕ → List ℕ → List ℕ → List Check
 layoutChecks s line wrap raw width columns entries =
     settingsCheck wrap raw width
     ∷ check (anyShorter maxLines columns || anyShorter maxEntries entries) 11 0
-    ∷ sheetChecks s ++ lineCheck s line ∷ everyTable s
+    ∷ sheetChecks s ++ lineCheck (keptLines s) line ∷ everyTable s

@@ -15,7 +15,8 @@ use Rattle.edges.specs.Edges.{countBelow, endsFrom, allAt}
 use Rattle.cells.specs.Cells as cells
 use Rattle.cells.specs.Cells.{cell, rowSum, widest, resolveRow, resolveBody}
 use Rattle.rows.specs.Row.{fillers, later, rowFrom, hangOf, nexts}
-use Rattle.positions.specs.Positions.{originals, hangBelow, leastLeft, extrasIn, extras, endsPast, entryCount}
+use Rattle.extras.specs.Extras.{leastLeft, extrasIn, extras, entryCount}
+use Rattle.positions.specs.Positions.{originals, hangBelow, endsPast}
 use Rattle.grid.specs.Grid.{entry, endsOf, entriesFrom, longest, gridOf, columnsOf, tableChecks}
 use Rattle.widths.specs.Cut.{pick, cutOnce, cutBy, cut}
 use Rattle.widths.specs.Share.{share, sharesOf}

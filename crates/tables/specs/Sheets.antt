@@ -7,7 +7,7 @@ use Rattle.lists.specs.Lists.{sum, mem}
 use Rattle.lists.specs.Refusals.{verdictOf, first, passes}
 use Rattle.text.specs.Bytes.{classOf}
 use Rattle.text.specs.Text.{textSize, readable, trimStart, trimEnd, widths, runs, begins}
-use Rattle.text.specs.Decimal.{writing, digits, digitsIn}
+use Rattle.text.specs.Decimal.{shifted, writing, digits, digitsIn}
 use Rattle.text.specs.Prefix.{lastNumber, olPrefix}
 use Rattle.line.specs.Kinds.{same, place, kindOf, mayHold}
 use Rattle.line.specs.Lines.{feeds, pieces, headed}
@@ -19,10 +19,12 @@ use Rattle.columns.specs.Boxes.{flat}
 use Rattle.columns.specs.Columns.{upTo, sumAt, largestAt}
 use Rattle.edges.specs.Edges.{countBelow, endsFrom, allAt}
 use Rattle.cells.specs.Cells.{frame, rowSum, widest, resolveRow, resolveBody, resolved}
+use Rattle.cells.specs.Listed.{heldRows}
 use Rattle.rows.specs.Row.{fillers, later, rowFrom, hangOf, nexts}
-use Rattle.positions.specs.Positions.{originals, hangBelow, leastLeft, extrasIn, extras, endsPast, entryCount}
+use Rattle.extras.specs.Extras.{leastLeft, extrasIn, extras, entryCount}
+use Rattle.positions.specs.Positions.{originals, hangBelow, endsPast}
 use Rattle.grid.specs.Grid.{endsOf, entriesFrom, longest, gridOf, columnsOf, tableChecks, tableRows, tablesChecks}
-use Rattle.estimates.specs.Estimates.{measured, estimateOf, gather, prefixOf, boxOf, tabled}
+use Rattle.estimates.specs.Estimates.{measured, estimateOf, leafOf, holderOf, gather, prefixOf, boxOf, tabled}
 use Rattle.widths.specs.Cut.{pick, cutOnce, cutBy, cut}
 use Rattle.widths.specs.Share.{share, sharesOf}
 use Rattle.widths.specs.Widths.{wayOf, finalWidths, nonzero, tableWidth}
@@ -39,17 +41,17 @@ example =
 
 -- it is accepted
 pub example-accepted : verdictOf (checkChecks example) ≡ Accepted
-unfolding sum mem verdictOf first passes classOf textSize readable trimStart trimEnd widths runs begins writing digits digitsIn lastNumber olPrefix same place kindOf mayHold feeds pieces headed allDigits valueFrom isNatural naturalOf negativeOf numberOf untilBlank thenNumber thenKind parse nFits spansFit textFits fits readParsed readLine ownSize nearest depthFits placeFits childless sheetChecks linesChecks linesOf emptyChecks sheetLines flat upTo sumAt largestAt countBelow endsFrom frame rowSum widest resolveRow resolveBody resolved fillers later rowFrom hangOf nexts originals hangBelow leastLeft extrasIn extras endsOf entriesFrom longest gridOf columnsOf endsPast entryCount allAt tableChecks tableRows tablesChecks measured estimateOf gather prefixOf boxOf tabled pick cutOnce cutBy cut share sharesOf wayOf finalWidths nonzero tableWidth placeSide placeDown placeRow placeRows
+unfolding sum mem verdictOf first passes classOf textSize readable trimStart trimEnd widths runs begins shifted writing digits digitsIn lastNumber olPrefix same place kindOf mayHold feeds pieces headed allDigits valueFrom isNatural naturalOf negativeOf numberOf untilBlank thenNumber thenKind parse nFits spansFit textFits fits readParsed readLine ownSize nearest depthFits placeFits childless sheetChecks linesChecks linesOf emptyChecks sheetLines flat upTo sumAt largestAt countBelow endsFrom frame rowSum widest resolveRow resolveBody resolved heldRows fillers later rowFrom hangOf nexts originals hangBelow leastLeft extrasIn extras endsOf entriesFrom longest gridOf columnsOf endsPast entryCount allAt tableChecks tableRows tablesChecks measured estimateOf leafOf holderOf gather prefixOf boxOf tabled pick cutOnce cutBy cut share sharesOf wayOf finalWidths nonzero tableWidth placeSide placeDown placeRow placeRows
 example-accepted = refl
 
 -- its columns are 6 and 2
 pub example-widths : widthsAt example 1 3 0 9 ≡ 6 ∷ 2 ∷ []
-unfolding sum mem verdictOf first passes classOf textSize readable trimStart trimEnd widths runs begins writing digits digitsIn lastNumber olPrefix same place kindOf mayHold feeds pieces headed allDigits valueFrom isNatural naturalOf negativeOf numberOf untilBlank thenNumber thenKind parse nFits spansFit textFits fits readParsed readLine ownSize nearest depthFits placeFits childless sheetChecks linesChecks linesOf emptyChecks sheetLines flat upTo sumAt largestAt countBelow endsFrom frame rowSum widest resolveRow resolveBody resolved fillers later rowFrom hangOf nexts originals hangBelow leastLeft extrasIn extras endsOf entriesFrom longest gridOf columnsOf endsPast entryCount allAt tableChecks tableRows tablesChecks measured estimateOf gather prefixOf boxOf tabled pick cutOnce cutBy cut share sharesOf wayOf finalWidths nonzero tableWidth placeSide placeDown placeRow placeRows
+unfolding sum mem verdictOf first passes classOf textSize readable trimStart trimEnd widths runs begins shifted writing digits digitsIn lastNumber olPrefix same place kindOf mayHold feeds pieces headed allDigits valueFrom isNatural naturalOf negativeOf numberOf untilBlank thenNumber thenKind parse nFits spansFit textFits fits readParsed readLine ownSize nearest depthFits placeFits childless sheetChecks linesChecks linesOf emptyChecks sheetLines flat upTo sumAt largestAt countBelow endsFrom frame rowSum widest resolveRow resolveBody resolved heldRows fillers later rowFrom hangOf nexts originals hangBelow leastLeft extrasIn extras endsOf entriesFrom longest gridOf columnsOf endsPast entryCount allAt tableChecks tableRows tablesChecks measured estimateOf leafOf holderOf gather prefixOf boxOf tabled pick cutOnce cutBy cut share sharesOf wayOf finalWidths nonzero tableWidth placeSide placeDown placeRow placeRows
 example-widths = refl
 
 -- its cells stand at 0 and 7
 pub example-places : placesAt example 1 3 0 9 ≡ at 0 6 ∷ at 7 2 ∷ []
-unfolding sum mem verdictOf first passes classOf textSize readable trimStart trimEnd widths runs begins writing digits digitsIn lastNumber olPrefix same place kindOf mayHold feeds pieces headed allDigits valueFrom isNatural naturalOf negativeOf numberOf untilBlank thenNumber thenKind parse nFits spansFit textFits fits readParsed readLine ownSize nearest depthFits placeFits childless sheetChecks linesChecks linesOf emptyChecks sheetLines flat upTo sumAt largestAt countBelow endsFrom frame rowSum widest resolveRow resolveBody resolved fillers later rowFrom hangOf nexts originals hangBelow leastLeft extrasIn extras endsOf entriesFrom longest gridOf columnsOf endsPast entryCount allAt tableChecks tableRows tablesChecks measured estimateOf gather prefixOf boxOf tabled pick cutOnce cutBy cut share sharesOf wayOf finalWidths nonzero tableWidth placeSide placeDown placeRow placeRows
+unfolding sum mem verdictOf first passes classOf textSize readable trimStart trimEnd widths runs begins shifted writing digits digitsIn lastNumber olPrefix same place kindOf mayHold feeds pieces headed allDigits valueFrom isNatural naturalOf negativeOf numberOf untilBlank thenNumber thenKind parse nFits spansFit textFits fits readParsed readLine ownSize nearest depthFits placeFits childless sheetChecks linesChecks linesOf emptyChecks sheetLines flat upTo sumAt largestAt countBelow endsFrom frame rowSum widest resolveRow resolveBody resolved heldRows fillers later rowFrom hangOf nexts originals hangBelow leastLeft extrasIn extras endsOf entriesFrom longest gridOf columnsOf endsPast entryCount allAt tableChecks tableRows tablesChecks measured estimateOf leafOf holderOf gather prefixOf boxOf tabled pick cutOnce cutBy cut share sharesOf wayOf finalWidths nonzero tableWidth placeSide placeDown placeRow placeRows
 example-places = refl
 
 -- two bodies, a span over both, a colspan of 0, an extra row, a list and a link
@@ -59,40 +61,40 @@ survey =
 
 -- it is accepted
 pub survey-accepted : verdictOf (checkChecks survey) ≡ Accepted
-unfolding sum mem verdictOf first passes classOf textSize readable trimStart trimEnd widths runs begins writing digits digitsIn lastNumber olPrefix same place kindOf mayHold feeds pieces headed allDigits valueFrom isNatural naturalOf negativeOf numberOf untilBlank thenNumber thenKind parse nFits spansFit textFits fits readParsed readLine ownSize nearest depthFits placeFits childless sheetChecks linesChecks linesOf emptyChecks sheetLines flat upTo sumAt largestAt countBelow endsFrom frame rowSum widest resolveRow resolveBody resolved fillers later rowFrom hangOf nexts originals hangBelow leastLeft extrasIn extras endsOf entriesFrom longest gridOf columnsOf endsPast entryCount allAt tableChecks tableRows tablesChecks measured estimateOf gather prefixOf boxOf tabled pick cutOnce cutBy cut share sharesOf wayOf finalWidths nonzero tableWidth placeSide placeDown placeRow placeRows
+unfolding sum mem verdictOf first passes classOf textSize readable trimStart trimEnd widths runs begins shifted writing digits digitsIn lastNumber olPrefix same place kindOf mayHold feeds pieces headed allDigits valueFrom isNatural naturalOf negativeOf numberOf untilBlank thenNumber thenKind parse nFits spansFit textFits fits readParsed readLine ownSize nearest depthFits placeFits childless sheetChecks linesChecks linesOf emptyChecks sheetLines flat upTo sumAt largestAt countBelow endsFrom frame rowSum widest resolveRow resolveBody resolved heldRows fillers later rowFrom hangOf nexts originals hangBelow leastLeft extrasIn extras endsOf entriesFrom longest gridOf columnsOf endsPast entryCount allAt tableChecks tableRows tablesChecks measured estimateOf leafOf holderOf gather prefixOf boxOf tabled pick cutOnce cutBy cut share sharesOf wayOf finalWidths nonzero tableWidth placeSide placeDown placeRow placeRows
 survey-accepted = refl
 
 -- with room the columns have their sizes
 pub survey-at-40 : widthsAt survey 1 3 0 40 ≡ 4 ∷ 10 ∷ 8 ∷ 3 ∷ []
-unfolding sum mem verdictOf first passes classOf textSize readable trimStart trimEnd widths runs begins writing digits digitsIn lastNumber olPrefix same place kindOf mayHold feeds pieces headed allDigits valueFrom isNatural naturalOf negativeOf numberOf untilBlank thenNumber thenKind parse nFits spansFit textFits fits readParsed readLine ownSize nearest depthFits placeFits childless sheetChecks linesChecks linesOf emptyChecks sheetLines flat upTo sumAt largestAt countBelow endsFrom frame rowSum widest resolveRow resolveBody resolved fillers later rowFrom hangOf nexts originals hangBelow leastLeft extrasIn extras endsOf entriesFrom longest gridOf columnsOf endsPast entryCount allAt tableChecks tableRows tablesChecks measured estimateOf gather prefixOf boxOf tabled pick cutOnce cutBy cut share sharesOf wayOf finalWidths nonzero tableWidth placeSide placeDown placeRow placeRows
+unfolding sum mem verdictOf first passes classOf textSize readable trimStart trimEnd widths runs begins shifted writing digits digitsIn lastNumber olPrefix same place kindOf mayHold feeds pieces headed allDigits valueFrom isNatural naturalOf negativeOf numberOf untilBlank thenNumber thenKind parse nFits spansFit textFits fits readParsed readLine ownSize nearest depthFits placeFits childless sheetChecks linesChecks linesOf emptyChecks sheetLines flat upTo sumAt largestAt countBelow endsFrom frame rowSum widest resolveRow resolveBody resolved heldRows fillers later rowFrom hangOf nexts originals hangBelow leastLeft extrasIn extras endsOf entriesFrom longest gridOf columnsOf endsPast entryCount allAt tableChecks tableRows tablesChecks measured estimateOf leafOf holderOf gather prefixOf boxOf tabled pick cutOnce cutBy cut share sharesOf wayOf finalWidths nonzero tableWidth placeSide placeDown placeRow placeRows
 survey-at-40 = refl
 
 -- and the table is 28 wide
 pub survey-wide-at-40 : widthAt survey 1 3 0 40 ≡ 28
-unfolding sum mem verdictOf first passes classOf textSize readable trimStart trimEnd widths runs begins writing digits digitsIn lastNumber olPrefix same place kindOf mayHold feeds pieces headed allDigits valueFrom isNatural naturalOf negativeOf numberOf untilBlank thenNumber thenKind parse nFits spansFit textFits fits readParsed readLine ownSize nearest depthFits placeFits childless sheetChecks linesChecks linesOf emptyChecks sheetLines flat upTo sumAt largestAt countBelow endsFrom frame rowSum widest resolveRow resolveBody resolved fillers later rowFrom hangOf nexts originals hangBelow leastLeft extrasIn extras endsOf entriesFrom longest gridOf columnsOf endsPast entryCount allAt tableChecks tableRows tablesChecks measured estimateOf gather prefixOf boxOf tabled pick cutOnce cutBy cut share sharesOf wayOf finalWidths nonzero tableWidth placeSide placeDown placeRow placeRows
+unfolding sum mem verdictOf first passes classOf textSize readable trimStart trimEnd widths runs begins shifted writing digits digitsIn lastNumber olPrefix same place kindOf mayHold feeds pieces headed allDigits valueFrom isNatural naturalOf negativeOf numberOf untilBlank thenNumber thenKind parse nFits spansFit textFits fits readParsed readLine ownSize nearest depthFits placeFits childless sheetChecks linesChecks linesOf emptyChecks sheetLines flat upTo sumAt largestAt countBelow endsFrom frame rowSum widest resolveRow resolveBody resolved heldRows fillers later rowFrom hangOf nexts originals hangBelow leastLeft extrasIn extras endsOf entriesFrom longest gridOf columnsOf endsPast entryCount allAt tableChecks tableRows tablesChecks measured estimateOf leafOf holderOf gather prefixOf boxOf tabled pick cutOnce cutBy cut share sharesOf wayOf finalWidths nonzero tableWidth placeSide placeDown placeRow placeRows
 survey-wide-at-40 = refl
 
 -- one is cut
 pub survey-at-23 : widthsAt survey 1 3 0 23 ≡ 3 ∷ 8 ∷ 7 ∷ 2 ∷ []
-unfolding sum mem verdictOf first passes classOf textSize readable trimStart trimEnd widths runs begins writing digits digitsIn lastNumber olPrefix same place kindOf mayHold feeds pieces headed allDigits valueFrom isNatural naturalOf negativeOf numberOf untilBlank thenNumber thenKind parse nFits spansFit textFits fits readParsed readLine ownSize nearest depthFits placeFits childless sheetChecks linesChecks linesOf emptyChecks sheetLines flat upTo sumAt largestAt countBelow endsFrom frame rowSum widest resolveRow resolveBody resolved fillers later rowFrom hangOf nexts originals hangBelow leastLeft extrasIn extras endsOf entriesFrom longest gridOf columnsOf endsPast entryCount allAt tableChecks tableRows tablesChecks measured estimateOf gather prefixOf boxOf tabled pick cutOnce cutBy cut share sharesOf wayOf finalWidths nonzero tableWidth placeSide placeDown placeRow placeRows
+unfolding sum mem verdictOf first passes classOf textSize readable trimStart trimEnd widths runs begins shifted writing digits digitsIn lastNumber olPrefix same place kindOf mayHold feeds pieces headed allDigits valueFrom isNatural naturalOf negativeOf numberOf untilBlank thenNumber thenKind parse nFits spansFit textFits fits readParsed readLine ownSize nearest depthFits placeFits childless sheetChecks linesChecks linesOf emptyChecks sheetLines flat upTo sumAt largestAt countBelow endsFrom frame rowSum widest resolveRow resolveBody resolved heldRows fillers later rowFrom hangOf nexts originals hangBelow leastLeft extrasIn extras endsOf entriesFrom longest gridOf columnsOf endsPast entryCount allAt tableChecks tableRows tablesChecks measured estimateOf leafOf holderOf gather prefixOf boxOf tabled pick cutOnce cutBy cut share sharesOf wayOf finalWidths nonzero tableWidth placeSide placeDown placeRow placeRows
 survey-at-23 = refl
 
 -- three are cut
 pub survey-at-14 : widthsAt survey 1 3 0 14 ≡ 3 ∷ 3 ∷ 3 ∷ 2 ∷ []
-unfolding sum mem verdictOf first passes classOf textSize readable trimStart trimEnd widths runs begins writing digits digitsIn lastNumber olPrefix same place kindOf mayHold feeds pieces headed allDigits valueFrom isNatural naturalOf negativeOf numberOf untilBlank thenNumber thenKind parse nFits spansFit textFits fits readParsed readLine ownSize nearest depthFits placeFits childless sheetChecks linesChecks linesOf emptyChecks sheetLines flat upTo sumAt largestAt countBelow endsFrom frame rowSum widest resolveRow resolveBody resolved fillers later rowFrom hangOf nexts originals hangBelow leastLeft extrasIn extras endsOf entriesFrom longest gridOf columnsOf endsPast entryCount allAt tableChecks tableRows tablesChecks measured estimateOf gather prefixOf boxOf tabled pick cutOnce cutBy cut share sharesOf wayOf finalWidths nonzero tableWidth placeSide placeDown placeRow placeRows
+unfolding sum mem verdictOf first passes classOf textSize readable trimStart trimEnd widths runs begins shifted writing digits digitsIn lastNumber olPrefix same place kindOf mayHold feeds pieces headed allDigits valueFrom isNatural naturalOf negativeOf numberOf untilBlank thenNumber thenKind parse nFits spansFit textFits fits readParsed readLine ownSize nearest depthFits placeFits childless sheetChecks linesChecks linesOf emptyChecks sheetLines flat upTo sumAt largestAt countBelow endsFrom frame rowSum widest resolveRow resolveBody resolved heldRows fillers later rowFrom hangOf nexts originals hangBelow leastLeft extrasIn extras endsOf entriesFrom longest gridOf columnsOf endsPast entryCount allAt tableChecks tableRows tablesChecks measured estimateOf leafOf holderOf gather prefixOf boxOf tabled pick cutOnce cutBy cut share sharesOf wayOf finalWidths nonzero tableWidth placeSide placeDown placeRow placeRows
 survey-at-14 = refl
 
 -- the least widths
 pub survey-at-13 : widthsAt survey 1 3 0 13 ≡ 3 ∷ 3 ∷ 2 ∷ 2 ∷ []
-unfolding sum mem verdictOf first passes classOf textSize readable trimStart trimEnd widths runs begins writing digits digitsIn lastNumber olPrefix same place kindOf mayHold feeds pieces headed allDigits valueFrom isNatural naturalOf negativeOf numberOf untilBlank thenNumber thenKind parse nFits spansFit textFits fits readParsed readLine ownSize nearest depthFits placeFits childless sheetChecks linesChecks linesOf emptyChecks sheetLines flat upTo sumAt largestAt countBelow endsFrom frame rowSum widest resolveRow resolveBody resolved fillers later rowFrom hangOf nexts originals hangBelow leastLeft extrasIn extras endsOf entriesFrom longest gridOf columnsOf endsPast entryCount allAt tableChecks tableRows tablesChecks measured estimateOf gather prefixOf boxOf tabled pick cutOnce cutBy cut share sharesOf wayOf finalWidths nonzero tableWidth placeSide placeDown placeRow placeRows
+unfolding sum mem verdictOf first passes classOf textSize readable trimStart trimEnd widths runs begins shifted writing digits digitsIn lastNumber olPrefix same place kindOf mayHold feeds pieces headed allDigits valueFrom isNatural naturalOf negativeOf numberOf untilBlank thenNumber thenKind parse nFits spansFit textFits fits readParsed readLine ownSize nearest depthFits placeFits childless sheetChecks linesChecks linesOf emptyChecks sheetLines flat upTo sumAt largestAt countBelow endsFrom frame rowSum widest resolveRow resolveBody resolved heldRows fillers later rowFrom hangOf nexts originals hangBelow leastLeft extrasIn extras endsOf entriesFrom longest gridOf columnsOf endsPast entryCount allAt tableChecks tableRows tablesChecks measured estimateOf leafOf holderOf gather prefixOf boxOf tabled pick cutOnce cutBy cut share sharesOf wayOf finalWidths nonzero tableWidth placeSide placeDown placeRow placeRows
 survey-at-13 = refl
 
 -- one less goes down the page
 pub survey-down-at-12 : wayAt survey 1 3 0 12 ≡ Down
-unfolding sum mem verdictOf first passes classOf textSize readable trimStart trimEnd widths runs begins writing digits digitsIn lastNumber olPrefix same place kindOf mayHold feeds pieces headed allDigits valueFrom isNatural naturalOf negativeOf numberOf untilBlank thenNumber thenKind parse nFits spansFit textFits fits readParsed readLine ownSize nearest depthFits placeFits childless sheetChecks linesChecks linesOf emptyChecks sheetLines flat upTo sumAt largestAt countBelow endsFrom frame rowSum widest resolveRow resolveBody resolved fillers later rowFrom hangOf nexts originals hangBelow leastLeft extrasIn extras endsOf entriesFrom longest gridOf columnsOf endsPast entryCount allAt tableChecks tableRows tablesChecks measured estimateOf gather prefixOf boxOf tabled pick cutOnce cutBy cut share sharesOf wayOf finalWidths nonzero tableWidth placeSide placeDown placeRow placeRows
+unfolding sum mem verdictOf first passes classOf textSize readable trimStart trimEnd widths runs begins shifted writing digits digitsIn lastNumber olPrefix same place kindOf mayHold feeds pieces headed allDigits valueFrom isNatural naturalOf negativeOf numberOf untilBlank thenNumber thenKind parse nFits spansFit textFits fits readParsed readLine ownSize nearest depthFits placeFits childless sheetChecks linesChecks linesOf emptyChecks sheetLines flat upTo sumAt largestAt countBelow endsFrom frame rowSum widest resolveRow resolveBody resolved heldRows fillers later rowFrom hangOf nexts originals hangBelow leastLeft extrasIn extras endsOf entriesFrom longest gridOf columnsOf endsPast entryCount allAt tableChecks tableRows tablesChecks measured estimateOf leafOf holderOf gather prefixOf boxOf tabled pick cutOnce cutBy cut share sharesOf wayOf finalWidths nonzero tableWidth placeSide placeDown placeRow placeRows
 survey-down-at-12 = refl
 
 -- every entry at width 23, extra row and fillers included
 pub survey-places : placesAt survey 1 3 0 23 ≡ at 0 3 ∷ at 4 16 ∷ at 0 3 ∷ at 4 8 ∷ at 13 10 ∷ at 0 3 ∷ at 4 16 ∷ at 0 12 ∷ []
-unfolding sum mem verdictOf first passes classOf textSize readable trimStart trimEnd widths runs begins writing digits digitsIn lastNumber olPrefix same place kindOf mayHold feeds pieces headed allDigits valueFrom isNatural naturalOf negativeOf numberOf untilBlank thenNumber thenKind parse nFits spansFit textFits fits readParsed readLine ownSize nearest depthFits placeFits childless sheetChecks linesChecks linesOf emptyChecks sheetLines flat upTo sumAt largestAt countBelow endsFrom frame rowSum widest resolveRow resolveBody resolved fillers later rowFrom hangOf nexts originals hangBelow leastLeft extrasIn extras endsOf entriesFrom longest gridOf columnsOf endsPast entryCount allAt tableChecks tableRows tablesChecks measured estimateOf gather prefixOf boxOf tabled pick cutOnce cutBy cut share sharesOf wayOf finalWidths nonzero tableWidth placeSide placeDown placeRow placeRows
+unfolding sum mem verdictOf first passes classOf textSize readable trimStart trimEnd widths runs begins shifted writing digits digitsIn lastNumber olPrefix same place kindOf mayHold feeds pieces headed allDigits valueFrom isNatural naturalOf negativeOf numberOf untilBlank thenNumber thenKind parse nFits spansFit textFits fits readParsed readLine ownSize nearest depthFits placeFits childless sheetChecks linesChecks linesOf emptyChecks sheetLines flat upTo sumAt largestAt countBelow endsFrom frame rowSum widest resolveRow resolveBody resolved heldRows fillers later rowFrom hangOf nexts originals hangBelow leastLeft extrasIn extras endsOf entriesFrom longest gridOf columnsOf endsPast entryCount allAt tableChecks tableRows tablesChecks measured estimateOf leafOf holderOf gather prefixOf boxOf tabled pick cutOnce cutBy cut share sharesOf wayOf finalWidths nonzero tableWidth placeSide placeDown placeRow placeRows
 survey-places = refl

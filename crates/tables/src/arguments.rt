@@ -5,7 +5,7 @@ ghost use mathlib.Core.Bool.{_||_};
 ghost use lib.Dec.{ltb};
 ghost use Rattle.lists.specs.Limits.{maxWrap, maxWidth};
 ghost use Rattle.tables.specs.Calls.{anyShorter};
-ghost use Rattle.tables.specs.Inner.{numberOf, estimatesArguments, gridArguments, layoutArguments};
+ghost use Rattle.tables.specs.inner.Telling.{numberOf, estimatesArguments, gridArguments, layoutArguments};
 
 // Whether one of three is below n.
 fn any_below(a: usize, b: usize, c: usize, n: usize) -> bool

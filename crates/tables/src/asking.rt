@@ -3,12 +3,13 @@ ghost use mathlib.Core.Path.{_≡_};
 ghost use mathlib.Core.Bool.{true, false};
 ghost use mathlib.Core.List.{_∷_};
 ghost use Prim.Native.Nat.{_≤_};
-ghost use Rattle.lists.specs.Limits.{maxLines, maxWidth};
+ghost use Rattle.lists.specs.Limits.{maxWidth};
 ghost use Rattle.opening.specs.Opening.{openChecks};
-ghost use Rattle.opening.specs.Opened.{FiguresRoom};
-ghost use Rattle.finding.specs.Found.{EstimatesFound, GridRoom, GridFound, OutRoom, LayoutFound};
-ghost use Rattle.tables.specs.Inner.{early};
-use arranging::Arranged;
+ghost use Rattle.table.specs.inner.Fitting.{GridRoom, OutRoom};
+ghost use Rattle.finding.specs.inner.Found.{LinesRoom, EstimatesFound, GridFound};
+ghost use Rattle.finding.specs.inner.Layouts.{LayoutFound};
+ghost use Rattle.tables.specs.inner.Telling.{early};
+use finding::Arranged;
 use finding::Shape;
 use sheet::Reading;
 
@@ -21,7 +22,7 @@ pub fn find_estimates(
     least: &mut [u32],
     prefix: &mut [u32],
 ) -> Reading
-    requires { ⌜ (refusal ≡ 0 → FiguresRoom maxLines (now size) (now least) (now prefix)) ⌝ }
+    requires { ⌜ (refusal ≡ 0 → LinesRoom (now size) (now least) (now prefix)) ⌝ }
     ensures { λ r. ⌜ EstimatesFound (early refusal ∷ openChecks false (now (sheet .entry)) 0) (now (sheet .entry)) wrap r (now (size .exit)) (now (least .exit)) (now (prefix .exit)) ⌝ }
 {
     if refusal != 0 {
@@ -79,5 +80,5 @@ pub fn find_layout(
             line: 0,
         };
     }
-    composing::layout(sheet, line, wrap, raw, width, column, x, wide)
+    finding::layout(sheet, line, wrap, raw, width, column, x, wide)
 }

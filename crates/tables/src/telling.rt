@@ -2,12 +2,13 @@
 ghost use mathlib.Core.Path.{_≡_};
 ghost use Prim.Native.Nat.{_≤_};
 ghost use Rattle.lists.specs.Limits.{maxLines};
-ghost use Rattle.finding.specs.Found.{linesIn, entryTotal, rowTotal, columnTotal, placeTotal};
-ghost use Rattle.tables.specs.Inner.{verdictIn, measuredIn, griddedIn, laidIn};
+ghost use Rattle.finding.specs.inner.Found.{linesIn, entryTotal, rowTotal};
+ghost use Rattle.finding.specs.inner.Layouts.{columnTotal, placeTotal};
+ghost use Rattle.tables.specs.inner.Telling.{verdictIn, measuredIn, griddedIn, laidIn};
 use crate::Estimated;
 use crate::Gridded;
 use crate::LaidOut;
-use arranging::Arranged;
+use finding::Arranged;
 use finding::Shape;
 use lists::Verdict;
 use sheet::Reading;
@@ -96,7 +97,6 @@ pub fn laid_out(found: Arranged) -> LaidOut
     match found {
         Arranged::Table {
             way,
-            rows: _,
             entries: _,
             columns,
             width,
@@ -116,7 +116,6 @@ pub fn column_count(found: Arranged) -> usize
     match found {
         Arranged::Table {
             way: _,
-            rows: _,
             entries: _,
             columns: n,
             width: _,
@@ -132,7 +131,6 @@ pub fn place_count(found: Arranged) -> usize
     match found {
         Arranged::Table {
             way: _,
-            rows: _,
             entries: n,
             columns: _,
             width: _,

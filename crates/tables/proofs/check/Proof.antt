@@ -1,6 +1,6 @@
 -- `tables::check` meets its contract: what reading the sheet and judging its tables answers, told as a verdict. Assumes nothing.
 use mathlib.Core.Path.{ap, _∙_}
-use Rattle.tables.specs.Inner.{verdictIn}
+use Rattle.tables.specs.inner.Telling.{verdictIn}
 use Rattle.tables.proofs.Checking.{checked}
 use borrow.Author.Needs.{needs}
 use Rattle.tables.proofs.check.Statement.{statement}

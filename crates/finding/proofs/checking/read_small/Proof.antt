@@ -1,6 +1,6 @@
--- `finding::checking::read_small` meets its contract: short arrays have the room that a sheet of few lines asks for. Assumes nothing.
+-- `finding::checking::read_small` meets its contract: a sheet has no more lines than short arrays have room for. Assumes nothing.
 use native.Mathlib.Omega.{arith}
-use Rattle.finding.proofs.Lent.{lines-with, grids-with, entries-with}
+use Rattle.finding.proofs.Openings.{places-room}
 use borrow.Author.Needs.{needs}
 use Rattle.finding.proofs.checking.read_small.Statement.{statement}
 use Rattle.finding.proofs.checking.read_small.Tie as tie
@@ -11,65 +11,13 @@ slice-aggregate-open-sheet c = search needs
 slice-aggregate-open-sheet-2 : tie.Need-slice-aggregate-open-sheet-2
 slice-aggregate-open-sheet-2 c = search needs
 
-slice-aggregate-open-sheet-3 : tie.Need-slice-aggregate-open-sheet-3
-slice-aggregate-open-sheet-3 c = search needs
-
-slice-aggregate-open-sheet-4 : tie.Need-slice-aggregate-open-sheet-4
-slice-aggregate-open-sheet-4 c = search needs
-
-slice-aggregate-open-sheet-5 : tie.Need-slice-aggregate-open-sheet-5
-slice-aggregate-open-sheet-5 c = search needs
-
-slice-aggregate-open-sheet-6 : tie.Need-slice-aggregate-open-sheet-6
-slice-aggregate-open-sheet-6 c = search needs
-
-slice-aggregate-open-sheet-7 : tie.Need-slice-aggregate-open-sheet-7
-slice-aggregate-open-sheet-7 c = search needs
-
-slice-aggregate-open-sheet-8 : tie.Need-slice-aggregate-open-sheet-8
-slice-aggregate-open-sheet-8 c = search needs
-
-slice-aggregate-open-sheet-9 : tie.Need-slice-aggregate-open-sheet-9
-slice-aggregate-open-sheet-9 c = search needs
-
-slice-aggregate-open-sheet-10 : tie.Need-slice-aggregate-open-sheet-10
-slice-aggregate-open-sheet-10 c = search needs
-
-slice-aggregate-open-sheet-11 : tie.Need-slice-aggregate-open-sheet-11
-slice-aggregate-open-sheet-11 c = search needs
-
-slice-aggregate-open-sheet-12 : tie.Need-slice-aggregate-open-sheet-12
-slice-aggregate-open-sheet-12 c = search needs
-
-slice-aggregate-open-sheet-13 : tie.Need-slice-aggregate-open-sheet-13
-slice-aggregate-open-sheet-13 c = search needs
-
-slice-aggregate-open-sheet-14 : tie.Need-slice-aggregate-open-sheet-14
-slice-aggregate-open-sheet-14 c = search needs
-
 open-sheet-requires : tie.Need-open-sheet-requires
-open-sheet-requires c κs = let few = (c .before .before .before .before .before .before .before .before .before .before .before .before .before .before .before) .pre in (lines-with (few) (omega arith) (omega arith) (omega arith) (omega arith) (omega arith) (omega arith), (grids-with (few) (omega arith) (omega arith), (entries-with (omega arith) (omega arith) (omega arith) (omega arith), grids-with (few) (omega arith) (omega arith))))
+open-sheet-requires c κs = (omega arith, places-room _ _ (omega arith))
 
 returns : tie.Need-returns
-returns c = (c .before .before .before .before .before .before .before .before .before .before .before .before .before .before) .open-sheet .ensures .answer
+returns c = search needs
 
 pub read-small-spec : {M : Type 1} → statement M
 read-small-spec =
     tie.close
-    (tie.spec
-    slice-aggregate-open-sheet
-    slice-aggregate-open-sheet-2
-    slice-aggregate-open-sheet-3
-    slice-aggregate-open-sheet-4
-    slice-aggregate-open-sheet-5
-    slice-aggregate-open-sheet-6
-    slice-aggregate-open-sheet-7
-    slice-aggregate-open-sheet-8
-    slice-aggregate-open-sheet-9
-    slice-aggregate-open-sheet-10
-    slice-aggregate-open-sheet-11
-    slice-aggregate-open-sheet-12
-    slice-aggregate-open-sheet-13
-    slice-aggregate-open-sheet-14
-    open-sheet-requires
-    returns)
+    (tie.spec slice-aggregate-open-sheet slice-aggregate-open-sheet-2 open-sheet-requires returns)

@@ -1,15 +1,11 @@
--- `finding::estimating::estimates_small` meets its contract: short arrays have the room that a sheet of few lines asks for. Assumes nothing.
+-- `finding::estimating::estimates_small` meets its contract: a sheet has no more lines than short arrays have room for, and the buffer of the
+-- sizes has a place for each column. Assumes nothing.
 use native.Mathlib.Omega.{arith}
-use Rattle.opening.proofs.Slices.{room-most}
-use Rattle.finding.proofs.Lent.{lines-with, grids-with, entries-with, figures-less}
-use Rattle.finding.proofs.Measuring.{found-read}
+use Rattle.finding.proofs.Openings.{places-room, figures-room}
+use Rattle.finding.proofs.Measured.{lines-still, figures-fit, estimates-found}
 use borrow.Author.Needs.{needs}
 use Rattle.finding.proofs.estimating.estimates_small.Statement.{statement}
 use Rattle.finding.proofs.estimating.estimates_small.Tie as tie
-
--- the way back to the call
-abbrev measures : tie.After-row-end2 → tie.After-measure-sheet
-measures c = (c .before .before .before .before .before .before .before .before .before .before .before .before .before .before .before .before .before .before .before .before)
 
 slice-aggregate-measure-sheet : tie.Need-slice-aggregate-measure-sheet
 slice-aggregate-measure-sheet c = search needs
@@ -20,55 +16,29 @@ slice-aggregate-measure-sheet-2 c = search needs
 slice-aggregate-measure-sheet-3 : tie.Need-slice-aggregate-measure-sheet-3
 slice-aggregate-measure-sheet-3 c = search needs
 
-slice-aggregate-measure-sheet-4 : tie.Need-slice-aggregate-measure-sheet-4
-slice-aggregate-measure-sheet-4 c = search needs
-
-slice-aggregate-measure-sheet-5 : tie.Need-slice-aggregate-measure-sheet-5
-slice-aggregate-measure-sheet-5 c = search needs
-
-slice-aggregate-measure-sheet-6 : tie.Need-slice-aggregate-measure-sheet-6
-slice-aggregate-measure-sheet-6 c = search needs
-
-slice-aggregate-measure-sheet-7 : tie.Need-slice-aggregate-measure-sheet-7
-slice-aggregate-measure-sheet-7 c = search needs
-
-slice-aggregate-measure-sheet-8 : tie.Need-slice-aggregate-measure-sheet-8
-slice-aggregate-measure-sheet-8 c = search needs
-
-slice-aggregate-measure-sheet-9 : tie.Need-slice-aggregate-measure-sheet-9
-slice-aggregate-measure-sheet-9 c = search needs
-
-slice-aggregate-measure-sheet-10 : tie.Need-slice-aggregate-measure-sheet-10
-slice-aggregate-measure-sheet-10 c = search needs
-
-slice-aggregate-measure-sheet-11 : tie.Need-slice-aggregate-measure-sheet-11
-slice-aggregate-measure-sheet-11 c = search needs
-
-slice-aggregate-measure-sheet-12 : tie.Need-slice-aggregate-measure-sheet-12
-slice-aggregate-measure-sheet-12 c = search needs
-
-slice-aggregate-measure-sheet-13 : tie.Need-slice-aggregate-measure-sheet-13
-slice-aggregate-measure-sheet-13 c = search needs
-
-slice-aggregate-measure-sheet-14 : tie.Need-slice-aggregate-measure-sheet-14
-slice-aggregate-measure-sheet-14 c = search needs
-
 measure-sheet-requires : tie.Need-measure-sheet-requires
-measure-sheet-requires c κs =
-    let p = (c .before .before .before .before .before .before .before .before .before .before .before .before .before .before .before .before .before .before .before .before .before) .pre in
-    (lines-with (p .0) (omega arith) (omega arith) (omega arith) (omega arith) (omega arith) (omega arith), (grids-with (p .0) (omega arith) (omega arith), (figures-less (room-most _) (p .1), (entries-with (omega arith) (omega arith) (omega arith) (omega arith), grids-with (p .0) (omega arith) (omega arith)))))
+measure-sheet-requires c κs = (omega (arith, (c .before .before .before .before .before .before .before .before) .pre .0), (places-room _ _ (omega (arith, (c .before .before .before .before .before .before .before .before) .pre .0)), (figures-room _ _ (omega (arith, (c .before .before .before .before .before .before .before .before) .pre .0)), (c .before .before .before .before .before .before .before .before) .pre .1 .size-room)))
+
+lines-in-requires : tie.Need-lines-in-requires
+lines-in-requires c κs = search needs
+
+slice-aggregate-tell-figures : tie.Need-slice-aggregate-tell-figures
+slice-aggregate-tell-figures c = search needs
+
+tell-figures-requires : tie.Need-tell-figures-requires
+tell-figures-requires c κs = figures-fit ((c .before .before .before .before .before .before .before .before .before .before) .measure-sheet .ensures) ((c .before .before .before .before) .lines-in .ensures) (lines-still ((c .before .before .before .before .before .before .before .before .before .before) .measure-sheet .kept .1 .1 .1 .1 .1 .1 .1 .0) ((c .before .before .before .before .before .before .before .before .before .before .before .before .before .before .before .before .before .before .before) .pre .1)) (omega (arith, (c .before .before .before .before .before .before .before .before .before .before .before .before .before .before .before .before .before .before .before) .pre .0))
 
 same-length : tie.Need-same-length
-same-length c = measures c .measure-sheet .kept .1 .1 .1 .1 .1 .1 .1 .1 .1 .1 .1 .1 .0
+same-length c = search needs
 
 same-length-2 : tie.Need-same-length-2
-same-length-2 c = measures c .measure-sheet .kept .1 .1 .1 .1 .1 .1 .1 .1 .1 .1 .1 .1 .1 .0
+same-length-2 c = search needs
 
 same-length-3 : tie.Need-same-length-3
-same-length-3 c = measures c .measure-sheet .kept .1 .1 .1 .1 .1 .1 .1 .1 .1 .1 .1 .1 .1 .1 .0
+same-length-3 c = search needs
 
 returns : tie.Need-returns
-returns c = found-read (measures c .measure-sheet .ensures)
+returns c = estimates-found ((c .before .before .before .before .before .before .before .before .before .before .before .before .before .before .before .before .before) .measure-sheet .ensures) ((c .before .before .before .before .before .before .before .before .before .before .before) .lines-in .ensures) ((c .before .before .before .before .before .before) .tell-figures .ensures)
 
 pub estimates-small-spec : {M : Type 1} → statement M
 estimates-small-spec =
@@ -77,18 +47,10 @@ estimates-small-spec =
     slice-aggregate-measure-sheet
     slice-aggregate-measure-sheet-2
     slice-aggregate-measure-sheet-3
-    slice-aggregate-measure-sheet-4
-    slice-aggregate-measure-sheet-5
-    slice-aggregate-measure-sheet-6
-    slice-aggregate-measure-sheet-7
-    slice-aggregate-measure-sheet-8
-    slice-aggregate-measure-sheet-9
-    slice-aggregate-measure-sheet-10
-    slice-aggregate-measure-sheet-11
-    slice-aggregate-measure-sheet-12
-    slice-aggregate-measure-sheet-13
-    slice-aggregate-measure-sheet-14
     measure-sheet-requires
+    lines-in-requires
+    slice-aggregate-tell-figures
+    tell-figures-requires
     same-length
     same-length-2
     same-length-3

@@ -1,18 +1,18 @@
 -- `listing::entries::row_entries` is safe and ends. The invariant: the place reached is one of the buffer, and the buffer keeps its length;
--- the call of a turn keeps both. The measure is the entries left in the row. Assumes nothing.
+-- the call of a turn keeps both. The measure is the entries left. Assumes nothing.
 use mathlib.Core.Path.{_≡_}
 use Prim.Native.Nat.{_-_}
 use lib.ListN.{length}
-use borrow.Author.Needs.{needs}
 use Rattle.listing.specs.Listing.{Place}
+use borrow.Author.Needs.{needs}
 use Rattle.listing.proofs.entries.row_entries.Statement.{statement}
 use Rattle.listing.proofs.entries.row_entries.Tie as tie
 
 abbrev Inv-loop : tie.InvT-loop
-Inv-loop out₀ at line cell start extent from to next₀ e₀ out next e = Place out next × (length out ≡ length out₀)
+Inv-loop out₀ at line entries start extent from to next₀ e₀ out next e = Place out next × (length out ≡ length out₀)
 
 abbrev μ-loop : tie.MeasureT-loop
-μ-loop out₀ at line cell start extent from to next₀ e₀ out next e = to - e
+μ-loop out₀ at line entries start extent from to next₀ e₀ out next e = to - e
 
 loop-holds : tie.Need-loop-holds Inv-loop μ-loop
 loop-holds c = search needs

@@ -1,6 +1,6 @@
 -- `tables::telling::column_count` meets its contract: each arm answers what the definition says of its variant. Assumes nothing.
 use mathlib.Core.Path.{sym, ap}
-use Rattle.finding.specs.Found.{columnTotal}
+use Rattle.finding.specs.inner.Layouts.{columnTotal}
 use borrow.Author.Needs.{needs}
 use Rattle.tables.proofs.telling.column_count.Statement.{statement}
 use Rattle.tables.proofs.telling.column_count.Tie as tie

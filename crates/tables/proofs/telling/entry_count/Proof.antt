@@ -1,6 +1,6 @@
 -- `tables::telling::entry_count` meets its contract: each arm answers what the definition says of its variant. Assumes nothing.
 use mathlib.Core.Path.{sym, ap}
-use Rattle.finding.specs.Found.{entryTotal}
+use Rattle.finding.specs.inner.Found.{entryTotal}
 use borrow.Author.Needs.{needs}
 use Rattle.tables.proofs.telling.entry_count.Statement.{statement}
 use Rattle.tables.proofs.telling.entry_count.Tie as tie

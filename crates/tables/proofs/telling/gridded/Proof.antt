@@ -1,6 +1,6 @@
 -- `tables::telling::gridded` meets its contract: each arm answers what the definition says of its variant. Assumes nothing.
 use mathlib.Core.Path.{sym, ap}
-use Rattle.tables.specs.Inner.{griddedIn}
+use Rattle.tables.specs.inner.Telling.{griddedIn}
 use borrow.Author.Needs.{needs}
 use Rattle.tables.proofs.telling.gridded.Statement.{statement}
 use Rattle.tables.proofs.telling.gridded.Tie as tie

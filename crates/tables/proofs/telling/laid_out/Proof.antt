@@ -1,6 +1,6 @@
 -- `tables::telling::laid_out` meets its contract: each arm answers what the definition says of its variant. Assumes nothing.
 use mathlib.Core.Path.{sym, ap}
-use Rattle.tables.specs.Inner.{laidIn}
+use Rattle.tables.specs.inner.Telling.{laidIn}
 use borrow.Author.Needs.{needs}
 use Rattle.tables.proofs.telling.laid_out.Statement.{statement}
 use Rattle.tables.proofs.telling.laid_out.Tie as tie

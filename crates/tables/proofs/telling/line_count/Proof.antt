@@ -1,6 +1,6 @@
 -- `tables::telling::line_count` meets its contract: each arm answers what the definition says of its variant. Assumes nothing.
 use mathlib.Core.Path.{sym, ap}
-use Rattle.finding.specs.Found.{linesIn}
+use Rattle.finding.specs.inner.Found.{linesIn}
 use borrow.Author.Needs.{needs}
 use Rattle.tables.proofs.telling.line_count.Statement.{statement}
 use Rattle.tables.proofs.telling.line_count.Tie as tie

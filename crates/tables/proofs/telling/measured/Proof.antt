@@ -1,8 +1,8 @@
 -- `tables::telling::measured` meets its contract: each arm answers what the definition says of its variant, and the lines are few enough for 32 bits. Assumes nothing.
 use mathlib.Core.Path.{sym, ap}
 use native.Mathlib.Omega.{arith}
-use Rattle.finding.specs.Found.{linesIn}
-use Rattle.tables.specs.Inner.{measuredIn}
+use Rattle.finding.specs.inner.Found.{linesIn}
+use Rattle.tables.specs.inner.Telling.{measuredIn}
 use borrow.Author.Needs.{needs}
 use Rattle.tables.proofs.telling.measured.Statement.{statement}
 use Rattle.tables.proofs.telling.measured.Tie as tie

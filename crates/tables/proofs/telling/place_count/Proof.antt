@@ -1,6 +1,6 @@
 -- `tables::telling::place_count` meets its contract: each arm answers what the definition says of its variant. Assumes nothing.
 use mathlib.Core.Path.{sym, ap}
-use Rattle.finding.specs.Found.{placeTotal}
+use Rattle.finding.specs.inner.Layouts.{placeTotal}
 use borrow.Author.Needs.{needs}
 use Rattle.tables.proofs.telling.place_count.Statement.{statement}
 use Rattle.tables.proofs.telling.place_count.Tie as tie

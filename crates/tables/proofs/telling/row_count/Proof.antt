@@ -1,6 +1,6 @@
 -- `tables::telling::row_count` meets its contract: each arm answers what the definition says of its variant. Assumes nothing.
 use mathlib.Core.Path.{sym, ap}
-use Rattle.finding.specs.Found.{rowTotal}
+use Rattle.finding.specs.inner.Found.{rowTotal}
 use borrow.Author.Needs.{needs}
 use Rattle.tables.proofs.telling.row_count.Statement.{statement}
 use Rattle.tables.proofs.telling.row_count.Tie as tie

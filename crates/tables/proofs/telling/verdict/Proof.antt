@@ -1,6 +1,6 @@
 -- `tables::telling::verdict` meets its contract: each arm answers what the definition says of its variant. Assumes nothing.
 use mathlib.Core.Path.{sym, ap}
-use Rattle.tables.specs.Inner.{verdictIn}
+use Rattle.tables.specs.inner.Telling.{verdictIn}
 use borrow.Author.Needs.{needs}
 use Rattle.tables.proofs.telling.verdict.Statement.{statement}
 use Rattle.tables.proofs.telling.verdict.Tie as tie

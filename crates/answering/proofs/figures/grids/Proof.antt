@@ -1,0 +1,66 @@
+-- `answering::figures::grids` is safe and ends. The invariant: the place reached is one of the buffer, and the buffer keeps its length;
+-- the call of a turn keeps both. The measure is the lines left. Assumes nothing.
+use mathlib.Core.Path.{_≡_}
+use Prim.Native.Nat.{_-_}
+use lib.ListN.{length}
+use Rattle.listing.specs.Listing.{Place}
+use borrow.Author.Needs.{needs}
+use Rattle.answering.proofs.figures.grids.Statement.{statement}
+use Rattle.answering.proofs.figures.grids.Tie as tie
+
+abbrev Inv-loop : tie.InvT-loop
+Inv-loop out₀ at sheet lines n next₀ i₀ out next i = Place out next × (length out ≡ length out₀)
+
+abbrev μ-loop : tie.MeasureT-loop
+μ-loop out₀ at sheet lines n next₀ i₀ out next i = n - i
+
+count-requires : tie.Need-count-requires Inv-loop μ-loop
+count-requires c κs = search needs
+
+loop-holds : tie.Need-loop-holds Inv-loop μ-loop
+loop-holds c = search needs
+
+kept-at-requires : tie.Need-kept-at-requires Inv-loop μ-loop
+kept-at-requires c κs = search needs
+
+add-grid-at : tie.Need-add-grid-at Inv-loop μ-loop
+add-grid-at c = search needs
+
+cast-grid-at : tie.Need-cast-grid-at Inv-loop μ-loop
+cast-grid-at c = search needs
+
+grid-at-requires : tie.Need-grid-at-requires Inv-loop μ-loop
+grid-at-requires c κs = search needs
+
+add-i : tie.Need-add-i Inv-loop μ-loop
+add-i c = search needs
+
+loop-less : tie.Need-loop-less Inv-loop μ-loop
+loop-less c = search needs
+
+loop-again : tie.Need-loop-again Inv-loop μ-loop
+loop-again c = search needs
+
+same-length : tie.Need-same-length Inv-loop μ-loop
+same-length c = search needs
+
+returns : tie.Need-returns Inv-loop μ-loop
+returns c = search needs
+
+pub grids-spec : {M : Type 1} → statement M
+grids-spec =
+    tie.close
+    (tie.spec
+    Inv-loop
+    μ-loop
+    count-requires
+    loop-holds
+    kept-at-requires
+    add-grid-at
+    cast-grid-at
+    grid-at-requires
+    add-i
+    loop-less
+    loop-again
+    same-length
+    returns)

@@ -1,0 +1,71 @@
+// What the public calls answer for an input, which holds settings and a sheet, so that a program can print it: the layouts as `layout` prints
+// them, the estimates of all lines and each table's grid. The format is our own: the Rust has no counterpart.
+mod grids; // grids.rt: a grid by the public call, as records
+pub mod calls; // calls.rt: how each table is laid out
+pub mod figures; // figures.rt: the estimates of all lines, and each table's grid
+
+ghost use Prim.Native.Nat.{_≤_};
+ghost use Rattle.lists.specs.Limits.{maxLines};
+ghost use Rattle.records.specs.Kept.{keptCount};
+ghost use Rattle.listing.specs.Listing.{Place};
+use listing::refusal;
+use lists::MAX_LINES;
+use lists::Verdict;
+use settings::Given;
+use settings::Settled;
+use sheet::Reading;
+
+// Reads a sheet that was accepted, and answers how many lines it has: what is asked of them is which are tables.
+fn line_count(sheet: &[u8], kept: &mut [u32]) -> usize
+    requires { ⌜ maxLines ≤ keptCount (now kept) ⌝ }
+    ensures { λ r. ⌜ (r ≤ maxLines) × (r ≤ keptCount (now (kept .exit))) ⌝ }
+{
+    let Reading::Lines(n) = opening::read_sheet(sheet, kept) else {
+        return 0;
+    };
+    n
+}
+
+// Puts the layouts, the estimates and the grids of an accepted sheet, whose lines are the first n records.
+fn listed(out: &mut [u8], at: usize, sheet: &[u8], kept: &[u32], n: usize, given: Given) -> usize
+    requires { ⌜ Place (now out) at ⌝ }
+    requires { ⌜ (n ≤ maxLines) × (n ≤ keptCount (now kept)) ⌝ }
+    ensures { λ r. ⌜ Place (now (out .exit)) r ⌝ }
+{
+    let end = records::WIDTH * n;
+    let next = calls::layouts(out, at, sheet, &kept[..end], given);
+    figures::figures(out, next, sheet, &kept[..end], given.wrap)
+}
+
+// The same, with the lines read.
+fn accepted(out: &mut [u8], at: usize, sheet: &[u8], given: Given) -> usize
+    requires { ⌜ Place (now out) at ⌝ }
+    ensures { λ r. ⌜ Place (now (out .exit)) r ⌝ }
+{
+    let mut kept = [0u32; 6 * MAX_LINES];
+    let n = line_count(sheet, &mut kept);
+    listed(out, at, sheet, &kept, n, given)
+}
+
+// Puts what the public calls answer for a sheet at its settings, or why it is refused.
+fn checked(out: &mut [u8], at: usize, sheet: &[u8], given: Given) -> usize
+    requires { ⌜ Place (now out) at ⌝ }
+    ensures { λ r. ⌜ Place (now (out .exit)) r ⌝ }
+{
+    match tables::check(sheet) {
+        Verdict::Accepted => accepted(out, at, sheet, given),
+        Verdict::Refused { number, line } => refusal(out, at, number, line),
+    }
+}
+
+// Puts what the public calls answer for an input: the layouts as `layout` prints them, the estimates of all lines and each table's grid.
+pub fn answers(out: &mut [u8], at: usize, input: &[u8]) -> usize
+    requires { ⌜ Place (now out) at ⌝ }
+    ensures { λ r. ⌜ Place (now (out .exit)) r ⌝ }
+{
+    let Settled::Set(given) = settings::settings(input) else {
+        return refusal(out, at, 9, 0);
+    };
+    let from = given.sheet;
+    checked(out, at, &input[from..], given)
+}

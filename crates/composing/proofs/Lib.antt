@@ -1,3 +1,0 @@
--- Laws of the layout of one table in a sheet.
-pub mod Rooms
-pub mod Laying

@@ -1,0 +1,2 @@
+-- How the code goes about it: rows and what hangs in slices.
+pub mod Slices

@@ -1,0 +1,53 @@
+-- `finding::layouts::layout_large` meets its contract: a sheet has no more lines than the arrays have room for, and the buffer of
+-- the columns has a place for each. Assumes nothing.
+use native.Mathlib.Omega.{arith}
+use Rattle.finding.proofs.Openings.{figures-room, asked-in}
+use Rattle.finding.proofs.LaidOut.{out-still, measured-in, layout-found}
+use borrow.Author.Needs.{needs}
+use Rattle.finding.proofs.layouts.layout_large.Statement.{statement}
+use Rattle.finding.proofs.layouts.layout_large.Tie as tie
+
+slice-aggregate-measured-large : tie.Need-slice-aggregate-measured-large
+slice-aggregate-measured-large c = search needs
+
+slice-aggregate-measured-large-2 : tie.Need-slice-aggregate-measured-large-2
+slice-aggregate-measured-large-2 c = search needs
+
+measured-large-requires : tie.Need-measured-large-requires
+measured-large-requires c κs = (omega arith, (figures-room _ _ (omega arith), (c .before .before .before .before .before .before .before) .pre .1 .column-room))
+
+slice-aggregate-layout-of : tie.Need-slice-aggregate-layout-of
+slice-aggregate-layout-of c = search needs
+
+slice-aggregate-layout-of-2 : tie.Need-slice-aggregate-layout-of-2
+slice-aggregate-layout-of-2 c = search needs
+
+layout-of-requires : tie.Need-layout-of-requires
+layout-of-requires c κs = (asked-in ((c .before .before .before .before .before .before .before .before .before) .measured-large .ensures .opened) (omega arith), (measured-in ((c .before .before .before .before .before .before .before .before .before) .measured-large .ensures) (figures-room _ _ (omega arith)), ((c .before .before .before .before .before .before .before .before .before .before .before .before .before .before .before .before .before) .pre .0, out-still ((c .before .before .before .before .before .before .before .before .before) .measured-large .kept .1 .1 .1 .1 .1 .0) ((c .before .before .before .before .before .before .before .before .before .before .before .before .before .before .before .before .before) .pre .1))))
+
+same-length : tie.Need-same-length
+same-length c = search needs
+
+same-length-2 : tie.Need-same-length-2
+same-length-2 c = search needs
+
+same-length-3 : tie.Need-same-length-3
+same-length-3 c = search needs
+
+returns : tie.Need-returns
+returns c = layout-found ((c .before .before .before .before .before .before .before .before .before .before .before .before .before .before .before .before) .measured-large .ensures) ((c .before .before .before .before .before .before .before .before .before .before .before .before .before .before .before .before .before .before .before .before .before .before .before .before) .pre .0 .0) ((c .before .before .before .before .before .before) .layout-of .ensures)
+
+pub layout-large-spec : {M : Type 1} → statement M
+layout-large-spec =
+    tie.close
+    (tie.spec
+    slice-aggregate-measured-large
+    slice-aggregate-measured-large-2
+    measured-large-requires
+    slice-aggregate-layout-of
+    slice-aggregate-layout-of-2
+    layout-of-requires
+    same-length
+    same-length-2
+    same-length-3
+    returns)

@@ -1,0 +1,4 @@
+-- What the functions of this crate take and promise.
+pub mod Found
+pub mod Made
+pub mod Layouts

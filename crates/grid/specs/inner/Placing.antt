@@ -1,0 +1,90 @@
+-- Rows by positions in slices, and what numbering them takes and gives. These are definitions; nothing is assumed.
+use mathlib.Core.Path.{_≡_}
+use mathlib.Core.Bool.{Bool}
+use mathlib.Core.List.{List, _∷_, map}
+use Prim.Native.Nat.{ℕ, _≤_}
+use lib.ListN.{length, take}
+use Rattle.lists.specs.Lists.{mem}
+use Rattle.records.specs.declared.Entry as packed
+use Rattle.edges.specs.Edges.{rowsFrom, rowsEnds, RowsFit}
+use Rattle.edges.specs.declared.Numbered.{Numbered}
+use Rattle.edges.specs.declared.Numbered.the-variants.{Done, Missing}
+use Rattle.cells.specs.Cells as cells
+use Rattle.rows.specs.Row.{itemLine, itemSpan}
+use Rattle.positions.specs.declared.Positions.{Positions}
+use Rattle.positions.specs.declared.Positions.the-variants.{Rows, Past, Many}
+use Rattle.positions.specs.Positions.{allRows}
+use Rattle.extras.specs.inner.Slices.{allItems, entryEnds, placedLine}
+use Rattle.positions.specs.inner.Slices.{positionsOf}
+use Rattle.grid.specs.declared.Judged.{Judged}
+use Rattle.grid.specs.declared.Judged.the-variants.{Grid, Refused}
+use Rattle.grid.specs.inner.Numbering.{RowsNumbered}
+use Rattle.grid.specs.Grid.{GridRow, gridOf, entriesOf, rowEnds}
+use Rattle.grid.specs.Judging.{judgedOf, shown}
+
+-- a position is an edge of rows of spans if it is 0 or the end of an entry
+abbrev pub edgeOfRows : List (List ℕ) → ℕ → Bool
+edgeOfRows rs p = mem p (0 ∷ rowsEnds rs)
+
+-- rows by positions: the first `entries` figures of `wide` and of `line` are the spans and the lines of their entries, the first `rows` figures of
+-- `ends` say how many entries there are up to and including each row, and the first `originals` of the rows are original rows
+pub record RowsReady (originals rows entries : ℕ) (wide line ends : List ℕ) (es : List packed.Entry) : Type 0 where
+  pub some : originals ≤ rows
+  pub ends-in : rows ≤ length ends
+  pub wide-in : entries ≤ length wide
+  pub line-in : entries ≤ length line
+  pub fit : RowsFit 0 (take rows ends) (take entries wide)
+  pub entry-room : entries ≤ length es
+
+-- what becomes of them in columns: their counts, or that an entry ends at no edge
+abbrev pub withColumns : ℕ → ℕ → Numbered → Judged
+withColumns rows entries (Done columns) = Grid rows entries columns
+withColumns rows entries Missing = Refused 7
+
+pub record RowsJudged (originals rows entries : ℕ) (wide line ends : List ℕ) (r : Judged) (es : List packed.Entry) : Type 0 where
+  pub numbered : Numbered
+  pub answer : r ≡ withColumns rows entries numbered
+  pub written : RowsNumbered (edgeOfRows (rowsFrom 0 (take originals (take rows ends)) (take entries wide))) (rowsFrom 0 (take rows ends) (take entries wide))
+      (take entries line) numbered es
+
+-- the same, or a refusal that is known before
+pub record PlacedReady (placed : Positions) (wide line ends : List ℕ) (es : List packed.Entry) : Type 0 where
+  pub ready : (originals rows entries : ℕ) → placed ≡ Rows originals rows entries → RowsReady originals rows entries wide line ends es
+
+pub record PlacedJudged (placed : Positions) (wide line ends : List ℕ) (r : Judged) (es : List packed.Entry) : Type 0 where
+  pub past : placed ≡ Past → r ≡ Refused 5
+  pub many : placed ≡ Many → r ≡ Refused 6
+  pub rows : (originals rows entries : ℕ) → placed ≡ Rows originals rows entries → RowsJudged originals rows entries wide line ends r es
+
+-- the rows of a table by positions stand in the first places of the slices
+pub record RowsStand (table : List cells.Row) (rows entries : ℕ) (wide line row end : List ℕ) : Type 0 where
+  pub lines : take entries line ≡ map itemLine (allItems (allRows table))
+  pub spans : take entries wide ≡ map itemSpan (allItems (allRows table))
+  pub row-lines : take rows row ≡ map placedLine (allRows table)
+  pub ends : take rows end ≡ entryEnds 0 (allRows table)
+
+pub record TablePlaced (table : List cells.Row) (placed : Positions) (wide line row end : List ℕ) : Type 0 where
+  pub answer : placed ≡ positionsOf table
+  pub stand : (originals rows entries : ℕ) → placed ≡ Rows originals rows entries → RowsStand table rows entries wide line row end
+
+abbrev pub gridLine : GridRow → ℕ
+gridLine r = r .line
+
+-- the answer; where there is a grid, its entries stand in the first records, and its rows in the first places of two slices
+pub record GridJudged (table : List cells.Row) (r : Judged) (es : List packed.Entry) (row end : List ℕ) : Type 0 where
+  pub answer : r ≡ judgedOf table
+  pub entries : (rows n columns : ℕ) → r ≡ Grid rows n columns → take n es ≡ map shown (entriesOf (gridOf table))
+  pub row-lines : (rows n columns : ℕ) → r ≡ Grid rows n columns → take rows row ≡ map gridLine (gridOf table)
+  pub row-ends : (rows n columns : ℕ) → r ≡ Grid rows n columns → take rows end ≡ rowEnds 0 (gridOf table)
+
+-- the lent slices have `room` places for entries, as many as there are lines or more, and places for n lines
+pub record Room (n room : ℕ) (wide line cell-line cell-span cell-rows cell-end row end : List ℕ) : Type 0 where
+  pub row-fits : n ≤ room
+  pub wide-room : room ≤ length wide
+  pub line-room : room ≤ length line
+  pub cell-line-room : n ≤ length cell-line
+  pub cell-span-room : n ≤ length cell-span
+  pub cell-rows-room : n ≤ length cell-rows
+  pub cell-end-room : n ≤ length cell-end
+  pub row-room : n ≤ length row
+  pub end-room : n ≤ length end

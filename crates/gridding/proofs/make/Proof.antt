@@ -1,0 +1,42 @@
+-- `gridding::make` meets its contract: the lines after the table's are none of it, and the lines up to its end stand in the first places. Assumes nothing.
+use mathlib.Core.Path.{sym}
+use native.Mathlib.Omega.{arith}
+use lib.Seq.{length-take-le}
+use Rattle.records.proofs.Kepts.{length-kepts, kepts-take}
+use Rattle.gridding.proofs.Ending.{held-front, ready-front}
+use borrow.Author.Needs.{needs}
+use Rattle.gridding.proofs.make.Statement.{statement}
+use Rattle.gridding.proofs.make.Tie as tie
+
+extent-of-requires : tie.Need-extent-of-requires
+extent-of-requires c κs = search needs
+
+mul-end : tie.Need-mul-end
+mul-end c = search needs
+
+slice-aggregate-make-last : tie.Need-slice-aggregate-make-last
+slice-aggregate-make-last c = sym (length-take-le _ _ (omega (arith, (c .before .before) .extent-of .ensures .within, length-kepts ((c .before .before .before .before .before .before) .args .lines .now))))
+
+make-last-requires : tie.Need-make-last-requires
+make-last-requires c κs = let e = (c .before .before .before .before) .extent-of .ensures in rw (kepts-take ((c .before .before .before .before .before .before .before .before) .args .lines .now) ((c .before .before .before .before) .extent-of .result .end) (omega (arith, (c .before .before .before .before) .extent-of .ensures .within, length-kepts ((c .before .before .before .before .before .before .before .before) .args .lines .now)))) (ready-front e ((c .before .before .before .before .before .before .before .before) .pre), e .rows)
+
+same-length : tie.Need-same-length
+same-length c = search needs
+
+same-length-2 : tie.Need-same-length-2
+same-length-2 c = search needs
+
+returns : tie.Need-returns
+returns c = let m = rw (kepts-take ((c .before .before .before .before .before .before .before .before .before .before .before .before .before) .args .lines .now) ((c .before .before .before .before .before .before .before .before .before) .extent-of .result .end) (omega (arith, (c .before .before .before .before .before .before .before .before .before) .extent-of .ensures .within, length-kepts ((c .before .before .before .before .before .before .before .before .before .before .before .before .before) .args .lines .now)))) at ((c .before .before .before .before) .make-last .ensures) in rw (held-front ((c .before .before .before .before .before .before .before .before .before) .extent-of .ensures)) at m
+
+pub make-spec : {M : Type 1} → statement M
+make-spec =
+    tie.close
+    (tie.spec
+    extent-of-requires
+    mul-end
+    slice-aggregate-make-last
+    make-last-requires
+    same-length
+    same-length-2
+    returns)

@@ -1,0 +1,66 @@
+-- The grid of a table as records of its entries and rows. These are definitions; nothing is assumed.
+use mathlib.Core.Path.{_≡_}
+use mathlib.Core.List.{List, [], _∷_, map}
+use Prim.Native.Nat.{ℕ, _+_, _≤_, _<_}
+use lib.ListN.{length, take}
+use Rattle.records.specs.declared.Kept.{Kept}
+use Rattle.records.specs.declared.Entry.{Entry}
+use Rattle.records.specs.declared.Row.{Row}
+use Rattle.cells.specs.Cells as cells
+use Rattle.cells.specs.Listed.{heldRows}
+use Rattle.extras.specs.Extras.{entryCount}
+use Rattle.positions.specs.Positions.{allRows}
+use Rattle.positions.specs.inner.Slices.{Enough}
+use Rattle.grid.specs.declared.Judged.{Judged}
+use Rattle.grid.specs.declared.Judged.the-variants.{Grid}
+use Rattle.grid.specs.Grid as grid
+use Rattle.grid.specs.Grid.{GridRow, gridOf, columnsOf}
+use Rattle.grid.specs.Facts.{Sound}
+use Rattle.grid.specs.Judging.{Lined, judgedOf, shown}
+use Rattle.gridding.specs.declared.Counts.{Counts}
+-- an entry and a row as records; `shown` is an entry as a listing shows it
+pub use Rattle.grid.specs.Judging.{shown}
+
+abbrev pub entry : ℕ → ℕ → ℕ → Entry
+entry cell first span = record { cell = cell; first = first; span = span }
+
+abbrev pub row : ℕ → ℕ → Row
+row line end = record { line = line; end = end }
+
+-- for each row its line, and the number of entries up to and including it; n stand before
+unfoldable pub endedRows : ℕ → List GridRow → List Row
+endedRows n [] = []
+endedRows n (r ∷ rs) = row (r .line) (n + length (r .entries)) ∷ endedRows (n + length (r .entries)) rs
+
+-- ---- any table
+
+-- a table of lines that are read, and records for its entries and rows
+pub record GridReady (ks : List Kept) (at : ℕ) (es : List Entry) (rs : List Row) : Type 0 where
+  pub within : at < length ks
+  pub lined : Lined ks
+  pub enough : Enough (length es) (heldRows ks at)
+  pub row-room : length ks ≤ length rs
+
+-- the counts of its grid, which stands in the first records; or its refusal
+pub record GridMade (table : List cells.Row) (r : Judged) (es : List Entry) (rs : List Row) : Type 0 where
+  pub answer : r ≡ judgedOf table
+  pub entries : (rows n columns : ℕ) → r ≡ Grid rows n columns → take n es ≡ map shown (grid.entriesOf (gridOf table))
+  pub rows : (rows n columns : ℕ) → r ≡ Grid rows n columns → take rows rs ≡ endedRows 0 (gridOf table)
+
+-- ---- a table to which no refusal applies
+
+-- a table of an opened sheet, and records for its entries and rows
+pub record TableReady (ks : List Kept) (at : ℕ) (es : List Entry) (rs : List Row) : Type 0 where
+  pub within : at < length ks
+  pub lined : Lined ks
+  pub sound : Sound (heldRows ks at)
+  pub entry-room : entryCount (allRows (heldRows ks at)) ≤ length es
+  pub row-room : length ks ≤ length rs
+
+-- the grid stands in the first records
+pub record TableMade (table : List cells.Row) (counts : Counts) (es : List Entry) (rs : List Row) : Type 0 where
+  pub rows-are : counts .rows ≡ length (gridOf table)
+  pub entries-are : counts .entries ≡ length (grid.entriesOf (gridOf table))
+  pub columns-are : counts .columns ≡ columnsOf table
+  pub entries : take (length (grid.entriesOf (gridOf table))) es ≡ map shown (grid.entriesOf (gridOf table))
+  pub rows : take (length (gridOf table)) rs ≡ endedRows 0 (gridOf table)

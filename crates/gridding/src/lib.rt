@@ -1,0 +1,287 @@
+// The grid of one table, made where it is used, as records of its entries and rows. Room to work in is its own, of four sizes, by the lines of
+// the table alone: it is cleared for each table, and for a small table a short one does.
+// The rows' slice is room too until its rows are written: for the ends of the rows' cells.
+use grid::Judged;
+use lists::MAX_ENTRIES;
+use lists::MAX_LINES;
+use positions::Positions;
+use records::Row;
+ghost use mathlib.Core.Path.{_≡_};
+ghost use Prim.Native.Nat.{_+_, _≤_, _<_};
+ghost use lib.ListN.{length, drop};
+ghost use Rattle.lists.specs.Limits.{maxLines};
+ghost use Rattle.records.specs.Kept.{keptsOf, entriesOf, rowsOf};
+ghost use Rattle.cells.specs.Listed.{heldRows};
+ghost use Rattle.gridding.specs.Packed.{GridReady, GridMade, TableReady, TableMade};
+ghost use Rattle.gridding.specs.inner.Making.{rowsIn, Ended, Fits, RowsPacked, FinishReady, Finished};
+
+// Lines of a table for which short arrays do, and how many entries it has at the most: one for each line after its own, and one for each row that
+// they ask for. The sizes are for speed alone.
+const LEAST_LINES: usize = 16;
+
+const LEAST_ENTRIES: usize = 32;
+
+const FEW_LINES: usize = 128;
+
+const FEW_ENTRIES: usize = 256;
+
+const SOME_LINES: usize = 512;
+
+const SOME_ENTRIES: usize = 1024;
+
+// How many rows, entries and columns a grid has.
+pub struct Counts {
+    pub rows: usize,
+    pub entries: usize,
+    pub columns: usize,
+}
+
+// Where a table's lines end, and how many rows those after its own ask for.
+struct Extent {
+    end: usize,
+    asked: u64,
+}
+
+// The lines of the table at the place `at`: they end at the first that is no deeper than the table.
+fn extent_of(lines: &[u32], at: usize) -> Extent
+    requires { ⌜ at < length (keptsOf (now lines)) ⌝ }
+    requires { ⌜ length (keptsOf (now lines)) ≤ maxLines ⌝ }
+    ensures { λ r. ⌜ Ended (keptsOf (now (lines .entry))) at (r .end) (r .asked) ⌝ }
+{
+    let table = records::kept_at(lines, at);
+    let d = table.depth;
+    let mut asked: u64 = 0;
+    let mut end = at + 1;
+    while cells::below(lines, end, d) {
+        let here = records::kept_at(lines, end);
+        asked += here.rows as u64;
+        end += 1;
+    }
+    Extent { end, asked }
+}
+
+// The first n rows as records.
+fn pack_rows(line: &[u32], end: &[u32], n: usize, rows: &mut [u32])
+    requires { ⌜ (n ≤ length (now line)) × (n ≤ length (now end)) ⌝ }
+    requires { ⌜ n ≤ length (rowsOf (now rows)) ⌝ }
+    ensures { λ _. ⌜ RowsPacked n (now (line .entry)) (now (end .entry)) (rowsOf (now (rows .exit))) ⌝ }
+{
+    let mut i = 0;
+    while i < n {
+        let r = Row {
+            line: line[i],
+            end: end[i],
+        };
+        records::put_row(rows, i, r);
+        i += 1;
+    }
+}
+
+// The grid of a table's rows by positions, as records of its entries and rows.
+fn finish(
+    placed: Positions,
+    wide: &[u32],
+    line: &[u32],
+    row_line: &[u32],
+    row_end: &[u32],
+    entries: &mut [u32],
+    rows: &mut [u32],
+) -> Judged
+    requires { ⌜ FinishReady placed (now wide) (now line) (now «row_line») (now «row_end») (entriesOf (now entries)) (rowsOf (now rows)) ⌝ }
+    ensures { λ r. ⌜ Finished placed (now (wide .entry)) (now (line .entry)) (now («row_line» .entry)) (now («row_end» .entry)) r (entriesOf (now (entries .exit))) (rowsOf (now (rows .exit))) ⌝ }
+{
+    match grid::placed_grid(placed, wide, line, row_end, entries) {
+        Judged::Refused(number) => Judged::Refused(number),
+        Judged::Grid {
+            rows: r,
+            entries: n,
+            columns,
+        } => {
+            pack_rows(row_line, row_end, r, rows);
+            Judged::Grid {
+                rows: r,
+                entries: n,
+                columns,
+            }
+        }
+    }
+}
+
+// The grid of a table of the fewest lines.
+fn make_least(lines: &[u32], at: usize, entries: &mut [u32], rows: &mut [u32]) -> Judged
+    requires { ⌜ GridReady (keptsOf (now lines)) at (entriesOf (now entries)) (rowsOf (now rows)) ⌝ }
+    requires { ⌜ Fits 16 32 (keptsOf (now lines)) at ⌝ }
+    ensures { λ r. ⌜ GridMade (heldRows (keptsOf (now (lines .entry))) at) r (entriesOf (now (entries .exit))) (rowsOf (now (rows .exit))) ⌝ }
+{
+    let mut wide = [0u32; LEAST_ENTRIES];
+    let mut line = [0u32; LEAST_ENTRIES];
+    let mut cell_line = [0u32; LEAST_LINES];
+    let mut cell_span = [0u32; LEAST_LINES];
+    let mut cell_rows = [0u32; LEAST_LINES];
+    let mut row_line = [0u32; LEAST_LINES];
+    let mut row_end = [0u32; LEAST_LINES];
+    let placed = grid::place_table(
+        lines,
+        at,
+        LEAST_ENTRIES,
+        &mut wide,
+        &mut line,
+        &mut cell_line,
+        &mut cell_span,
+        &mut cell_rows,
+        rows,
+        &mut row_line,
+        &mut row_end,
+    );
+    finish(placed, &wide, &line, &row_line, &row_end, entries, rows)
+}
+
+// The grid of a table of few lines.
+fn make_few(lines: &[u32], at: usize, entries: &mut [u32], rows: &mut [u32]) -> Judged
+    requires { ⌜ GridReady (keptsOf (now lines)) at (entriesOf (now entries)) (rowsOf (now rows)) ⌝ }
+    requires { ⌜ Fits 128 256 (keptsOf (now lines)) at ⌝ }
+    ensures { λ r. ⌜ GridMade (heldRows (keptsOf (now (lines .entry))) at) r (entriesOf (now (entries .exit))) (rowsOf (now (rows .exit))) ⌝ }
+{
+    let mut wide = [0u32; FEW_ENTRIES];
+    let mut line = [0u32; FEW_ENTRIES];
+    let mut cell_line = [0u32; FEW_LINES];
+    let mut cell_span = [0u32; FEW_LINES];
+    let mut cell_rows = [0u32; FEW_LINES];
+    let mut row_line = [0u32; FEW_LINES];
+    let mut row_end = [0u32; FEW_LINES];
+    let placed = grid::place_table(
+        lines,
+        at,
+        FEW_ENTRIES,
+        &mut wide,
+        &mut line,
+        &mut cell_line,
+        &mut cell_span,
+        &mut cell_rows,
+        rows,
+        &mut row_line,
+        &mut row_end,
+    );
+    finish(placed, &wide, &line, &row_line, &row_end, entries, rows)
+}
+
+// The grid of a table of some lines.
+fn make_some(lines: &[u32], at: usize, entries: &mut [u32], rows: &mut [u32]) -> Judged
+    requires { ⌜ GridReady (keptsOf (now lines)) at (entriesOf (now entries)) (rowsOf (now rows)) ⌝ }
+    requires { ⌜ Fits 512 1024 (keptsOf (now lines)) at ⌝ }
+    ensures { λ r. ⌜ GridMade (heldRows (keptsOf (now (lines .entry))) at) r (entriesOf (now (entries .exit))) (rowsOf (now (rows .exit))) ⌝ }
+{
+    let mut wide = [0u32; SOME_ENTRIES];
+    let mut line = [0u32; SOME_ENTRIES];
+    let mut cell_line = [0u32; SOME_LINES];
+    let mut cell_span = [0u32; SOME_LINES];
+    let mut cell_rows = [0u32; SOME_LINES];
+    let mut row_line = [0u32; SOME_LINES];
+    let mut row_end = [0u32; SOME_LINES];
+    let placed = grid::place_table(
+        lines,
+        at,
+        SOME_ENTRIES,
+        &mut wide,
+        &mut line,
+        &mut cell_line,
+        &mut cell_span,
+        &mut cell_rows,
+        rows,
+        &mut row_line,
+        &mut row_end,
+    );
+    finish(placed, &wide, &line, &row_line, &row_end, entries, rows)
+}
+
+// The grid of a table of any size.
+fn make_many(lines: &[u32], at: usize, entries: &mut [u32], rows: &mut [u32]) -> Judged
+    requires { ⌜ GridReady (keptsOf (now lines)) at (entriesOf (now entries)) (rowsOf (now rows)) ⌝ }
+    requires { ⌜ Fits 4096 8192 (keptsOf (now lines)) at ⌝ }
+    ensures { λ r. ⌜ GridMade (heldRows (keptsOf (now (lines .entry))) at) r (entriesOf (now (entries .exit))) (rowsOf (now (rows .exit))) ⌝ }
+{
+    let mut wide = [0u32; MAX_ENTRIES];
+    let mut line = [0u32; MAX_ENTRIES];
+    let mut cell_line = [0u32; MAX_LINES];
+    let mut cell_span = [0u32; MAX_LINES];
+    let mut cell_rows = [0u32; MAX_LINES];
+    let mut row_line = [0u32; MAX_LINES];
+    let mut row_end = [0u32; MAX_LINES];
+    let placed = grid::place_table(
+        lines,
+        at,
+        MAX_ENTRIES,
+        &mut wide,
+        &mut line,
+        &mut cell_line,
+        &mut cell_span,
+        &mut cell_rows,
+        rows,
+        &mut row_line,
+        &mut row_end,
+    );
+    finish(placed, &wide, &line, &row_line, &row_end, entries, rows)
+}
+
+// The grid of a table with which the lines end, and whose lines ask for so many rows. The lines and the rows are asked for apart: a function that
+// is called once may become a part of its caller, which would then have the longest arrays for every table.
+fn make_last(lines: &[u32], at: usize, asked: u64, entries: &mut [u32], rows: &mut [u32]) -> Judged
+    requires { ⌜ GridReady (keptsOf (now lines)) at (entriesOf (now entries)) (rowsOf (now rows)) ⌝ }
+    requires { ⌜ asked ≡ rowsIn (drop (at + 1) (keptsOf (now lines))) ⌝ }
+    ensures { λ r. ⌜ GridMade (heldRows (keptsOf (now (lines .entry))) at) r (entriesOf (now (entries .exit))) (rowsOf (now (rows .exit))) ⌝ }
+{
+    let n = records::count(lines) - at;
+    if n > SOME_LINES {
+        return make_many(lines, at, entries, rows);
+    }
+    if asked > SOME_LINES as u64 {
+        return make_many(lines, at, entries, rows);
+    }
+    if n > FEW_LINES {
+        return make_some(lines, at, entries, rows);
+    }
+    if asked > FEW_LINES as u64 {
+        return make_some(lines, at, entries, rows);
+    }
+    if n > LEAST_LINES {
+        return make_few(lines, at, entries, rows);
+    }
+    if asked > LEAST_LINES as u64 {
+        return make_few(lines, at, entries, rows);
+    }
+    make_least(lines, at, entries, rows)
+}
+
+// The grid of the table at the place `at`: a record for each entry and for each row, and how many there are; or the first of the refusals 5, 6
+// and 7 that applies.
+pub fn make(lines: &[u32], at: usize, entries: &mut [u32], rows: &mut [u32]) -> Judged
+    requires { ⌜ GridReady (keptsOf (now lines)) at (entriesOf (now entries)) (rowsOf (now rows)) ⌝ }
+    ensures { λ r. ⌜ GridMade (heldRows (keptsOf (now (lines .entry))) at) r (entriesOf (now (entries .exit))) (rowsOf (now (rows .exit))) ⌝ }
+{
+    let extent = extent_of(lines, at);
+    let end = records::WIDTH * extent.end;
+    make_last(&lines[..end], at, extent.asked, entries, rows)
+}
+
+// The grid of the table at the place `at` of an opened sheet, to which no refusal applies.
+pub fn make_sound(lines: &[u32], at: usize, entries: &mut [u32], rows: &mut [u32]) -> Counts
+    requires { ⌜ TableReady (keptsOf (now lines)) at (entriesOf (now entries)) (rowsOf (now rows)) ⌝ }
+    ensures { λ r. ⌜ TableMade (heldRows (keptsOf (now (lines .entry))) at) r (entriesOf (now (entries .exit))) (rowsOf (now (rows .exit))) ⌝ }
+{
+    match make(lines, at, entries, rows) {
+        Judged::Refused(number) => Counts {
+            rows: 0,
+            entries: 0,
+            columns: 0,
+        },
+        Judged::Grid {
+            rows: r,
+            entries: n,
+            columns,
+        } => Counts {
+            rows: r,
+            entries: n,
+            columns,
+        },
+    }
+}

@@ -1,0 +1,342 @@
+// The rows of a table by positions, with room of its own for the cells that hang, of four sizes: it is cleared for each table, and for a small
+// table a short one does. The sizes are for speed alone.
+ghost use Prim.Native.Nat.{_+_, _≤_};
+ghost use lib.ListN.{length};
+ghost use Rattle.positions.specs.inner.Slices.{tableOf, PositionsDone};
+ghost use Rattle.hanging.specs.Placeable.{Placeable};
+use lists::MAX_LINES;
+use positions::Positions;
+
+// So many rows, and so many cells, and room for both.
+const LEAST_EACH: usize = 8;
+
+const LEAST: usize = 2 * LEAST_EACH;
+
+const FEW_EACH: usize = 64;
+
+const FEW: usize = 2 * FEW_EACH;
+
+const SOME_EACH: usize = 256;
+
+const SOME: usize = 2 * SOME_EACH;
+
+// A table of the fewest rows and cells.
+fn position_least(
+    room: usize,
+    cell_line: &[u32],
+    cell_span: &[u32],
+    cell_rows: &[u32],
+    cell_end: &[u32],
+    row_line: &mut [u32],
+    out_line: &mut [u32],
+    out_wide: &mut [u32],
+    row_end: &mut [u32],
+) -> Positions
+    requires { ⌜ Placeable room (now «cell_line») (now «cell_span») (now «cell_rows») (now «cell_end») (now «row_line») (now «out_line») (now «out_wide») (now «row_end») ⌝ }
+    requires { ⌜ length (now «cell_end») + length (now «cell_line») ≤ 16 ⌝ }
+    ensures { λ r. ⌜ PositionsDone
+        (tableOf (now («cell_line» .entry)) (now («cell_span» .entry)) (now («cell_rows» .entry)) (now («row_line» .entry)) 0 (now («cell_end» .entry))) r
+        (now («row_line» .entry)) (now («out_line» .entry)) (now («out_wide» .entry)) (now («row_end» .entry))
+        (now («row_line» .exit)) (now («out_line» .exit)) (now («out_wide» .exit)) (now («row_end» .exit)) ⌝ }
+{
+    let mut left = [0u32; LEAST];
+    let mut at = [0u32; LEAST];
+    let mut wide = [0u32; LEAST];
+    let mut next_left = [0u32; LEAST];
+    let mut next_at = [0u32; LEAST];
+    let mut next_wide = [0u32; LEAST];
+    positions::position_rows(
+        room,
+        cell_line,
+        cell_span,
+        cell_rows,
+        cell_end,
+        row_line,
+        out_line,
+        out_wide,
+        row_end,
+        &mut left,
+        &mut at,
+        &mut wide,
+        &mut next_left,
+        &mut next_at,
+        &mut next_wide,
+    )
+}
+
+// A table of few rows and cells.
+fn position_few(
+    room: usize,
+    cell_line: &[u32],
+    cell_span: &[u32],
+    cell_rows: &[u32],
+    cell_end: &[u32],
+    row_line: &mut [u32],
+    out_line: &mut [u32],
+    out_wide: &mut [u32],
+    row_end: &mut [u32],
+) -> Positions
+    requires { ⌜ Placeable room (now «cell_line») (now «cell_span») (now «cell_rows») (now «cell_end») (now «row_line») (now «out_line») (now «out_wide») (now «row_end») ⌝ }
+    requires { ⌜ length (now «cell_end») + length (now «cell_line») ≤ 128 ⌝ }
+    ensures { λ r. ⌜ PositionsDone
+        (tableOf (now («cell_line» .entry)) (now («cell_span» .entry)) (now («cell_rows» .entry)) (now («row_line» .entry)) 0 (now («cell_end» .entry))) r
+        (now («row_line» .entry)) (now («out_line» .entry)) (now («out_wide» .entry)) (now («row_end» .entry))
+        (now («row_line» .exit)) (now («out_line» .exit)) (now («out_wide» .exit)) (now («row_end» .exit)) ⌝ }
+{
+    let mut left = [0u32; FEW];
+    let mut at = [0u32; FEW];
+    let mut wide = [0u32; FEW];
+    let mut next_left = [0u32; FEW];
+    let mut next_at = [0u32; FEW];
+    let mut next_wide = [0u32; FEW];
+    positions::position_rows(
+        room,
+        cell_line,
+        cell_span,
+        cell_rows,
+        cell_end,
+        row_line,
+        out_line,
+        out_wide,
+        row_end,
+        &mut left,
+        &mut at,
+        &mut wide,
+        &mut next_left,
+        &mut next_at,
+        &mut next_wide,
+    )
+}
+
+// A table of some rows and cells.
+fn position_some(
+    room: usize,
+    cell_line: &[u32],
+    cell_span: &[u32],
+    cell_rows: &[u32],
+    cell_end: &[u32],
+    row_line: &mut [u32],
+    out_line: &mut [u32],
+    out_wide: &mut [u32],
+    row_end: &mut [u32],
+) -> Positions
+    requires { ⌜ Placeable room (now «cell_line») (now «cell_span») (now «cell_rows») (now «cell_end») (now «row_line») (now «out_line») (now «out_wide») (now «row_end») ⌝ }
+    requires { ⌜ length (now «cell_end») + length (now «cell_line») ≤ 512 ⌝ }
+    ensures { λ r. ⌜ PositionsDone
+        (tableOf (now («cell_line» .entry)) (now («cell_span» .entry)) (now («cell_rows» .entry)) (now («row_line» .entry)) 0 (now («cell_end» .entry))) r
+        (now («row_line» .entry)) (now («out_line» .entry)) (now («out_wide» .entry)) (now («row_end» .entry))
+        (now («row_line» .exit)) (now («out_line» .exit)) (now («out_wide» .exit)) (now («row_end» .exit)) ⌝ }
+{
+    let mut left = [0u32; SOME];
+    let mut at = [0u32; SOME];
+    let mut wide = [0u32; SOME];
+    let mut next_left = [0u32; SOME];
+    let mut next_at = [0u32; SOME];
+    let mut next_wide = [0u32; SOME];
+    positions::position_rows(
+        room,
+        cell_line,
+        cell_span,
+        cell_rows,
+        cell_end,
+        row_line,
+        out_line,
+        out_wide,
+        row_end,
+        &mut left,
+        &mut at,
+        &mut wide,
+        &mut next_left,
+        &mut next_at,
+        &mut next_wide,
+    )
+}
+
+// Any table.
+fn position_many(
+    room: usize,
+    cell_line: &[u32],
+    cell_span: &[u32],
+    cell_rows: &[u32],
+    cell_end: &[u32],
+    row_line: &mut [u32],
+    out_line: &mut [u32],
+    out_wide: &mut [u32],
+    row_end: &mut [u32],
+) -> Positions
+    requires { ⌜ Placeable room (now «cell_line») (now «cell_span») (now «cell_rows») (now «cell_end») (now «row_line») (now «out_line») (now «out_wide») (now «row_end») ⌝ }
+    ensures { λ r. ⌜ PositionsDone
+        (tableOf (now («cell_line» .entry)) (now («cell_span» .entry)) (now («cell_rows» .entry)) (now («row_line» .entry)) 0 (now («cell_end» .entry))) r
+        (now («row_line» .entry)) (now («out_line» .entry)) (now («out_wide» .entry)) (now («row_end» .entry))
+        (now («row_line» .exit)) (now («out_line» .exit)) (now («out_wide» .exit)) (now («row_end» .exit)) ⌝ }
+{
+    let mut left = [0u32; MAX_LINES];
+    let mut at = [0u32; MAX_LINES];
+    let mut wide = [0u32; MAX_LINES];
+    let mut next_left = [0u32; MAX_LINES];
+    let mut next_at = [0u32; MAX_LINES];
+    let mut next_wide = [0u32; MAX_LINES];
+    positions::position_rows(
+        room,
+        cell_line,
+        cell_span,
+        cell_rows,
+        cell_end,
+        row_line,
+        out_line,
+        out_wide,
+        row_end,
+        &mut left,
+        &mut at,
+        &mut wide,
+        &mut next_left,
+        &mut next_at,
+        &mut next_wide,
+    )
+}
+
+// A table of no more than some rows and cells.
+fn position_short(
+    room: usize,
+    cell_line: &[u32],
+    cell_span: &[u32],
+    cell_rows: &[u32],
+    cell_end: &[u32],
+    row_line: &mut [u32],
+    out_line: &mut [u32],
+    out_wide: &mut [u32],
+    row_end: &mut [u32],
+) -> Positions
+    requires { ⌜ Placeable room (now «cell_line») (now «cell_span») (now «cell_rows») (now «cell_end») (now «row_line») (now «out_line») (now «out_wide») (now «row_end») ⌝ }
+    requires { ⌜ (length (now «cell_end») ≤ 256) × (length (now «cell_line») ≤ 256) ⌝ }
+    ensures { λ r. ⌜ PositionsDone
+        (tableOf (now («cell_line» .entry)) (now («cell_span» .entry)) (now («cell_rows» .entry)) (now («row_line» .entry)) 0 (now («cell_end» .entry))) r
+        (now («row_line» .entry)) (now («out_line» .entry)) (now («out_wide» .entry)) (now («row_end» .entry))
+        (now («row_line» .exit)) (now («out_line» .exit)) (now («out_wide» .exit)) (now («row_end» .exit)) ⌝ }
+{
+    let r = cell_end.len();
+    let n = cell_line.len();
+    if r > FEW_EACH {
+        return position_some(
+            room,
+            cell_line,
+            cell_span,
+            cell_rows,
+            cell_end,
+            row_line,
+            out_line,
+            out_wide,
+            row_end,
+        );
+    }
+    if n > FEW_EACH {
+        return position_some(
+            room,
+            cell_line,
+            cell_span,
+            cell_rows,
+            cell_end,
+            row_line,
+            out_line,
+            out_wide,
+            row_end,
+        );
+    }
+    if r > LEAST_EACH {
+        return position_few(
+            room,
+            cell_line,
+            cell_span,
+            cell_rows,
+            cell_end,
+            row_line,
+            out_line,
+            out_wide,
+            row_end,
+        );
+    }
+    if n > LEAST_EACH {
+        return position_few(
+            room,
+            cell_line,
+            cell_span,
+            cell_rows,
+            cell_end,
+            row_line,
+            out_line,
+            out_wide,
+            row_end,
+        );
+    }
+    position_least(
+        room,
+        cell_line,
+        cell_span,
+        cell_rows,
+        cell_end,
+        row_line,
+        out_line,
+        out_wide,
+        row_end,
+    )
+}
+
+// All rows of a table by positions. The rows and the cells are asked for apart: a function that is called once may become a part of its caller,
+// which would then have the longest arrays for every table.
+pub fn position(
+    room: usize,
+    cell_line: &[u32],
+    cell_span: &[u32],
+    cell_rows: &[u32],
+    cell_end: &[u32],
+    row_line: &mut [u32],
+    out_line: &mut [u32],
+    out_wide: &mut [u32],
+    row_end: &mut [u32],
+) -> Positions
+    requires { ⌜ Placeable room (now «cell_line») (now «cell_span») (now «cell_rows») (now «cell_end») (now «row_line») (now «out_line») (now «out_wide») (now «row_end») ⌝ }
+    ensures { λ r. ⌜ PositionsDone
+        (tableOf (now («cell_line» .entry)) (now («cell_span» .entry)) (now («cell_rows» .entry)) (now («row_line» .entry)) 0 (now («cell_end» .entry))) r
+        (now («row_line» .entry)) (now («out_line» .entry)) (now («out_wide» .entry)) (now («row_end» .entry))
+        (now («row_line» .exit)) (now («out_line» .exit)) (now («out_wide» .exit)) (now («row_end» .exit)) ⌝ }
+{
+    let r = cell_end.len();
+    let n = cell_line.len();
+    if r > SOME_EACH {
+        return position_many(
+            room,
+            cell_line,
+            cell_span,
+            cell_rows,
+            cell_end,
+            row_line,
+            out_line,
+            out_wide,
+            row_end,
+        );
+    }
+    if n > SOME_EACH {
+        return position_many(
+            room,
+            cell_line,
+            cell_span,
+            cell_rows,
+            cell_end,
+            row_line,
+            out_line,
+            out_wide,
+            row_end,
+        );
+    }
+    position_short(
+        room,
+        cell_line,
+        cell_span,
+        cell_rows,
+        cell_end,
+        row_line,
+        out_line,
+        out_wide,
+        row_end,
+    )
+}

@@ -1,0 +1,31 @@
+-- `opening::measuring::measure_front` meets its contract: the first n records stand in the first 6 * n places. Assumes nothing.
+use mathlib.Core.Path.{sym}
+use native.Mathlib.Omega.{arith}
+use lib.Seq.{length-take-le}
+use Rattle.records.proofs.Kepts.{kepts-take}
+use borrow.Author.Needs.{needs}
+use Rattle.opening.proofs.measuring.measure_front.Statement.{statement}
+use Rattle.opening.proofs.measuring.measure_front.Tie as tie
+
+mul-end : tie.Need-mul-end
+mul-end c = search needs
+
+slice-aggregate-measure : tie.Need-slice-aggregate-measure
+slice-aggregate-measure c = sym (length-take-le _ _ (omega (arith, (c .before .before .before .before .before) .pre .0)))
+
+measure-requires : tie.Need-measure-requires
+measure-requires c κs = rw (kepts-take ((c .before .before .before .before .before .before .before) .args .lines .now) ((c .before .before .before .before .before .before .before) .args .n) ((c .before .before .before .before .before .before .before) .pre .0)) ((c .before .before .before .before .before .before .before) .pre .1 .1 .lent _ ((c .before .before .before .before .before .before .before) .pre .1 .0))
+
+same-length : tie.Need-same-length
+same-length c = search needs
+
+same-length-2 : tie.Need-same-length-2
+same-length-2 c = search needs
+
+returns : tie.Need-returns
+returns c = rw (kepts-take ((c .before .before .before .before .before .before .before .before .before .before .before .before) .args .lines .now) ((c .before .before .before .before .before .before .before .before .before .before .before .before) .args .n) ((c .before .before .before .before .before .before .before .before .before .before .before .before) .pre .0)) at ((c .before .before .before .before) .measure .ensures)
+
+pub measure-front-spec : {M : Type 1} → statement M
+measure-front-spec =
+    tie.close
+    (tie.spec mul-end slice-aggregate-measure measure-requires same-length same-length-2 returns)

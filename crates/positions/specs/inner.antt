@@ -1,0 +1,2 @@
+-- How the code goes about it: a table and its rows in slices.
+pub mod Slices

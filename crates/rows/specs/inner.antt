@@ -1,0 +1,2 @@
+-- How the code goes about it: what hangs in slices.
+pub mod Carrying

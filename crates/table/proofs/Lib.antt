@@ -1,0 +1,10 @@
+pub mod Every
+pub mod Boxes
+pub mod Table
+pub mod Raises
+pub mod Steps
+pub mod Grids
+pub mod Fronts
+pub mod Rooms
+pub mod GridFitted
+pub mod LayoutFitted

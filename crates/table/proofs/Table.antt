@@ -1,0 +1,52 @@
+-- From a grid and the estimates of all lines to what laying out a table asks for, and from its answer to the boxes of the definition: the rows
+-- of the records' boxes are the rows of the grid's boxes, which tile the columns. Assumes nothing.
+use mathlib.Core.Path.{_≡_, ap, _∙_}
+use mathlib.Core.List.{List}
+use Prim.Native.Nat.{ℕ, _≤_}
+use native.Mathlib.Nat.{zero-add}
+use native.Mathlib.Omega.{arith}
+use lib.ListN.{length, getD, drop, length-map}
+use Rattle.lists.specs.Limits.{maxPosition, maxWidth}
+use Rattle.text.specs.declared.Estimate.{Estimate}
+use Rattle.records.specs.Kept.{noEntry}
+use Rattle.records.specs.declared.Entry.{Entry}
+use Rattle.records.specs.declared.Row.{Row}
+use Rattle.grid.specs.Grid.{GridRow, entriesOf}
+use Rattle.estimates.specs.Estimates.{Done, boxRows}
+use Rattle.widths.specs.declared.Laid.{Laid}
+use Rattle.grid.specs.Judging.{shown}
+use Rattle.table.specs.Laying.{boxRowsBy, LaidTable}
+use Rattle.table.specs.inner.Room.{LayableTable}
+use Rattle.table.specs.inner.Grids.{All, RowTiles, RowLater, Fits, Listed}
+use Rattle.table.proofs.Every.{all-drop}
+use Rattle.table.proofs.Boxes.{boxes-of-grid, ends-ascend, lines-within, tiles-of-grid}
+
+-- the table in line t
+module _ {g : List GridRow} {all : List Done} {es : List Entry} {rs : List Row} {figures : List Estimate} (p : Listed g all es rs figures)
+    (t : ℕ) (later : All (RowLater t (length all)) g) where
+  pub table-rows : boxRowsBy rs es figures ≡ boxRows t (drop t all) g
+  unfolding boxRowsBy
+  table-rows = rw (p .entries, p .rows) (boxes-of-grid all figures (p .figures-are) t g later)
+
+  pub entry-count : length es ≡ length (entriesOf g)
+  entry-count = ap length (p .entries) ∙ length-map (entriesOf g) shown
+
+  pub table-layable : (columns : ℕ) → All (RowTiles columns) g → All Fits all → {width : ℕ} {column xs wides : List ℕ} → length column ≡ columns → length xs ≡ length es → length wides ≡ length es →
+      columns ≤ maxPosition → width ≤ maxWidth → LayableTable es rs figures width column xs wides
+  table-layable columns tiles fits c x w few small =
+      record {
+        xs-length = x;
+        wides-length = w;
+        within = λ i h. omega (arith, p .enough, cell-within i);
+        ascends = rw (p .rows, entry-count) (rw zero-add at (ends-ascend 0 g));
+        tiles = rw (c, table-rows) (tiles-of-grid t (drop t all) columns g tiles (all-drop Fits t all fits));
+        columns = omega (arith, c);
+        small = small;
+      }
+    where
+      cell-within : (i : ℕ) → getD es i noEntry .cell ≤ length all
+      cell-within i = rw (p .entries) (lines-within t (length all) g later i)
+
+  pub table-laid : {n columns raw width : ℕ} {column xs wides : List ℕ} {r : Laid} → n ≡ columns →
+      LaidTable n (boxRowsBy rs es figures) raw width column xs wides r → LaidTable columns (boxRows t (drop t all) g) raw width column xs wides r
+  table-laid e l = rw (e, table-rows) at l

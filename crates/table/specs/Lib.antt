@@ -1,0 +1,4 @@
+pub mod Laying
+pub mod Arranging
+pub mod Cases
+pub mod inner

@@ -1,0 +1,2 @@
+-- What the functions within the calls answer.
+pub mod Telling
