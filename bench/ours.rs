@@ -46,7 +46,7 @@ type Lent = *mut u32;
 
 unsafe extern "C" {
     fn tables_check(sheet: Bytes, n: usize) -> CheckResult;
-    fn tables_measure(text: Bytes, n: usize, wrap: u32, img: bool) -> MeasureResult;
+    fn tables_measure(text: Bytes, n: usize, wrap: u32, img: u32) -> MeasureResult;
     fn tables_estimates(
         sheet: Bytes,
         n: usize,
@@ -178,5 +178,5 @@ pub fn check(sheet: &[u8]) -> CheckResult {
 }
 
 pub fn measure(text: &[u8], wrap: u32, img: bool) -> MeasureResult {
-    unsafe { tables_measure(text.as_ptr(), text.len(), wrap, img) }
+    unsafe { tables_measure(text.as_ptr(), text.len(), wrap, img as u32) }
 }

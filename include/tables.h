@@ -7,7 +7,6 @@
  *   them: readable where it is const, writable where it is not. What is lent for writing need not be cleared before. (Not null even where the number
  *   is 0: the library as it is compiled does not follow such a pointer, but what is proved is about pointers that are not null.)
  * - A buffer that is lent for writing overlaps neither another buffer of the call nor the sheet, and nothing else touches it during the call.
- * - A bool is 0 or 1, as a C or C++ compiler makes it.
  * - There is room on the stack. Measured at the most: tables_layout 593,000 bytes, tables_estimates 560,000, tables_grid 511,000, tables_check 510,000,
  *   tables_measure 300, whatever the sheet; TABLES_STACK is enough for any call. Without it a call ends in the system's stack overflow. Nothing is allocated.
  *
@@ -21,7 +20,6 @@
 #ifndef TABLES_H
 #define TABLES_H
 
-#include <stdbool.h>
 #include <stddef.h>
 #include <stdint.h>
 
@@ -84,8 +82,8 @@ extern "C" {
 /* Whether a sheet is accepted. */
 tables_check_result tables_check(const uint8_t *sheet, size_t sheet_len);
 
-/* The figures of one text by itself, as text or svg (img false) or as img. */
-tables_measure_result tables_measure(const uint8_t *text, size_t text_len, uint32_t wrap, bool img);
+/* The figures of one text by itself, as text or svg (img 0) or as img (any other number). */
+tables_measure_result tables_measure(const uint8_t *text, size_t text_len, uint32_t wrap, uint32_t img);
 
 /* The figures of every line: place k - 1 is line k. Each buffer has at least TABLES_MAX_LINES places. */
 tables_estimates_result tables_estimates(

@@ -3,6 +3,13 @@
 #include <string.h>
 #include "tables.h"
 
+// The structs as the library has them: numbers of 32 bits one after the other, without a gap.
+_Static_assert(sizeof(tables_check_result) == 8 && offsetof(tables_check_result, line) == 4, "tables_check_result");
+_Static_assert(sizeof(tables_measure_result) == 20 && offsetof(tables_measure_result, size) == 8 && offsetof(tables_measure_result, prefix) == 16, "tables_measure_result");
+_Static_assert(sizeof(tables_estimates_result) == 12 && offsetof(tables_estimates_result, lines) == 8, "tables_estimates_result");
+_Static_assert(sizeof(tables_grid_result) == 20 && offsetof(tables_grid_result, rows) == 8 && offsetof(tables_grid_result, columns) == 16, "tables_grid_result");
+_Static_assert(sizeof(tables_layout_result) == 20 && offsetof(tables_layout_result, way) == 8 && offsetof(tables_layout_result, width) == 16, "tables_layout_result");
+
 static uint8_t input[TABLES_MAX_BYTES + 100];
 static uint32_t size[TABLES_MAX_LINES], least[TABLES_MAX_LINES], prefix[TABLES_MAX_LINES];
 static uint32_t cell[TABLES_MAX_ENTRIES], first[TABLES_MAX_ENTRIES], span[TABLES_MAX_ENTRIES];
@@ -42,7 +49,7 @@ int main(int argc, char **argv) {
     if (refused(c.number, c.line)) return 1;
     printf("check: accepted\n");
 
-    tables_measure_result m = tables_measure((const uint8_t *)" a  b ", 6, wrap, false);
+    tables_measure_result m = tables_measure((const uint8_t *)" a  b ", 6, wrap, 0);
     if (refused(m.number, m.line)) return 1;
     printf("measure \" a  b \": size %u, least %u, prefix %u\n", m.size, m.least, m.prefix);
 

@@ -34,7 +34,7 @@ type In = *const u8;
 type Out = *mut u32;
 extern "C" {
     fn tables_check(s: In, n: usize) -> Answer<0>;
-    fn tables_measure(t: In, n: usize, wrap: u32, img: bool) -> Answer<3>;
+    fn tables_measure(t: In, n: usize, wrap: u32, img: u32) -> Answer<3>;
     fn tables_estimates(s: In, n: usize, wrap: u32, a: Out, al: usize, b: Out, bl: usize, c: Out, cl: usize) -> Answer<1>;
     fn tables_grid(s: In, n: usize, line: u32, a: Out, al: usize, b: Out, bl: usize, c: Out, cl: usize, d: Out, dl: usize, e: Out, el: usize) -> Answer<3>;
     fn tables_layout(s: In, n: usize, line: u32, wrap: u32, raw: u32, width: u32, a: Out, al: usize, b: Out, bl: usize, c: Out, cl: usize) -> Answer<3>;
@@ -46,7 +46,7 @@ pub fn check(s: &[u8]) -> Result<[u32; 0], Refusal> {
 
 /// size, least, prefix
 pub fn measure(t: &[u8], wrap: u32, img: bool) -> Result<[u32; 3], Refusal> {
-    unsafe { tables_measure(t.as_ptr(), t.len(), wrap, img) }.result()
+    unsafe { tables_measure(t.as_ptr(), t.len(), wrap, img as u32) }.result()
 }
 
 /// lines; lent: size, least, prefix

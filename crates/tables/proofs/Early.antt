@@ -1,91 +1,67 @@
--- The arguments' refusals as one number, asked before the sheet: the call's answer is the same, and where there is none the buffers are long
+-- The verdict on the arguments, asked before the sheet: the call's answer is the same, and where none is refused the buffers are long
 -- enough. Each by the cases of the tests. Assumes nothing.
 use mathlib.Core.Path.{_≡_, refl, ap, ap₂, _∙_}
 use mathlib.Core.Bool.{Bool, true, false, cond, _||_}
 use mathlib.Core.List.{List, [], _∷_}
-use Prim.Native.Nat.{ℕ, zero, suc, _≤_}
+use Prim.Native.Nat.{ℕ, _≤_}
 use native.Mathlib.Omega.{arith}
 use lib.Dec.{ltb}
 use lib.ListN.{length, take}
-use borrow.Author.Tests.{ltb-false, ne-eqb}
+use borrow.Author.Tests.{ltb-false}
 use Rattle.lists.specs.Lists.{padded}
-use Rattle.lists.specs.Refusals.{Check, check, first, passes}
+use Rattle.lists.specs.Refusals.{Check, check, first, verdictOf, passes}
+use Rattle.lists.specs.declared.Verdict.{Verdict}
+use Rattle.lists.specs.declared.Verdict.the-variants.{Accepted, Refused}
 use Rattle.sheet.proofs.First.{neither}
-use Rattle.tables.specs.Calls.{anyShorter}
-use Rattle.tables.specs.inner.Telling.{numberOf, early}
-
-pub or-false : (b : Bool) → (b || false) ≡ b
-or-false true = refl
-or-false false = refl
+use Rattle.arguments.specs.Arguments.{anyShorter}
+use Rattle.tables.specs.inner.Telling.{early}
 
 -- 9 and 11
 abbrev pub nines : Bool → Bool → List Check
 nines b₁ b₂ = check b₁ 9 0 ∷ check b₂ 11 0 ∷ []
 
 module _ {A : Type 0} (refused : ℕ → ℕ → A) (accepted : A) (ds : List Check) where
-  pub first-nines : (b₁ b₂ : Bool) → first refused accepted (early (numberOf (nines b₁ b₂)) ∷ ds) ≡ first refused accepted (check b₁ 9 0 ∷ check b₂ 11 0 ∷ ds)
-  unfolding first
+  pub first-nines : (b₁ b₂ : Bool) → first refused accepted (early (verdictOf (nines b₁ b₂)) ∷ ds) ≡ first refused accepted (check b₁ 9 0 ∷ check b₂ 11 0 ∷ ds)
+  unfolding first verdictOf early
   first-nines true b₂ = refl
   first-nines false true = refl
   first-nines false false = refl
 
-  pub first-eleven : (b : Bool) → first refused accepted (early (numberOf (check b 11 0 ∷ [])) ∷ ds) ≡ first refused accepted (check b 11 0 ∷ ds)
-  unfolding first
+  pub first-eleven : (b : Bool) → first refused accepted (early (verdictOf (check b 11 0 ∷ [])) ∷ ds) ≡ first refused accepted (check b 11 0 ∷ ds)
+  unfolding first verdictOf early
   first-eleven true = refl
   first-eleven false = refl
 
-pub passes-nines : (ds : List Check) (b₁ b₂ : Bool) → passes (early (numberOf (nines b₁ b₂)) ∷ ds) ≡ passes (check b₁ 9 0 ∷ check b₂ 11 0 ∷ ds)
-unfolding first passes
+pub passes-nines : (ds : List Check) (b₁ b₂ : Bool) → passes (early (verdictOf (nines b₁ b₂)) ∷ ds) ≡ passes (check b₁ 9 0 ∷ check b₂ 11 0 ∷ ds)
+unfolding first verdictOf early passes
 passes-nines ds true b₂ = refl
 passes-nines ds false true = refl
 passes-nines ds false false = refl
 
-pub passes-eleven : (ds : List Check) (b : Bool) → passes (early (numberOf (check b 11 0 ∷ [])) ∷ ds) ≡ passes (check b 11 0 ∷ ds)
-unfolding first passes
+pub passes-eleven : (ds : List Check) (b : Bool) → passes (early (verdictOf (check b 11 0 ∷ [])) ∷ ds) ≡ passes (check b 11 0 ∷ ds)
+unfolding first verdictOf early passes
 passes-eleven ds true = refl
 passes-eleven ds false = refl
 
 -- no refusal: no test holds
-pub none-nines : (b₁ b₂ : Bool) → numberOf (nines b₁ b₂) ≡ 0 → (b₁ ≡ false) × (b₂ ≡ false)
-unfolding first
-none-nines true b₂ e = absurd (omega arith)
-none-nines false true e = absurd (omega arith)
+pub none-nines : (b₁ b₂ : Bool) → verdictOf (nines b₁ b₂) ≡ Accepted → (b₁ ≡ false) × (b₂ ≡ false)
+unfolding first verdictOf
+none-nines true b₂ e = let z : _≡_ {A = ℕ} 0 1 = cc in absurd (omega arith)
+none-nines false true e = let z : _≡_ {A = ℕ} 0 1 = cc in absurd (omega arith)
 none-nines false false e = (refl, refl)
 
-pub none-eleven : (b : Bool) → numberOf (check b 11 0 ∷ []) ≡ 0 → b ≡ false
-unfolding first
-none-eleven true e = absurd (omega arith)
+pub none-eleven : (b : Bool) → verdictOf (check b 11 0 ∷ []) ≡ Accepted → b ≡ false
+unfolding first verdictOf
+none-eleven true e = let z : _≡_ {A = ℕ} 0 1 = cc in absurd (omega arith)
 none-eleven false e = refl
-
-pub one-shorter : (n a : ℕ) → anyShorter n (a ∷ []) ≡ ltb a n
-unfolding anyShorter
-one-shorter n a = or-false (ltb a n)
-
--- buffers of which none is shorter
-pub three-fit : (n a b c : ℕ) → anyShorter n (a ∷ b ∷ c ∷ []) ≡ false → (n ≤ a) × (n ≤ b) × (n ≤ c)
-unfolding anyShorter
-three-fit n a b c e =
-    let (p, e₁) = neither (ltb a n) (ltb b n || (ltb c n || false)) e in
-    let (q, e₂) = neither (ltb b n) (ltb c n || false) e₁ in
-    let (r, e₃) = neither (ltb c n) false e₂ in
-    (ltb-false a n p, ltb-false b n q, ltb-false c n r)
-
-pub two-fit : (n a b : ℕ) → anyShorter n (a ∷ b ∷ []) ≡ false → (n ≤ a) × (n ≤ b)
-unfolding anyShorter
-two-fit n a b e =
-    let (p, e₁) = neither (ltb a n) (ltb b n || false) e in
-    let (q, e₂) = neither (ltb b n) false e₁ in
-    (ltb-false a n p, ltb-false b n q)
 
 -- a refused call has no figures; one that is not refused for its arguments has room for them
 pub fits : {A : Type 0} (refused : ℕ → ℕ → A) (accepted : A) (count : A → ℕ) → ((n l : ℕ) → count (refused n l) ≡ 0)
-    → (number : ℕ) (ds : List Check) (r : A) (most room : ℕ) → r ≡ first refused accepted (early number ∷ ds) → count r ≤ most
-    → (number ≡ 0 → most ≤ room) → count r ≤ room
-unfolding first
-fits refused accepted count none zero ds r most room e h f = omega (arith, f refl)
-fits refused accepted count none (suc k) ds r most room e h f =
-    let q = rw (ne-eqb (suc k) 0 (λ z. omega arith)) at e in
-    let z : count r ≡ 0 = ap count q ∙ none (suc k) 0 in omega arith
+    → (v : Verdict) (ds : List Check) (r : A) (most room : ℕ) → r ≡ first refused accepted (early v ∷ ds) → count r ≤ most
+    → (v ≡ Accepted → most ≤ room) → count r ≤ room
+unfolding first early
+fits refused accepted count none Accepted ds r most room e h f = omega (arith, f refl)
+fits refused accepted count none (Refused number line) ds r most room e h f = let z : count r ≡ 0 = ap count e ∙ none number line in omega arith
 
 -- what a lent buffer holds in the end, of which the first places were kept
 pub leaving : (o xs slice : List ℕ) {n m : ℕ} {t u : Bool} {after : List ℕ} → t ≡ u → n ≡ m → length slice ≡ length o

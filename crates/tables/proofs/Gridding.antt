@@ -5,46 +5,48 @@ use mathlib.Core.List.{List, [], _∷_}
 use Prim.Native.Nat.{ℕ, _-_, _≤_}
 use native.Mathlib.Omega.{arith}
 use lib.ListN.{length, take}
-use borrow.Author.Tests.{ne-eqb}
 use Rattle.lists.specs.Lists.{padded}
 use Rattle.lists.specs.Limits.{maxLines, maxEntries}
-use Rattle.lists.specs.Refusals.{Check, first, passes}
+use Rattle.lists.specs.Refusals.{Check, first, verdictOf, passes}
+use Rattle.lists.specs.declared.Verdict.{Verdict}
+use Rattle.lists.specs.declared.Verdict.the-variants.{Accepted, Refused as Refuses}
 use Rattle.grid.specs.Grid.{entriesOf}
 use Rattle.opening.specs.Opening.{asked, openChecks}
 use Rattle.finding.specs.Figures.{rowsAt, columnsAt}
 use Rattle.table.specs.inner.Fitting.{GridRoom}
 use Rattle.finding.specs.inner.Found.{entryTotal, rowTotal, GridFound}
-use Rattle.tables.specs.Calls.{anyShorter, gridChecks}
+use Rattle.arguments.specs.Arguments.{anyShorter, gridArguments}
+use Rattle.tables.specs.Calls.{gridChecks}
 use Rattle.tables.specs.Answers.{griddedOf, GridAnswer}
-use Rattle.tables.specs.inner.Telling.{numberOf, early, gridArguments, griddedIn}
+use Rattle.tables.specs.inner.Telling.{early, griddedIn}
 use Rattle.tables.specs.declared.Gridded.{Gridded}
 use Rattle.tables.specs.declared.Gridded.the-variants.{Grid, Refused as NoGrid}
-use Rattle.tables.proofs.Early.{first-eleven, passes-eleven, none-eleven, three-fit, two-fit, fits, leaving}
+use Rattle.arguments.proofs.Shorter.{three-fit, two-fit}
+use Rattle.tables.proofs.Early.{first-eleven, passes-eleven, none-eleven, fits, leaving}
 use Rattle.sheet.proofs.First.{neither, first-told}
 use Rattle.finding.specs.declared.Shape.{Shape}
 use Rattle.finding.specs.declared.Shape.the-variants.{Grid as Shaped, Refused as NotShaped}
 
 -- refused for the arguments
-pub grid-early : (refusal : ℕ) (cs : List Check) (s : List ℕ) (line : ℕ) (cell first′ span row end : List ℕ) → (refusal ≡ 0 → ⊥)
-    → GridFound (early refusal ∷ cs) s line (NotShaped refusal 0) cell first′ span row end
-unfolding first passes entryTotal rowTotal
-grid-early refusal cs s line cell first′ span row end h =
-    let e = ne-eqb refusal 0 h in
+pub grid-early : (number at : ℕ) (cs : List Check) (s : List ℕ) (line : ℕ) (cell first′ span row end : List ℕ)
+    → GridFound (early (Refuses number at) ∷ cs) s line (NotShaped number at) cell first′ span row end
+unfolding first early passes entryTotal rowTotal
+grid-early number at cs s line cell first′ span row end =
     record {
-      answer = rw e;
+      answer = refl;
       few-entries = omega arith;
       few-rows = omega arith;
-      cells = rw e;
-      firsts = rw e;
-      spans = rw e;
-      row-lines = rw e;
-      row-ends = rw e;
+      cells = refl;
+      firsts = refl;
+      spans = refl;
+      row-lines = refl;
+      row-ends = refl;
     }
 
 -- not refused for the arguments
-pub grid-late : {refusal : ℕ} {cs : List Check} {s : List ℕ} {line : ℕ} {r : Shape} {cell first′ span row end : List ℕ} → refusal ≡ 0
-    → GridFound cs s line r cell first′ span row end → GridFound (early refusal ∷ cs) s line r cell first′ span row end
-unfolding first passes
+pub grid-late : {v : Verdict} {cs : List Check} {s : List ℕ} {line : ℕ} {r : Shape} {cell first′ span row end : List ℕ} → v ≡ Accepted
+    → GridFound cs s line r cell first′ span row end → GridFound (early v ∷ cs) s line r cell first′ span row end
+unfolding first early passes
 grid-late z f =
     rw z (record {
       answer = f .answer;
@@ -58,57 +60,60 @@ grid-late z f =
     })
 
 -- where the arguments are not refused, each lent buffer has room for a grid
-fit : (number a b c d e : ℕ) → number ≡ numberOf (gridArguments (a ∷ b ∷ c ∷ []) (d ∷ e ∷ [])) → number ≡ 0
+fit : (v : Verdict) (a b c d e : ℕ) → v ≡ verdictOf (gridArguments (a ∷ b ∷ c ∷ []) (d ∷ e ∷ [])) → v ≡ Accepted
     → ((maxEntries ≤ a) × (maxEntries ≤ b) × (maxEntries ≤ c)) × ((maxLines ≤ d) × (maxLines ≤ e))
-fit number a b c d e judged z =
+fit v a b c d e judged z =
     let (p, q) = neither (anyShorter maxEntries (a ∷ b ∷ c ∷ [])) (anyShorter maxLines (d ∷ e ∷ [])) (none-eleven _ (sym judged ∙ z)) in
     (three-fit maxEntries a b c p, two-fit maxLines d e q)
 
-pub grid-fit : (number : ℕ) (cell first′ span row end : List ℕ)
-    → number ≡ numberOf (gridArguments (length cell ∷ length first′ ∷ length span ∷ []) (length row ∷ length end ∷ []))
-    → number ≡ 0 → GridRoom cell first′ span row end
-grid-fit number cell first′ span row end judged z =
-    let (a, b) = fit number (length cell) (length first′) (length span) (length row) (length end) judged z in
+pub grid-fit : (v : Verdict) (cell first′ span row end : List ℕ)
+    → v ≡ verdictOf (gridArguments (length cell ∷ length first′ ∷ length span ∷ []) (length row ∷ length end ∷ []))
+    → v ≡ Accepted → GridRoom cell first′ span row end
+grid-fit v cell first′ span row end judged z =
+    let (a, b) = fit v (length cell) (length first′) (length span) (length row) (length end) judged z in
     record { cell-room = a .0; first-room = a .1; span-room = a .2; row-room = b .0; end-room = b .1 }
 
-module _ {s : List ℕ} {line number : ℕ} {a b c d e : ℕ} {r : Shape} {cell first′ span row end : List ℕ}
-    (judged : number ≡ numberOf (gridArguments (a ∷ b ∷ c ∷ []) (d ∷ e ∷ [])))
-    (found : GridFound (early number ∷ openChecks true s line) s line r cell first′ span row end) where
+module _ {s : List ℕ} {line : ℕ} {v : Verdict} {a b c d e : ℕ} {r : Shape} {cell first′ span row end : List ℕ}
+    (judged : v ≡ verdictOf (gridArguments (a ∷ b ∷ c ∷ []) (d ∷ e ∷ [])))
+    (found : GridFound (early v ∷ openChecks true s line) s line r cell first′ span row end) where
   -- and so for the figures
   pub grid-rooms : ((entryTotal r ≤ a) × (entryTotal r ≤ b) × (entryTotal r ≤ c)) × ((rowTotal r ≤ d) × (rowTotal r ≤ e))
   unfolding entryTotal rowTotal
   grid-rooms =
-      let h = fit number a b c d e judged in
-      let g : (room : ℕ) → (number ≡ 0 → maxEntries ≤ room) → entryTotal r ≤ room =
-      λ room. fits NotShaped _ entryTotal (λ n l. refl) number (openChecks true s line) r maxEntries room (found .answer) (found .few-entries) in
-      let f : (room : ℕ) → (number ≡ 0 → maxLines ≤ room) → rowTotal r ≤ room =
-      λ room. fits NotShaped _ rowTotal (λ n l. refl) number (openChecks true s line) r maxLines room (found .answer) (found .few-rows) in
+      let h = fit v a b c d e judged in
+      let g : (room : ℕ) → (v ≡ Accepted → maxEntries ≤ room) → entryTotal r ≤ room =
+      λ room. fits NotShaped _ entryTotal (λ n l. refl) v (openChecks true s line) r maxEntries room (found .answer) (found .few-entries) in
+      let f : (room : ℕ) → (v ≡ Accepted → maxLines ≤ room) → rowTotal r ≤ room =
+      λ room. fits NotShaped _ rowTotal (λ n l. refl) v (openChecks true s line) r maxLines room (found .answer) (found .few-rows) in
       ((g a (λ z. h z .0 .0), g b (λ z. h z .0 .1), g c (λ z. h z .0 .2)), (f d (λ z. h z .1 .0), f e (λ z. h z .1 .1)))
 
-module _ {s : List ℕ} {line number : ℕ} {cell₀ first₀ span₀ row₀ end₀ : List ℕ} {r : Shape} {cell first′ span row end : List ℕ}
-    (judged : number ≡ numberOf (gridArguments (length cell₀ ∷ length first₀ ∷ length span₀ ∷ []) (length row₀ ∷ length end₀ ∷ [])))
-    (found : GridFound (early number ∷ openChecks true s line) s line r cell first′ span row end) where
+module _ {s : List ℕ} {line : ℕ} {v : Verdict} {cell₀ first₀ span₀ row₀ end₀ : List ℕ} {r : Shape} {cell first′ span row end : List ℕ}
+    (judged : v ≡ verdictOf (gridArguments (length cell₀ ∷ length first₀ ∷ length span₀ ∷ []) (length row₀ ∷ length end₀ ∷ [])))
+    (found : GridFound (early v ∷ openChecks true s line) s line r cell first′ span row end) where
   pub grid-answered : {t : Gridded} {n m : ℕ} {a b c d e : List ℕ} → t ≡ griddedIn r → n ≡ entryTotal r → m ≡ rowTotal r
       → length cell ≡ length cell₀ → length first′ ≡ length first₀ → length span ≡ length span₀ → length row ≡ length row₀ → length end ≡ length end₀
       → a ≡ padded (length cell) (take n cell) → b ≡ padded (length first′) (take n first′) → c ≡ padded (length span) (take n span)
       → d ≡ padded (length row) (take m row) → e ≡ padded (length end) (take m end)
-      → GridAnswer s line (length cell₀ ∷ length first₀ ∷ length span₀ ∷ []) (length row₀ ∷ length end₀ ∷ []) cell₀ first₀ span₀ row₀ end₀ t a b c d e
+      → GridAnswer s line cell₀ first₀ span₀ row₀ end₀ t a b c d e
   unfolding griddedOf griddedIn asked
   grid-answered t k l ka kb kc kd ke a b c d e =
       let cs = gridChecks s line (length cell₀ ∷ length first₀ ∷ length span₀ ∷ []) (length row₀ ∷ length end₀ ∷ []) in
       let shape = Shaped (length (rowsAt s line)) (length (entriesOf (rowsAt s line))) (columnsAt s line) in
-      let p : passes (early number ∷ openChecks true s line) ≡ passes cs =
-      ap (λ (v : ℕ). passes (early v ∷ openChecks true s line)) judged ∙ passes-eleven (openChecks true s line) _ in
+      let p : passes (early v ∷ openChecks true s line) ≡ passes cs =
+      ap (λ (w : Verdict). passes (early w ∷ openChecks true s line)) judged ∙ passes-eleven (openChecks true s line) _ in
       record {
         answer =
             t
             ∙ ap griddedIn (found .answer)
-            ∙ first-told griddedIn NotShaped shape (early number ∷ openChecks true s line)
-            ∙ ap (λ (v : ℕ). first NoGrid (Grid (length (rowsAt s line)) (length (entriesOf (rowsAt s line))) (columnsAt s line)) (early v ∷ openChecks true s line)) judged
+            ∙ first-told griddedIn NotShaped shape (early v ∷ openChecks true s line)
+            ∙ ap (λ (w : Verdict). first NoGrid (Grid (length (rowsAt s line)) (length (entriesOf (rowsAt s line))) (columnsAt s line)) (early w ∷ openChecks true s line)) judged
             ∙ first-eleven NoGrid (Grid (length (rowsAt s line)) (length (entriesOf (rowsAt s line))) (columnsAt s line)) (openChecks true s line) _;
-        cells = leaving cell₀ _ cell p k ka a (found .cells);
-        firsts = leaving first₀ _ first′ p k kb b (found .firsts);
-        spans = leaving span₀ _ span p k kc c (found .spans);
-        row-lines = leaving row₀ _ row p l kd d (found .row-lines);
-        row-ends = leaving end₀ _ end p l ke e (found .row-ends);
+        left =
+            record {
+              cells = leaving cell₀ _ cell p k ka a (found .cells);
+              firsts = leaving first₀ _ first′ p k kb b (found .firsts);
+              spans = leaving span₀ _ span p k kc c (found .spans);
+              row-lines = leaving row₀ _ row p l kd d (found .row-lines);
+              row-ends = leaving end₀ _ end p l ke e (found .row-ends);
+            };
       }

@@ -6,10 +6,12 @@ use Prim.Native.Nat.{ℕ, _-_, _≤_}
 use native.Mathlib.Omega.{arith}
 use lib.Dec.{ltb}
 use lib.ListN.{length, take}
-use borrow.Author.Tests.{ne-eqb, ltb-false}
+use borrow.Author.Tests.{ltb-false}
 use Rattle.lists.specs.Lists.{padded}
 use Rattle.lists.specs.Limits.{maxLines, maxEntries, maxWrap, maxWidth}
-use Rattle.lists.specs.Refusals.{Check, first, passes}
+use Rattle.lists.specs.Refusals.{Check, first, verdictOf, passes}
+use Rattle.lists.specs.declared.Verdict.{Verdict}
+use Rattle.lists.specs.declared.Verdict.the-variants.{Accepted, Refused as Refuses}
 use Rattle.sheet.proofs.First.{neither, first-told}
 use Rattle.grid.specs.Grid.{entriesOf}
 use Rattle.finding.specs.declared.Arranged.{Arranged}
@@ -18,33 +20,34 @@ use Rattle.opening.specs.Opening.{asked, openChecks}
 use Rattle.finding.specs.Figures.{rowsAt, columnsAt, wayAt, widthAt}
 use Rattle.table.specs.inner.Fitting.{OutRoom}
 use Rattle.finding.specs.inner.Layouts.{columnTotal, placeTotal, LayoutFound}
-use Rattle.tables.specs.Calls.{anyShorter, layoutChecks}
+use Rattle.arguments.specs.Arguments.{anyShorter, layoutArguments}
+use Rattle.tables.specs.Calls.{layoutChecks}
 use Rattle.tables.specs.Answers.{laidOutOf, LayoutAnswer}
-use Rattle.tables.specs.inner.Telling.{numberOf, early, layoutArguments, laidIn}
+use Rattle.tables.specs.inner.Telling.{early, laidIn}
 use Rattle.tables.specs.declared.LaidOut.{LaidOut}
 use Rattle.tables.specs.declared.LaidOut.the-variants.{Refused as NoLayout}
-use Rattle.tables.proofs.Early.{first-nines, passes-nines, none-nines, two-fit, or-false, fits, leaving}
+use Rattle.arguments.proofs.Shorter.{two-fit, or-false}
+use Rattle.tables.proofs.Early.{first-nines, passes-nines, none-nines, fits, leaving}
 
 -- refused for the arguments
-pub layout-early : (refusal : ℕ) (cs : List Check) (s : List ℕ) (line wrap raw width : ℕ) (column x wide : List ℕ) → (refusal ≡ 0 → ⊥)
-    → LayoutFound (early refusal ∷ cs) s line wrap raw width (Refused refusal 0) column x wide
-unfolding first passes columnTotal placeTotal
-layout-early refusal cs s line wrap raw width column x wide h =
-    let e = ne-eqb refusal 0 h in
+pub layout-early : (number at : ℕ) (cs : List Check) (s : List ℕ) (line wrap raw width : ℕ) (column x wide : List ℕ)
+    → LayoutFound (early (Refuses number at) ∷ cs) s line wrap raw width (Refused number at) column x wide
+unfolding first early passes columnTotal placeTotal
+layout-early number at cs s line wrap raw width column x wide =
     record {
-      answer = rw e;
+      answer = refl;
       few-columns = omega arith;
       few-entries = omega arith;
-      widths = rw e;
-      xs = rw e;
-      wides = rw e;
-      promised = λ p. let q = rw e at p in let z : _≡_ {A = ℕ} 0 1 = cc in absurd (omega arith);
+      widths = refl;
+      xs = refl;
+      wides = refl;
+      promised = λ p. let z : _≡_ {A = ℕ} 0 1 = cc in absurd (omega arith);
     }
 
 -- not refused for the arguments
-pub layout-late : {refusal : ℕ} {cs : List Check} {s : List ℕ} {line wrap raw width : ℕ} {r : Arranged} {column x wide : List ℕ} → refusal ≡ 0
-    → LayoutFound cs s line wrap raw width r column x wide → LayoutFound (early refusal ∷ cs) s line wrap raw width r column x wide
-unfolding first passes
+pub layout-late : {v : Verdict} {cs : List Check} {s : List ℕ} {line wrap raw width : ℕ} {r : Arranged} {column x wide : List ℕ} → v ≡ Accepted
+    → LayoutFound cs s line wrap raw width r column x wide → LayoutFound (early v ∷ cs) s line wrap raw width r column x wide
+unfolding first early passes
 layout-late z f =
     rw z (record {
       answer = f .answer;
@@ -57,65 +60,68 @@ layout-late z f =
     })
 
 -- where the arguments are not refused, each lent buffer has room for a layout
-fit : (wrap raw width number a b c : ℕ) → number ≡ numberOf (layoutArguments wrap raw width (a ∷ []) (b ∷ c ∷ [])) → number ≡ 0
+fit : (wrap raw width : ℕ) (v : Verdict) (a b c : ℕ) → v ≡ verdictOf (layoutArguments wrap raw width (a ∷ []) (b ∷ c ∷ [])) → v ≡ Accepted
     → (maxLines ≤ a) × (maxEntries ≤ b) × (maxEntries ≤ c)
 unfolding anyShorter
-fit wrap raw width number a b c judged z =
+fit wrap raw width v a b c judged z =
     let (p, q) = neither (anyShorter maxLines (a ∷ [])) (anyShorter maxEntries (b ∷ c ∷ [])) (none-nines _ _ (sym judged ∙ z) .1) in
     let (f, g) = two-fit maxEntries b c q in
     (ltb-false a maxLines (sym (or-false (ltb a maxLines)) ∙ p), f, g)
 
-pub layout-fit : (wrap raw width number : ℕ) (column x wide : List ℕ)
-    → number ≡ numberOf (layoutArguments wrap raw width (length column ∷ []) (length x ∷ length wide ∷ [])) → number ≡ 0 → OutRoom column x wide
-layout-fit wrap raw width number column x wide judged z =
-    let (a, b, c) = fit wrap raw width number (length column) (length x) (length wide) judged z in
+pub layout-fit : (wrap raw width : ℕ) (v : Verdict) (column x wide : List ℕ)
+    → v ≡ verdictOf (layoutArguments wrap raw width (length column ∷ []) (length x ∷ length wide ∷ [])) → v ≡ Accepted → OutRoom column x wide
+layout-fit wrap raw width v column x wide judged z =
+    let (a, b, c) = fit wrap raw width v (length column) (length x) (length wide) judged z in
     record { column-room = a; x-room = b; wide-room = c }
 
-module _ {s : List ℕ} {line wrap raw width number : ℕ} {a b c : ℕ} {r : Arranged} {column x wide : List ℕ}
-    (judged : number ≡ numberOf (layoutArguments wrap raw width (a ∷ []) (b ∷ c ∷ [])))
-    (found : LayoutFound (early number ∷ openChecks true s line) s line wrap raw width r column x wide) where
+module _ {s : List ℕ} {line wrap raw width : ℕ} {v : Verdict} {a b c : ℕ} {r : Arranged} {column x wide : List ℕ}
+    (judged : v ≡ verdictOf (layoutArguments wrap raw width (a ∷ []) (b ∷ c ∷ [])))
+    (found : LayoutFound (early v ∷ openChecks true s line) s line wrap raw width r column x wide) where
   -- and so for the figures
   pub layout-rooms : (columnTotal r ≤ a) × (placeTotal r ≤ b) × (placeTotal r ≤ c)
   unfolding columnTotal placeTotal
   layout-rooms =
-      let f = fit wrap raw width number a b c judged in
-      let g : (room : ℕ) → (number ≡ 0 → maxEntries ≤ room) → placeTotal r ≤ room =
-      λ room. fits Refused _ placeTotal (λ n l. refl) number (openChecks true s line) r maxEntries room (found .answer) (found .few-entries) in (
-        fits Refused _ columnTotal (λ n l. refl) number (openChecks true s line) r maxLines a (found .answer) (found .few-columns) (λ z. f z .0),
+      let f = fit wrap raw width v a b c judged in
+      let g : (room : ℕ) → (v ≡ Accepted → maxEntries ≤ room) → placeTotal r ≤ room =
+      λ room. fits Refused _ placeTotal (λ n l. refl) v (openChecks true s line) r maxEntries room (found .answer) (found .few-entries) in (
+        fits Refused _ columnTotal (λ n l. refl) v (openChecks true s line) r maxLines a (found .answer) (found .few-columns) (λ z. f z .0),
         g b (λ z. f z .1),
         g c (λ z. f z .2),
       )
 
 -- settings that are not refused are in their ranges
-pub in-range : (wrap raw width number : ℕ) (columns entries : List ℕ) → number ≡ numberOf (layoutArguments wrap raw width columns entries) → number ≡ 0
+pub in-range : (wrap raw width : ℕ) (v : Verdict) (columns entries : List ℕ) → v ≡ verdictOf (layoutArguments wrap raw width columns entries) → v ≡ Accepted
     → (raw ≤ 1) × (width ≤ maxWidth)
-in-range wrap raw width number columns entries judged z =
+in-range wrap raw width v columns entries judged z =
     let (p, q) = neither (ltb maxWrap wrap || ltb 1 raw) (ltb maxWidth width) (none-nines _ _ (sym judged ∙ z) .0) in
     let (o, l) = neither (ltb maxWrap wrap) (ltb 1 raw) p in
     (ltb-false 1 raw l, ltb-false maxWidth width q)
 
-module _ {s : List ℕ} {line wrap raw width number : ℕ} {column₀ x₀ wide₀ : List ℕ} {r : Arranged} {column x wide : List ℕ}
-    (judged : number ≡ numberOf (layoutArguments wrap raw width (length column₀ ∷ []) (length x₀ ∷ length wide₀ ∷ [])))
-    (found : LayoutFound (early number ∷ openChecks true s line) s line wrap raw width r column x wide) where
+module _ {s : List ℕ} {line wrap raw width : ℕ} {v : Verdict} {column₀ x₀ wide₀ : List ℕ} {r : Arranged} {column x wide : List ℕ}
+    (judged : v ≡ verdictOf (layoutArguments wrap raw width (length column₀ ∷ []) (length x₀ ∷ length wide₀ ∷ [])))
+    (found : LayoutFound (early v ∷ openChecks true s line) s line wrap raw width r column x wide) where
   pub layout-answered : {t : LaidOut} {n m : ℕ} {a b c : List ℕ} → t ≡ laidIn r → n ≡ columnTotal r → m ≡ placeTotal r
       → length column ≡ length column₀ → length x ≡ length x₀ → length wide ≡ length wide₀
       → a ≡ padded (length column) (take n column) → b ≡ padded (length x) (take m x) → c ≡ padded (length wide) (take m wide)
-      → LayoutAnswer s line wrap raw width (length column₀ ∷ []) (length x₀ ∷ length wide₀ ∷ []) column₀ x₀ wide₀ t a b c
+      → LayoutAnswer s line wrap raw width column₀ x₀ wide₀ t a b c
   unfolding laidOutOf laidIn asked
   layout-answered t k l ka kb kc a b c =
       let cs = layoutChecks s line wrap raw width (length column₀ ∷ []) (length x₀ ∷ length wide₀ ∷ []) in
       let table = Table (wayAt s line wrap raw width) (length (entriesOf (rowsAt s line))) (columnsAt s line) (widthAt s line wrap raw width) in
-      let p : passes (early number ∷ openChecks true s line) ≡ passes cs =
-      ap (λ (v : ℕ). passes (early v ∷ openChecks true s line)) judged ∙ passes-nines (openChecks true s line) _ _ in
+      let p : passes (early v ∷ openChecks true s line) ≡ passes cs =
+      ap (λ (w : Verdict). passes (early w ∷ openChecks true s line)) judged ∙ passes-nines (openChecks true s line) _ _ in
       record {
         answer =
             t
             ∙ ap laidIn (found .answer)
-            ∙ first-told laidIn Refused table (early number ∷ openChecks true s line)
-            ∙ ap (λ (v : ℕ). first NoLayout (laidIn table) (early v ∷ openChecks true s line)) judged
+            ∙ first-told laidIn Refused table (early v ∷ openChecks true s line)
+            ∙ ap (λ (w : Verdict). first NoLayout (laidIn table) (early w ∷ openChecks true s line)) judged
             ∙ first-nines NoLayout (laidIn table) (openChecks true s line) _ _;
-        widths = leaving column₀ _ column p k ka a (found .widths);
-        xs = leaving x₀ _ x p l kb b (found .xs);
-        wides = leaving wide₀ _ wide p l kc c (found .wides);
-        promised = λ q. found .promised (p ∙ q);
+        left =
+            record {
+              widths = leaving column₀ _ column p k ka a (found .widths);
+              xs = leaving x₀ _ x p l kb b (found .xs);
+              wides = leaving wide₀ _ wide p l kc c (found .wides);
+              promised = λ q. found .promised (p ∙ q);
+            };
       }

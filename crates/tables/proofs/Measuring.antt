@@ -5,10 +5,11 @@ use mathlib.Core.List.{List, [], _∷_}
 use Prim.Native.Nat.{ℕ, _≤_}
 use native.Mathlib.Omega.{arith}
 use lib.ListN.{length, take}
-use borrow.Author.Tests.{ne-eqb}
 use Rattle.lists.specs.Lists.{padded}
 use Rattle.lists.specs.Limits.{maxLines}
-use Rattle.lists.specs.Refusals.{Check, first, passes}
+use Rattle.lists.specs.Refusals.{Check, first, verdictOf, passes}
+use Rattle.lists.specs.declared.Verdict.{Verdict}
+use Rattle.lists.specs.declared.Verdict.the-variants.{Accepted, Refused as Refuses}
 use Rattle.sheet.specs.Sheet.{sheetLines}
 use Rattle.sheet.specs.declared.Reading.{Reading}
 use Rattle.sheet.specs.declared.Reading.the-variants.{Lines, Refused}
@@ -16,69 +17,72 @@ use Rattle.sheet.proofs.First.{first-told}
 use Rattle.estimates.specs.Estimates.{estimates}
 use Rattle.opening.specs.Opening.{asked, openChecks}
 use Rattle.finding.specs.inner.Found.{linesIn, LinesRoom, EstimatesFound}
+use Rattle.arguments.specs.Arguments.{estimatesArguments}
 use Rattle.tables.specs.Calls.{estimatesChecks}
 use Rattle.tables.specs.Answers.{estimatedOf, EstimatesAnswer}
-use Rattle.tables.specs.inner.Telling.{numberOf, early, estimatesArguments, measuredIn}
+use Rattle.tables.specs.inner.Telling.{early, measuredIn}
 use Rattle.tables.specs.declared.Estimated.{Estimated}
 use Rattle.tables.specs.declared.Estimated.the-variants.{Lines as Measures, Refused as NotMeasured}
-use Rattle.tables.proofs.Early.{first-nines, passes-nines, none-nines, three-fit, fits, leaving}
+use Rattle.arguments.proofs.Shorter.{three-fit}
+use Rattle.tables.proofs.Early.{first-nines, passes-nines, none-nines, fits, leaving}
 
 -- refused for the arguments
-pub found-early : (refusal : ℕ) (cs : List Check) (s : List ℕ) (wrap : ℕ) (size least prefix : List ℕ) → (refusal ≡ 0 → ⊥)
-    → EstimatesFound (early refusal ∷ cs) s wrap (Refused refusal 0) size least prefix
-unfolding first passes linesIn
-found-early refusal cs s wrap size least prefix h =
-    let e = ne-eqb refusal 0 h in
-    record { answer = rw e; few = omega arith; sizes = rw e; leasts = rw e; prefixes = rw e }
+pub found-early : (number line : ℕ) (cs : List Check) (s : List ℕ) (wrap : ℕ) (size least prefix : List ℕ)
+    → EstimatesFound (early (Refuses number line) ∷ cs) s wrap (Refused number line) size least prefix
+unfolding first early passes linesIn
+found-early number line cs s wrap size least prefix = record { answer = refl; few = omega arith; sizes = refl; leasts = refl; prefixes = refl }
 
 -- not refused for the arguments
-pub found-late : {refusal : ℕ} {cs : List Check} {s : List ℕ} {wrap : ℕ} {r : Reading} {size least prefix : List ℕ} → refusal ≡ 0
-    → EstimatesFound cs s wrap r size least prefix → EstimatesFound (early refusal ∷ cs) s wrap r size least prefix
-unfolding first passes
+pub found-late : {v : Verdict} {cs : List Check} {s : List ℕ} {wrap : ℕ} {r : Reading} {size least prefix : List ℕ} → v ≡ Accepted
+    → EstimatesFound cs s wrap r size least prefix → EstimatesFound (early v ∷ cs) s wrap r size least prefix
+unfolding first early passes
 found-late z f =
     rw z (record { answer = f .answer; few = f .few; sizes = f .sizes; leasts = f .leasts; prefixes = f .prefixes })
 
 -- where the arguments are not refused, each lent buffer has room for all lines
-fit : (wrap number a b c : ℕ) → number ≡ numberOf (estimatesArguments wrap (a ∷ b ∷ c ∷ [])) → number ≡ 0 → (maxLines ≤ a) × (maxLines ≤ b) × (maxLines ≤ c)
-fit wrap number a b c judged z = three-fit maxLines a b c (none-nines _ _ (sym judged ∙ z) .1)
+fit : (wrap : ℕ) (v : Verdict) (a b c : ℕ) → v ≡ verdictOf (estimatesArguments wrap (a ∷ b ∷ c ∷ [])) → v ≡ Accepted → (maxLines ≤ a) × (maxLines ≤ b) × (maxLines ≤ c)
+fit wrap v a b c judged z = three-fit maxLines a b c (none-nines _ _ (sym judged ∙ z) .1)
 
-pub figures-fit : (wrap number : ℕ) (size least prefix : List ℕ)
-    → number ≡ numberOf (estimatesArguments wrap (length size ∷ length least ∷ length prefix ∷ [])) → number ≡ 0 → LinesRoom size least prefix
-figures-fit wrap number size least prefix judged z =
-    let (a, b, c) = fit wrap number (length size) (length least) (length prefix) judged z in
+pub figures-fit : (wrap : ℕ) (v : Verdict) (size least prefix : List ℕ)
+    → v ≡ verdictOf (estimatesArguments wrap (length size ∷ length least ∷ length prefix ∷ [])) → v ≡ Accepted → LinesRoom size least prefix
+figures-fit wrap v size least prefix judged z =
+    let (a, b, c) = fit wrap v (length size) (length least) (length prefix) judged z in
     record { size-room = a; least-room = b; prefix-room = c }
 
-module _ {s : List ℕ} {wrap number : ℕ} {a b c : ℕ} {r : Reading} {size least prefix : List ℕ}
-    (judged : number ≡ numberOf (estimatesArguments wrap (a ∷ b ∷ c ∷ [])))
-    (found : EstimatesFound (early number ∷ openChecks false s 0) s wrap r size least prefix) where
+module _ {s : List ℕ} {wrap : ℕ} {v : Verdict} {a b c : ℕ} {r : Reading} {size least prefix : List ℕ}
+    (judged : v ≡ verdictOf (estimatesArguments wrap (a ∷ b ∷ c ∷ [])))
+    (found : EstimatesFound (early v ∷ openChecks false s 0) s wrap r size least prefix) where
   -- and so for the figures
   pub rooms : (linesIn r ≤ a) × (linesIn r ≤ b) × (linesIn r ≤ c)
   unfolding linesIn
   rooms =
-      let f = fit wrap number a b c judged in
-      let g : (room : ℕ) → (number ≡ 0 → maxLines ≤ room) → linesIn r ≤ room =
-      λ room h. fits Refused _ linesIn (λ n l. refl) number (openChecks false s 0) r maxLines room (found .answer) (found .few) h in
+      let f = fit wrap v a b c judged in
+      let g : (room : ℕ) → (v ≡ Accepted → maxLines ≤ room) → linesIn r ≤ room =
+      λ room h. fits Refused _ linesIn (λ n l. refl) v (openChecks false s 0) r maxLines room (found .answer) (found .few) h in
       (g a (λ z. f z .0), g b (λ z. f z .1), g c (λ z. f z .2))
 
-module _ {s : List ℕ} {wrap number : ℕ} {size₀ least₀ prefix₀ : List ℕ} {r : Reading} {size least prefix : List ℕ}
-    (judged : number ≡ numberOf (estimatesArguments wrap (length size₀ ∷ length least₀ ∷ length prefix₀ ∷ [])))
-    (found : EstimatesFound (early number ∷ openChecks false s 0) s wrap r size least prefix) where
+module _ {s : List ℕ} {wrap : ℕ} {v : Verdict} {size₀ least₀ prefix₀ : List ℕ} {r : Reading} {size least prefix : List ℕ}
+    (judged : v ≡ verdictOf (estimatesArguments wrap (length size₀ ∷ length least₀ ∷ length prefix₀ ∷ [])))
+    (found : EstimatesFound (early v ∷ openChecks false s 0) s wrap r size least prefix) where
   pub answered : {a : Estimated} {n : ℕ} {size′ least′ prefix′ : List ℕ} → a ≡ measuredIn r → n ≡ linesIn r
       → length size ≡ length size₀ → length least ≡ length least₀ → length prefix ≡ length prefix₀
       → size′ ≡ padded (length size) (take n size) → least′ ≡ padded (length least) (take n least) → prefix′ ≡ padded (length prefix) (take n prefix)
-      → EstimatesAnswer s wrap (length size₀ ∷ length least₀ ∷ length prefix₀ ∷ []) size₀ least₀ prefix₀ a size′ least′ prefix′
+      → EstimatesAnswer s wrap size₀ least₀ prefix₀ a size′ least′ prefix′
   unfolding estimatedOf measuredIn asked
   answered t k h i j a b c =
-      let p : passes (early number ∷ openChecks false s 0) ≡ passes (estimatesChecks s wrap (length size₀ ∷ length least₀ ∷ length prefix₀ ∷ [])) =
-      ap (λ (m : ℕ). passes (early m ∷ openChecks false s 0)) judged ∙ passes-nines (openChecks false s 0) _ _ in
+      let p : passes (early v ∷ openChecks false s 0) ≡ passes (estimatesChecks s wrap (length size₀ ∷ length least₀ ∷ length prefix₀ ∷ [])) =
+      ap (λ (m : Verdict). passes (early m ∷ openChecks false s 0)) judged ∙ passes-nines (openChecks false s 0) _ _ in
       record {
         answer =
             t
             ∙ ap measuredIn (found .answer)
-            ∙ first-told measuredIn Refused (Lines (length (sheetLines s))) (early number ∷ openChecks false s 0)
-            ∙ ap (λ (m : ℕ). first NotMeasured (Measures (length (sheetLines s))) (early m ∷ openChecks false s 0)) judged
+            ∙ first-told measuredIn Refused (Lines (length (sheetLines s))) (early v ∷ openChecks false s 0)
+            ∙ ap (λ (m : Verdict). first NotMeasured (Measures (length (sheetLines s))) (early m ∷ openChecks false s 0)) judged
             ∙ first-nines NotMeasured (Measures (length (sheetLines s))) (openChecks false s 0) _ _;
-        sizes = leaving size₀ _ size p k h a (found .sizes);
-        leasts = leaving least₀ _ least p k i b (found .leasts);
-        prefixes = leaving prefix₀ _ prefix p k j c (found .prefixes);
+        left =
+            record {
+              sizes = leaving size₀ _ size p k h a (found .sizes);
+              leasts = leaving least₀ _ least p k i b (found .leasts);
+              prefixes = leaving prefix₀ _ prefix p k j c (found .prefixes);
+            };
       }

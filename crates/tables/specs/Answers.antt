@@ -2,7 +2,7 @@
 -- These are definitions; nothing is assumed.
 use mathlib.Core.Path.{_≡_}
 use mathlib.Core.Bool.{true}
-use mathlib.Core.List.{List, map}
+use mathlib.Core.List.{List, [], _∷_, map}
 use Prim.Native.Nat.{ℕ}
 use lib.ListN.{length}
 use Rattle.lists.specs.Lists.{padded}
@@ -30,24 +30,42 @@ unfoldable pub estimatedOf : List ℕ → ℕ → List ℕ → Estimated
 estimatedOf s wrap lines =
     first estimated.Refused (estimated.Lines (length (sheetLines s))) (estimatesChecks s wrap lines)
 
-pub record EstimatesAnswer (s : List ℕ) (wrap : ℕ) (lines : List ℕ) (size₀ least₀ prefix₀ : List ℕ) (r : Estimated) (size least prefix : List ℕ) : Type 0 where
-  pub answer : r ≡ estimatedOf s wrap lines
-  pub sizes : size ≡ leaves (estimatesChecks s wrap lines) size₀ (map sizeOf (estimates wrap (keptLines s)))
-  pub leasts : least ≡ leaves (estimatesChecks s wrap lines) least₀ (map leastOf (estimates wrap (keptLines s)))
-  pub prefixes : prefix ≡ leaves (estimatesChecks s wrap lines) prefix₀ (map prefixOf (estimates wrap (keptLines s)))
+-- the lengths of the buffers that are lent for lines
+abbrev pub forLines : (size least prefix : List ℕ) → List ℕ
+forLines size least prefix = length size ∷ length least ∷ length prefix ∷ []
+
+-- what the three buffers hold afterwards; those with a ₀ are as they were lent
+pub record EstimatesLeft (s : List ℕ) (wrap : ℕ) (size₀ least₀ prefix₀ size least prefix : List ℕ) : Type 0 where
+  pub sizes : size ≡ leaves (estimatesChecks s wrap (forLines size₀ least₀ prefix₀)) size₀ (map sizeOf (estimates wrap (keptLines s)))
+  pub leasts : least ≡ leaves (estimatesChecks s wrap (forLines size₀ least₀ prefix₀)) least₀ (map leastOf (estimates wrap (keptLines s)))
+  pub prefixes : prefix ≡ leaves (estimatesChecks s wrap (forLines size₀ least₀ prefix₀)) prefix₀ (map prefixOf (estimates wrap (keptLines s)))
+
+pub record EstimatesAnswer (s : List ℕ) (wrap : ℕ) (size₀ least₀ prefix₀ : List ℕ) (r : Estimated) (size least prefix : List ℕ) : Type 0 where
+  pub answer : r ≡ estimatedOf s wrap (forLines size₀ least₀ prefix₀)
+  pub left : EstimatesLeft s wrap size₀ least₀ prefix₀ size least prefix
 
 -- `grid`
 unfoldable pub griddedOf : List ℕ → ℕ → List ℕ → List ℕ → Gridded
 griddedOf s line entries rows =
     first gridded.Refused (gridded.Grid (length (rowsAt s line)) (length (entriesOf (rowsAt s line))) (columnsAt s line)) (gridChecks s line entries rows)
 
-pub record GridAnswer (s : List ℕ) (line : ℕ) (entries rows : List ℕ) (cell₀ first₀ span₀ row₀ end₀ : List ℕ) (r : Gridded) (cell first span row end : List ℕ) : Type 0 where
-  pub answer : r ≡ griddedOf s line entries rows
-  pub cells : cell ≡ leaves (gridChecks s line entries rows) cell₀ (map shownLine (entriesOf (rowsAt s line)))
-  pub firsts : first ≡ leaves (gridChecks s line entries rows) first₀ (map firstOf (entriesOf (rowsAt s line)))
-  pub spans : span ≡ leaves (gridChecks s line entries rows) span₀ (map spanOf (entriesOf (rowsAt s line)))
-  pub row-lines : row ≡ leaves (gridChecks s line entries rows) row₀ (map rowLine (rowsAt s line))
-  pub row-ends : end ≡ leaves (gridChecks s line entries rows) end₀ (rowEnds 0 (rowsAt s line))
+-- the lengths of the buffers that are lent for a grid's entries, and for its rows
+abbrev pub forEntries : (cell first span : List ℕ) → List ℕ
+forEntries cell first′ span = length cell ∷ length first′ ∷ length span ∷ []
+
+abbrev pub forRows : (row end : List ℕ) → List ℕ
+forRows row end = length row ∷ length end ∷ []
+
+pub record GridLeft (s : List ℕ) (line : ℕ) (cell₀ first₀ span₀ row₀ end₀ cell first span row end : List ℕ) : Type 0 where
+  pub cells : cell ≡ leaves (gridChecks s line (forEntries cell₀ first₀ span₀) (forRows row₀ end₀)) cell₀ (map shownLine (entriesOf (rowsAt s line)))
+  pub firsts : first ≡ leaves (gridChecks s line (forEntries cell₀ first₀ span₀) (forRows row₀ end₀)) first₀ (map firstOf (entriesOf (rowsAt s line)))
+  pub spans : span ≡ leaves (gridChecks s line (forEntries cell₀ first₀ span₀) (forRows row₀ end₀)) span₀ (map spanOf (entriesOf (rowsAt s line)))
+  pub row-lines : row ≡ leaves (gridChecks s line (forEntries cell₀ first₀ span₀) (forRows row₀ end₀)) row₀ (map rowLine (rowsAt s line))
+  pub row-ends : end ≡ leaves (gridChecks s line (forEntries cell₀ first₀ span₀) (forRows row₀ end₀)) end₀ (rowEnds 0 (rowsAt s line))
+
+pub record GridAnswer (s : List ℕ) (line : ℕ) (cell₀ first₀ span₀ row₀ end₀ : List ℕ) (r : Gridded) (cell first span row end : List ℕ) : Type 0 where
+  pub answer : r ≡ griddedOf s line (forEntries cell₀ first₀ span₀) (forRows row₀ end₀)
+  pub left : GridLeft s line cell₀ first₀ span₀ row₀ end₀ cell first span row end
 
 -- `layout`
 unfoldable pub laidOutOf : List ℕ → ℕ → ℕ → ℕ → ℕ → List ℕ → List ℕ → LaidOut
@@ -55,11 +73,21 @@ laidOutOf s line wrap raw width columns entries =
     first laidOut.Refused (laidOut.Layout (wayAt s line wrap raw width) (columnsAt s line) (widthAt s line wrap raw width))
     (layoutChecks s line wrap raw width columns entries)
 
--- the figures, and of these figures the third demand
-pub record LayoutAnswer (s : List ℕ) (line wrap raw width : ℕ) (columns entries : List ℕ) (column₀ x₀ wide₀ : List ℕ) (r : LaidOut) (column x wide : List ℕ) : Type 0 where
-  pub answer : r ≡ laidOutOf s line wrap raw width columns entries
-  pub widths : column ≡ leaves (layoutChecks s line wrap raw width columns entries) column₀ (widthsAt s line wrap raw width)
-  pub xs : x ≡ leaves (layoutChecks s line wrap raw width columns entries) x₀ (map xOf (placesAt s line wrap raw width))
-  pub wides : wide ≡ leaves (layoutChecks s line wrap raw width columns entries) wide₀ (map widthOf (placesAt s line wrap raw width))
-  pub promised : passes (layoutChecks s line wrap raw width columns entries) ≡ true →
+-- the lengths of the buffers that are lent for a layout's columns, and for its entries
+abbrev pub forColumns : List ℕ → List ℕ
+forColumns column = length column ∷ []
+
+abbrev pub forPlaces : (x wide : List ℕ) → List ℕ
+forPlaces x wide = length x ∷ length wide ∷ []
+
+-- what the three buffers hold afterwards, and of these figures the third demand
+pub record LayoutLeft (s : List ℕ) (line wrap raw width : ℕ) (column₀ x₀ wide₀ column x wide : List ℕ) : Type 0 where
+  pub widths : column ≡ leaves (layoutChecks s line wrap raw width (forColumns column₀) (forPlaces x₀ wide₀)) column₀ (widthsAt s line wrap raw width)
+  pub xs : x ≡ leaves (layoutChecks s line wrap raw width (forColumns column₀) (forPlaces x₀ wide₀)) x₀ (map xOf (placesAt s line wrap raw width))
+  pub wides : wide ≡ leaves (layoutChecks s line wrap raw width (forColumns column₀) (forPlaces x₀ wide₀)) wide₀ (map widthOf (placesAt s line wrap raw width))
+  pub promised : passes (layoutChecks s line wrap raw width (forColumns column₀) (forPlaces x₀ wide₀)) ≡ true →
       Promised (columnsAt s line) (boxesAt s line wrap) raw width (wayAt s line wrap raw width) (widthsAt s line wrap raw width)
+
+pub record LayoutAnswer (s : List ℕ) (line wrap raw width : ℕ) (column₀ x₀ wide₀ : List ℕ) (r : LaidOut) (column x wide : List ℕ) : Type 0 where
+  pub answer : r ≡ laidOutOf s line wrap raw width (forColumns column₀) (forPlaces x₀ wide₀)
+  pub left : LayoutLeft s line wrap raw width column₀ x₀ wide₀ column x wide

@@ -5,7 +5,7 @@ use mathlib.Core.List.{List, [], _∷_, map}
 use Prim.Native.Nat.{ℕ}
 use Rattle.lists.specs.Lists.{sum, mem}
 use Rattle.lists.specs.Refusals.{verdictOf, first}
-use Rattle.lists.specs.declared.Verdict.the-variants.{Refused}
+use Rattle.lists.specs.declared.Verdict.the-variants.{Accepted, Refused}
 use Rattle.text.specs.Bytes.{classOf}
 use Rattle.text.specs.Text.{measureOf, textSize, readable, trimStart, trimEnd, widths, runs, begins}
 use Rattle.text.specs.Decimal.{digitsIn, digits, writing, plain}
@@ -54,8 +54,15 @@ pub hangs-at-no-edge : verdictOf (tableChecks 1 (cells.row 3 (cell 4 2 1 ∷ cel
 unfolding verdictOf first tableChecks endsPast entryCount allAt originals hangBelow extras extrasIn leastLeft endsOf endsFrom sum mem rowFrom fillers later nexts hangOf
 hangs-at-no-edge = refl
 
--- with cols 1 first: extra row, filler at column 0
-pub extra-row : gridOf (cells.row 3 (cell 4 1 2 ∷ cell 5 2 1 ∷ []) ∷ [])
+-- with cols 1 first: accepted; extra row, filler at column 0
+abbrev hangs-first : List cells.Row
+hangs-first = cells.row 3 (cell 4 1 2 ∷ cell 5 2 1 ∷ []) ∷ []
+
+pub hangs-at-an-edge : verdictOf (tableChecks 1 hangs-first) ≡ Accepted
+unfolding verdictOf first tableChecks endsPast entryCount allAt originals hangBelow extras extrasIn leastLeft endsOf endsFrom sum mem rowFrom fillers later nexts hangOf
+hangs-at-an-edge = refl
+
+pub extra-row : gridOf hangs-first
     ≡ record { line = 3; entries = entry 4 false 0 1 ∷ entry 5 false 1 1 ∷ [] } ∷ record { line = 0; entries = entry 4 true 0 1 ∷ [] } ∷ []
 unfolding gridOf originals hangBelow extras extrasIn leastLeft entriesFrom endsOf endsFrom countBelow sum mem rowFrom fillers later nexts hangOf
 extra-row = refl
@@ -65,19 +72,23 @@ pub two-columns : columnsOf (cells.row 3 (cell 4 3 1 ∷ []) ∷ cells.row 5 (ce
 unfolding columnsOf longest originals endsOf endsFrom countBelow sum mem rowFrom fillers later nexts hangOf
 two-columns = refl
 
+-- the final widths of columns of these sizes and leasts at a width, raw off: the way is chosen
+abbrev final : List ℕ → List ℕ → ℕ → List ℕ
+final sizes leasts width = finalWidths (wayOf 0 width leasts) sizes leasts width
+
 -- (size,least) (10,3),(2,2), width 9: 6,2
-pub cut-six-two : finalWidths Sideways (10 ∷ 2 ∷ []) (3 ∷ 2 ∷ []) 9 ≡ 6 ∷ 2 ∷ []
-unfolding finalWidths share sharesOf sum cut cutBy cutOnce pick
+pub cut-six-two : final (10 ∷ 2 ∷ []) (3 ∷ 2 ∷ []) 9 ≡ 6 ∷ 2 ∷ []
+unfolding wayOf finalWidths share sharesOf sum cut cutBy cutOnce pick
 cut-six-two = refl
 
 -- (10,3),(10,3), 20: 9,10
-pub cut-nine-ten : finalWidths Sideways (10 ∷ 10 ∷ []) (3 ∷ 3 ∷ []) 20 ≡ 9 ∷ 10 ∷ []
-unfolding finalWidths share sharesOf sum cut cutBy cutOnce pick
+pub cut-nine-ten : final (10 ∷ 10 ∷ []) (3 ∷ 3 ∷ []) 20 ≡ 9 ∷ 10 ∷ []
+unfolding wayOf finalWidths share sharesOf sum cut cutBy cutOnce pick
 cut-nine-ten = refl
 
 -- (10,3),(12,5), 22: 10,11
-pub cut-ten-eleven : finalWidths Sideways (10 ∷ 12 ∷ []) (3 ∷ 5 ∷ []) 22 ≡ 10 ∷ 11 ∷ []
-unfolding finalWidths share sharesOf sum cut cutBy cutOnce pick
+pub cut-ten-eleven : final (10 ∷ 12 ∷ []) (3 ∷ 5 ∷ []) 22 ≡ 10 ∷ 11 ∷ []
+unfolding wayOf finalWidths share sharesOf sum cut cutBy cutOnce pick
 cut-ten-eleven = refl
 
 -- (3,3),(3,3): width 7 sideways, 6 down
@@ -90,10 +101,10 @@ unfolding wayOf sum
 six-down = refl
 
 -- (4,0),(400,3), 80: 0,79, table width 79
-pub zero-and-seventy-nine : finalWidths Sideways (4 ∷ 400 ∷ []) (0 ∷ 3 ∷ []) 80 ≡ 0 ∷ 79 ∷ []
-unfolding finalWidths share sharesOf sum cut cutBy cutOnce pick
+pub zero-and-seventy-nine : final (4 ∷ 400 ∷ []) (0 ∷ 3 ∷ []) 80 ≡ 0 ∷ 79 ∷ []
+unfolding wayOf finalWidths share sharesOf sum cut cutBy cutOnce pick
 zero-and-seventy-nine = refl
 
-pub seventy-nine-wide : tableWidth Sideways (0 ∷ 79 ∷ []) 80 ≡ 79
-unfolding tableWidth nonzero sum
+pub seventy-nine-wide : tableWidth (wayOf 0 80 (0 ∷ 3 ∷ [])) (final (4 ∷ 400 ∷ []) (0 ∷ 3 ∷ []) 80) 80 ≡ 79
+unfolding wayOf finalWidths share sharesOf sum cut cutBy cutOnce pick tableWidth nonzero
 seventy-nine-wide = refl

@@ -1,12 +1,9 @@
 // The public calls. Each asks its arguments first; then what is found in the sheet stands in the lent buffers, and in the end it clears what is
 // no figure. A refused call clears all.
-mod arguments; // what settings and lengths alone are refused for
 mod asking; // what is found in the sheet, unless the arguments are refused
 mod telling; // what is found, in the words of the calls
 
 ghost use mathlib.Core.Path.{_≡_};
-ghost use mathlib.Core.List.{[], _∷_};
-ghost use lib.ListN.{length};
 ghost use Rattle.lists.specs.Refusals.{verdictOf};
 ghost use Rattle.tables.specs.Calls.{checkChecks};
 ghost use Rattle.tables.specs.Answers.{EstimatesAnswer, GridAnswer, LayoutAnswer};
@@ -54,11 +51,10 @@ pub fn estimates(
     least: &mut [u32],
     prefix: &mut [u32],
 ) -> Estimated
-    ensures { λ r. ⌜ EstimatesAnswer (now (sheet .entry)) wrap (length (now (size .entry)) ∷ length (now (least .entry)) ∷ length (now (prefix .entry)) ∷ [])
-        (now (size .entry)) (now (least .entry)) (now (prefix .entry)) r (now (size .exit)) (now (least .exit)) (now (prefix .exit)) ⌝ }
+    ensures { λ r. ⌜ EstimatesAnswer (now (sheet .entry)) wrap (now (size .entry)) (now (least .entry)) (now (prefix .entry)) r (now (size .exit)) (now (least .exit)) (now (prefix .exit)) ⌝ }
 {
-    let refusal = arguments::of_estimates(wrap, size.len(), least.len(), prefix.len());
-    let read = asking::find_estimates(sheet, wrap, refusal, size, least, prefix);
+    let asked = arguments::of_estimates(wrap, size.len(), least.len(), prefix.len());
+    let read = asking::find_estimates(sheet, wrap, asked, size, least, prefix);
     let n = telling::line_count(read);
     lists::keep_front(size, n);
     lists::keep_front(least, n);
@@ -76,19 +72,18 @@ pub fn grid(
     row: &mut [u32],
     row_end: &mut [u32],
 ) -> Gridded
-    ensures { λ r. ⌜ GridAnswer (now (sheet .entry)) line (length (now (cell .entry)) ∷ length (now (first .entry)) ∷ length (now (span .entry)) ∷ [])
-        (length (now (row .entry)) ∷ length (now («row_end» .entry)) ∷ [])
+    ensures { λ r. ⌜ GridAnswer (now (sheet .entry)) line
         (now (cell .entry)) (now (first .entry)) (now (span .entry)) (now (row .entry)) (now («row_end» .entry)) r
         (now (cell .exit)) (now (first .exit)) (now (span .exit)) (now (row .exit)) (now («row_end» .exit)) ⌝ }
 {
-    let refusal = arguments::of_grid(
+    let asked = arguments::of_grid(
         cell.len(),
         first.len(),
         span.len(),
         row.len(),
         row_end.len(),
     );
-    let shape = asking::find_grid(sheet, line, refusal, cell, first, span, row, row_end);
+    let shape = asking::find_grid(sheet, line, asked, cell, first, span, row, row_end);
     let n = telling::entry_count(shape);
     let m = telling::row_count(shape);
     lists::keep_front(cell, n);
@@ -110,12 +105,11 @@ pub fn layout(
     x: &mut [u32],
     wide: &mut [u32],
 ) -> LaidOut
-    ensures { λ r. ⌜ LayoutAnswer (now (sheet .entry)) line wrap raw width (length (now (column .entry)) ∷ [])
-        (length (now (x .entry)) ∷ length (now (wide .entry)) ∷ [])
+    ensures { λ r. ⌜ LayoutAnswer (now (sheet .entry)) line wrap raw width
         (now (column .entry)) (now (x .entry)) (now (wide .entry)) r (now (column .exit)) (now (x .exit)) (now (wide .exit)) ⌝ }
 {
-    let refusal = arguments::of_layout(wrap, raw, width, column.len(), x.len(), wide.len());
-    let found = asking::find_layout(sheet, line, wrap, raw, width, refusal, column, x, wide);
+    let asked = arguments::of_layout(wrap, raw, width, column.len(), x.len(), wide.len());
+    let found = asking::find_layout(sheet, line, wrap, raw, width, asked, column, x, wide);
     let n = telling::column_count(found);
     let m = telling::place_count(found);
     lists::keep_front(column, n);

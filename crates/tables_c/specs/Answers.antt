@@ -1,6 +1,8 @@
 -- What crosses to C, by the answer inside: number 0 and line 0 if the call is accepted, and the refusal with zeros if it is not.
 -- These are definitions; nothing is assumed.
+use mathlib.Core.Bool.{Bool, not}
 use Prim.Native.Nat.{ℕ}
+use lib.Dec.{eqb}
 use Rattle.lists.specs.declared.Verdict.{Verdict}
 use Rattle.lists.specs.declared.Verdict.the-variants as verdict
 use Rattle.text.specs.declared.Measured.{Measured}
@@ -22,6 +24,10 @@ use Rattle.tables_c.specs.declared.LayoutResult.{LayoutResult}
 unfoldable pub checkResult : Verdict → CheckResult
 checkResult verdict.Accepted = record { number = 0; line = 0 }
 checkResult (verdict.Refused number line) = record { number = number; line = line }
+
+-- 0 is text or svg, any other number img
+abbrev pub asImg : ℕ → Bool
+asImg img = not (eqb img 0)
 
 unfoldable pub measureResult : Measured → MeasureResult
 measureResult (measured.Figures e) = record { number = 0; line = 0; size = e .size; least = e .least; prefix = e .prefix }

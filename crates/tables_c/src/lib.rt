@@ -1,12 +1,10 @@
 // The five calls for C and Rust: numbers, lent slices and `#[repr(C)]` structs of numbers alone. A slice crosses as a pointer and a length.
 ghost use mathlib.Core.Path.{_≡_};
-ghost use mathlib.Core.List.{[], _∷_};
-ghost use lib.ListN.{length};
 ghost use Rattle.lists.specs.Refusals.{verdictOf};
 ghost use Rattle.text.specs.Text.{measureOf};
 ghost use Rattle.tables.specs.Calls.{checkChecks};
-ghost use Rattle.tables.specs.Answers.{estimatedOf, EstimatesAnswer, griddedOf, GridAnswer, laidOutOf, LayoutAnswer};
-ghost use Rattle.tables_c.specs.Answers.{checkResult, measureResult, estimatesResult, gridResult, wayNumber, layoutResult};
+ghost use Rattle.tables.specs.Answers.{estimatedOf, forLines, EstimatesLeft, griddedOf, forEntries, forRows, GridLeft, laidOutOf, forColumns, forPlaces, LayoutLeft};
+ghost use Rattle.tables_c.specs.Answers.{checkResult, asImg, measureResult, estimatesResult, gridResult, wayNumber, layoutResult};
 use lists::Verdict;
 use tables::Estimated;
 use tables::Gridded;
@@ -67,12 +65,19 @@ pub extern "C" fn tables_check(sheet: &[u8]) -> CheckResult
     }
 }
 
+// Whether a number says img: every one but 0 does.
+fn is_img(img: u32) -> bool
+    ensures { λ r. ⌜ r ≡ asImg img ⌝ }
+{
+    img != 0
+}
+
 // The figures of one text, as text or svg, or as img.
 #[no_mangle]
-pub extern "C" fn tables_measure(text: &[u8], wrap: u32, img: bool) -> MeasureResult
-    ensures { λ r. ⌜ r ≡ measureResult (measureOf (now (text .entry)) wrap img) ⌝ }
+pub extern "C" fn tables_measure(text: &[u8], wrap: u32, img: u32) -> MeasureResult
+    ensures { λ r. ⌜ r ≡ measureResult (measureOf (now (text .entry)) wrap (asImg img)) ⌝ }
 {
-    match text::measure(text, wrap, img) {
+    match text::measure(text, wrap, is_img(img)) {
         Measured::Figures(e) => MeasureResult {
             number: 0,
             line: 0,
@@ -99,11 +104,8 @@ pub extern "C" fn tables_estimates(
     least: &mut [u32],
     prefix: &mut [u32],
 ) -> EstimatesResult
-    ensures { λ r. ⌜ r ≡ estimatesResult (estimatedOf (now (sheet .entry)) wrap
-        (length (now (size .entry)) ∷ length (now (least .entry)) ∷ length (now (prefix .entry)) ∷ [])) ⌝ }
-    ensures { λ _. ⌜ EstimatesAnswer (now (sheet .entry)) wrap (length (now (size .entry)) ∷ length (now (least .entry)) ∷ length (now (prefix .entry)) ∷ [])
-        (now (size .entry)) (now (least .entry)) (now (prefix .entry))
-        (estimatedOf (now (sheet .entry)) wrap (length (now (size .entry)) ∷ length (now (least .entry)) ∷ length (now (prefix .entry)) ∷ []))
+    ensures { λ r. ⌜ r ≡ estimatesResult (estimatedOf (now (sheet .entry)) wrap (forLines (now (size .entry)) (now (least .entry)) (now (prefix .entry)))) ⌝ }
+    ensures { λ _. ⌜ EstimatesLeft (now (sheet .entry)) wrap (now (size .entry)) (now (least .entry)) (now (prefix .entry))
         (now (size .exit)) (now (least .exit)) (now (prefix .exit)) ⌝ }
 {
     match tables::estimates(sheet, wrap, size, least, prefix) {
@@ -132,13 +134,8 @@ pub extern "C" fn tables_grid(
     row_end: &mut [u32],
 ) -> GridResult
     ensures { λ r. ⌜ r ≡ gridResult (griddedOf (now (sheet .entry)) line
-        (length (now (cell .entry)) ∷ length (now (first .entry)) ∷ length (now (span .entry)) ∷ [])
-        (length (now (row .entry)) ∷ length (now («row_end» .entry)) ∷ [])) ⌝ }
-    ensures { λ _. ⌜ GridAnswer (now (sheet .entry)) line (length (now (cell .entry)) ∷ length (now (first .entry)) ∷ length (now (span .entry)) ∷ [])
-        (length (now (row .entry)) ∷ length (now («row_end» .entry)) ∷ [])
-        (now (cell .entry)) (now (first .entry)) (now (span .entry)) (now (row .entry)) (now («row_end» .entry))
-        (griddedOf (now (sheet .entry)) line (length (now (cell .entry)) ∷ length (now (first .entry)) ∷ length (now (span .entry)) ∷ [])
-        (length (now (row .entry)) ∷ length (now («row_end» .entry)) ∷ []))
+        (forEntries (now (cell .entry)) (now (first .entry)) (now (span .entry))) (forRows (now (row .entry)) (now («row_end» .entry)))) ⌝ }
+    ensures { λ _. ⌜ GridLeft (now (sheet .entry)) line (now (cell .entry)) (now (first .entry)) (now (span .entry)) (now (row .entry)) (now («row_end» .entry))
         (now (cell .exit)) (now (first .exit)) (now (span .exit)) (now (row .exit)) (now («row_end» .exit)) ⌝ }
 {
     match tables::grid(sheet, line, cell, first, span, row, row_end) {
@@ -185,12 +182,8 @@ pub extern "C" fn tables_layout(
     x: &mut [u32],
     wide: &mut [u32],
 ) -> LayoutResult
-    ensures { λ r. ⌜ r ≡ layoutResult (laidOutOf (now (sheet .entry)) line wrap raw width (length (now (column .entry)) ∷ [])
-        (length (now (x .entry)) ∷ length (now (wide .entry)) ∷ [])) ⌝ }
-    ensures { λ _. ⌜ LayoutAnswer (now (sheet .entry)) line wrap raw width (length (now (column .entry)) ∷ [])
-        (length (now (x .entry)) ∷ length (now (wide .entry)) ∷ [])
-        (now (column .entry)) (now (x .entry)) (now (wide .entry))
-        (laidOutOf (now (sheet .entry)) line wrap raw width (length (now (column .entry)) ∷ []) (length (now (x .entry)) ∷ length (now (wide .entry)) ∷ []))
+    ensures { λ r. ⌜ r ≡ layoutResult (laidOutOf (now (sheet .entry)) line wrap raw width (forColumns (now (column .entry))) (forPlaces (now (x .entry)) (now (wide .entry)))) ⌝ }
+    ensures { λ _. ⌜ LayoutLeft (now (sheet .entry)) line wrap raw width (now (column .entry)) (now (x .entry)) (now (wide .entry))
         (now (column .exit)) (now (x .exit)) (now (wide .exit)) ⌝ }
 {
     match tables::layout(sheet, line, wrap, raw, width, column, x, wide) {

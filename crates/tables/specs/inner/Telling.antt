@@ -1,10 +1,7 @@
 -- What the functions within the calls answer. These are definitions; nothing is assumed.
-use mathlib.Core.Bool.{not, _||_}
-use mathlib.Core.List.{List, [], _∷_}
+use mathlib.Core.Bool.{true, false}
 use Prim.Native.Nat.{ℕ}
-use lib.Dec.{eqb}
-use Rattle.lists.specs.Limits.{maxLines, maxEntries}
-use Rattle.lists.specs.Refusals.{Check, check, first}
+use Rattle.lists.specs.Refusals.{Check, check}
 use Rattle.lists.specs.declared.Verdict.{Verdict}
 use Rattle.lists.specs.declared.Verdict.the-variants.{Accepted, Refused as Refuses}
 use Rattle.sheet.specs.declared.Reading.{Reading}
@@ -13,7 +10,6 @@ use Rattle.finding.specs.declared.Arranged.{Arranged}
 use Rattle.finding.specs.declared.Arranged.the-variants.{Table, Refused as NotArranged}
 use Rattle.finding.specs.declared.Shape.{Shape}
 use Rattle.finding.specs.declared.Shape.the-variants.{Grid as Shaped, Refused as NotShaped}
-use Rattle.tables.specs.Calls.{wrapCheck, settingsCheck, anyShorter}
 use Rattle.tables.specs.declared.Estimated.{Estimated}
 use Rattle.tables.specs.declared.Estimated.the-variants.{Lines as Measures, Refused as NotMeasured}
 use Rattle.tables.specs.declared.Gridded.{Gridded}
@@ -21,23 +17,10 @@ use Rattle.tables.specs.declared.Gridded.the-variants.{Grid, Refused as 
 use Rattle.tables.specs.declared.LaidOut.{LaidOut}
 use Rattle.tables.specs.declared.LaidOut.the-variants.{Layout, Refused as NoLayout}
 
--- the refusal that the arguments alone cause: its number, or 0
-abbrev pub numberOf : List Check → ℕ
-numberOf cs = first (λ number line. number) 0 cs
-
--- such a refusal, asked before the sheet is
-abbrev pub early : ℕ → Check
-early number = check (not (eqb number 0)) number 0
-
-abbrev pub estimatesArguments : ℕ → List ℕ → List Check
-estimatesArguments wrap lines = wrapCheck wrap ∷ check (anyShorter maxLines lines) 11 0 ∷ []
-
-abbrev pub gridArguments : List ℕ → List ℕ → List Check
-gridArguments entries rows = check (anyShorter maxEntries entries || anyShorter maxLines rows) 11 0 ∷ []
-
-abbrev pub layoutArguments : ℕ → ℕ → ℕ → List ℕ → List ℕ → List Check
-layoutArguments wrap raw width columns entries =
-    settingsCheck wrap raw width ∷ check (anyShorter maxLines columns || anyShorter maxEntries entries) 11 0 ∷ []
+-- the verdict on the arguments alone, asked before the sheet is
+unfoldable pub early : Verdict → Check
+early Accepted = check false 0 0
+early (Refuses number line) = check true number line
 
 -- a reading in the words of `check`
 unfoldable pub verdictIn : Reading → Verdict

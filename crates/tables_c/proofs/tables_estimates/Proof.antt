@@ -2,7 +2,6 @@
 -- leaves them. Assumes nothing.
 use mathlib.Core.Path.{sym, ap, _∙_}
 use Rattle.tables_c.specs.Answers.{estimatesResult}
-use Rattle.tables_c.proofs.Crossing.{estimates-named}
 use borrow.Author.Needs.{needs}
 use Rattle.tables_c.proofs.tables_estimates.Statement.{statement}
 use Rattle.tables_c.proofs.tables_estimates.Tie as tie
@@ -29,7 +28,7 @@ returns : tie.Need-returns
 unfolding estimatesResult
 returns c =
     let e = c .before .before .before .before .before .before .before .before .before .estimates .ensures in
-    (ap estimatesResult (sym (c .before .lines .given .1) ∙ e .answer), estimates-named e)
+    (ap estimatesResult (sym (c .before .lines .given .1) ∙ e .answer), e .left)
 
 same-length-4 : tie.Need-same-length-4
 same-length-4 c = search needs
@@ -44,7 +43,7 @@ returns-2 : tie.Need-returns-2
 unfolding estimatesResult
 returns-2 c =
     let e = c .before .before .before .before .before .before .before .before .before .estimates .ensures in
-    (ap estimatesResult (sym (c .before .number .given .1) ∙ e .answer), estimates-named e)
+    (ap estimatesResult (sym (c .before .number .given .1) ∙ e .answer), e .left)
 
 pub tables-estimates-spec : {M : Type 1} → statement M
 tables-estimates-spec =

@@ -2,7 +2,6 @@
 -- leaves them. Assumes nothing.
 use mathlib.Core.Path.{sym, ap, _∙_}
 use Rattle.tables_c.specs.Answers.{gridResult}
-use Rattle.tables_c.proofs.Crossing.{grid-named}
 use borrow.Author.Needs.{needs}
 use Rattle.tables_c.proofs.tables_grid.Statement.{statement}
 use Rattle.tables_c.proofs.tables_grid.Tie as tie
@@ -35,7 +34,7 @@ returns : tie.Need-returns
 unfolding gridResult
 returns c =
     let g = c .before .before .before .before .before .before .before .before .before .before .before .before .before .grid .ensures in
-    (ap gridResult (sym (c .before .rows .given .1) ∙ g .answer), grid-named g)
+    (ap gridResult (sym (c .before .rows .given .1) ∙ g .answer), g .left)
 
 same-length-6 : tie.Need-same-length-6
 same-length-6 c = search needs
@@ -56,7 +55,7 @@ returns-2 : tie.Need-returns-2
 unfolding gridResult
 returns-2 c =
     let g = c .before .before .before .before .before .before .before .before .before .before .before .before .before .grid .ensures in
-    (ap gridResult (sym (c .before .number .given .1) ∙ g .answer), grid-named g)
+    (ap gridResult (sym (c .before .number .given .1) ∙ g .answer), g .left)
 
 pub tables-grid-spec : {M : Type 1} → statement M
 tables-grid-spec =

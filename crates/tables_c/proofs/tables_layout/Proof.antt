@@ -2,7 +2,7 @@
 -- the inner call leaves them. Assumes nothing.
 use mathlib.Core.Path.{sym, ap, _∙_}
 use Rattle.tables_c.specs.Answers.{layoutResult}
-use Rattle.tables_c.proofs.Crossing.{layout-named, layout-crosses}
+use Rattle.tables_c.proofs.Crossing.{layout-crosses}
 use borrow.Author.Needs.{needs}
 use Rattle.tables_c.proofs.tables_layout.Statement.{statement}
 use Rattle.tables_c.proofs.tables_layout.Tie as tie
@@ -31,7 +31,7 @@ same-length-3 c = search needs
 returns : tie.Need-returns
 returns c =
     let l = c .before .before .before .before .before .before .before .before .before .before .layout .ensures in
-    (layout-crosses (c .way-number .ensures) (c .before .before .way .given .1) ∙ ap layoutResult (l .answer), layout-named l)
+    (layout-crosses (c .way-number .ensures) (c .before .before .way .given .1) ∙ ap layoutResult (l .answer), l .left)
 
 same-length-4 : tie.Need-same-length-4
 same-length-4 c = search needs
@@ -46,7 +46,7 @@ returns-2 : tie.Need-returns-2
 unfolding layoutResult
 returns-2 c =
     let l = c .before .before .before .before .before .before .before .before .before .layout .ensures in
-    (ap layoutResult (sym (c .before .number .given .1) ∙ l .answer), layout-named l)
+    (ap layoutResult (sym (c .before .number .given .1) ∙ l .answer), l .left)
 
 pub tables-layout-spec : {M : Type 1} → statement M
 tables-layout-spec =

@@ -1,33 +1,42 @@
 -- `tables::asking::find_estimates` meets its contract: refused for the arguments, it has no figures; else what is found in the sheet. Assumes nothing.
+use mathlib.Core.Path.{sym}
 use Rattle.tables.proofs.Measuring.{found-early, found-late}
 use borrow.Author.Needs.{needs}
 use Rattle.tables.proofs.asking.find_estimates.Statement.{statement}
 use Rattle.tables.proofs.asking.find_estimates.Tie as tie
 
-returns : tie.Need-returns
-returns c = found-early _ _ _ _ _ _ _ (c .if1 .taken)
+enum-known-asked : tie.Need-enum-known-asked
+enum-known-asked c = search needs
+
+enum-told : tie.Need-enum-told
+enum-told c = search needs
 
 estimates-requires : tie.Need-estimates-requires
-estimates-requires c κs = (c .before .before .before .before .before .before .before .before) .pre ((c .before .before .before) .if1 .left)
+estimates-requires c κs = (c .before .before .before .before .before .before .before .before .before) .pre ((c .before .before .before) .enum-told .given .1)
+
+returns : tie.Need-returns
+returns c = rw ((c .before) .asked .given .1) (found-early _ _ _ _ _ _ _ _)
 
 same-length : tie.Need-same-length
-same-length c = (c .before .before .before .before .before .before) .estimates .kept .1 .1 .0
+same-length c = search needs
 
 same-length-2 : tie.Need-same-length-2
-same-length-2 c = (c .before .before .before .before .before .before) .estimates .kept .1 .1 .1 .0
+same-length-2 c = search needs
 
 same-length-3 : tie.Need-same-length-3
-same-length-3 c = (c .before .before .before .before .before .before) .estimates .kept .1 .1 .1 .1 .0
+same-length-3 c = search needs
 
 returns-2 : tie.Need-returns-2
-returns-2 c = found-late ((c .before .before .before .before .before .before .before .before .before .before) .if1 .left) ((c .before .before .before .before .before .before) .estimates .ensures)
+returns-2 c = found-late ((c .before .before .before .before .before .before .before .before .before .before) .enum-told .given .1) ((c .before .before .before .before .before .before) .estimates .ensures)
 
 pub find-estimates-spec : {M : Type 1} → statement M
 find-estimates-spec =
     tie.close
     (tie.spec
-    returns
+    enum-known-asked
+    enum-told
     estimates-requires
+    returns
     same-length
     same-length-2
     same-length-3

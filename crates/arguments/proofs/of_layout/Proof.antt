@@ -1,33 +1,33 @@
--- `tables::arguments::of_layout` meets its contract: each return has the tests before it decided. Assumes nothing.
+-- `arguments::of_layout` meets its contract: each return has the tests before it decided. Assumes nothing.
 use mathlib.Core.Path.{sym}
 use borrow.Author.Tests.{lt-ltb, le-ltb}
-use Rattle.lists.specs.Refusals.{first}
-use Rattle.tables.proofs.Early.{one-shorter}
+use Rattle.lists.specs.Refusals.{verdictOf, first}
+use Rattle.arguments.proofs.Shorter.{one-shorter}
 use borrow.Author.Needs.{needs}
-use Rattle.tables.proofs.arguments.of_layout.Statement.{statement}
-use Rattle.tables.proofs.arguments.of_layout.Tie as tie
+use Rattle.arguments.proofs.of_layout.Statement.{statement}
+use Rattle.arguments.proofs.of_layout.Tie as tie
 
 settings-out-requires : tie.Need-settings-out-requires
 settings-out-requires c κs = search needs
 
 returns : tie.Need-returns
-unfolding first
+unfolding verdictOf first
 returns c = rw (sym (c .before .settings-out .ensures), c .if1 .taken)
 
 returns-2 : tie.Need-returns-2
-unfolding first
+unfolding verdictOf first
 returns-2 c = rw (sym (c .before .before .settings-out .ensures), c .before .if1 .left, one-shorter _ _, lt-ltb _ _ (c .if2 .taken))
 
 either-below-requires : tie.Need-either-below-requires
 either-below-requires c κs = search needs
 
 returns-3 : tie.Need-returns-3
-unfolding first
+unfolding verdictOf first
 returns-3 c =
     rw (sym (c .before .before .before .before .settings-out .ensures), c .before .before .before .if1 .left, one-shorter _ _, le-ltb _ _ (c .before .before .if2 .left), sym (c .before .either-below .ensures), c .if3 .taken)
 
 returns-4 : tie.Need-returns-4
-unfolding first
+unfolding verdictOf first
 returns-4 c =
     rw (sym (c .before .before .before .before .settings-out .ensures), c .before .before .before .if1 .left, one-shorter _ _, le-ltb _ _ (c .before .before .if2 .left), sym (c .before .either-below .ensures), c .if3 .left)
 

@@ -1,9 +1,9 @@
--- `tables::arguments::any_below` meets its contract: each return has the tests before it decided. Assumes nothing.
+-- `arguments::any_below` meets its contract: each return has the tests before it decided. Assumes nothing.
 use borrow.Author.Tests.{lt-ltb, le-ltb}
-use Rattle.tables.specs.Calls.{anyShorter}
-use Rattle.tables.proofs.Early.{or-false}
-use Rattle.tables.proofs.arguments.any_below.Statement.{statement}
-use Rattle.tables.proofs.arguments.any_below.Tie as tie
+use Rattle.arguments.specs.Arguments.{anyShorter}
+use Rattle.arguments.proofs.Shorter.{or-false}
+use Rattle.arguments.proofs.any_below.Statement.{statement}
+use Rattle.arguments.proofs.any_below.Tie as tie
 
 returns : tie.Need-returns
 unfolding anyShorter

@@ -1,0 +1,2 @@
+-- What the lengths of lent buffers say.
+pub mod Shorter

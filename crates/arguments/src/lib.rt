@@ -1,0 +1,106 @@
+// What a call's settings and the lengths of its buffers are refused for: 9 and 11.
+ghost use mathlib.Core.Path.{_≡_};
+ghost use mathlib.Core.List.{[], _∷_};
+ghost use mathlib.Core.Bool.{_||_};
+ghost use lib.Dec.{ltb};
+ghost use Rattle.lists.specs.Limits.{maxWrap, maxWidth};
+ghost use Rattle.arguments.specs.Arguments.{anyShorter, estimatesArguments, gridArguments, layoutArguments};
+ghost use Rattle.lists.specs.Refusals.{verdictOf};
+use lists::Verdict;
+
+// Whether one of three is below n.
+fn any_below(a: usize, b: usize, c: usize, n: usize) -> bool
+    ensures { λ r. ⌜ r ≡ anyShorter n (a ∷ b ∷ c ∷ []) ⌝ }
+{
+    if a < n {
+        return true;
+    }
+    if b < n {
+        return true;
+    }
+    c < n
+}
+
+// Whether wrap is out of its range.
+fn wrap_out(wrap: u32) -> bool
+    ensures { λ r. ⌜ r ≡ ltb maxWrap wrap ⌝ }
+{
+    wrap > lists::MAX_WRAP
+}
+
+pub fn of_estimates(wrap: u32, size: usize, least: usize, prefix: usize) -> Verdict
+    ensures { λ r. ⌜ r ≡ verdictOf (estimatesArguments wrap (size ∷ least ∷ prefix ∷ [])) ⌝ }
+{
+    if wrap_out(wrap) {
+        return Verdict::Refused { number: 9, line: 0 };
+    }
+    if any_below(size, least, prefix, lists::MAX_LINES) {
+        return Verdict::Refused {
+            number: 11,
+            line: 0,
+        };
+    }
+    Verdict::Accepted
+}
+
+// Whether one of two is below n.
+fn either_below(a: usize, b: usize, n: usize) -> bool
+    ensures { λ r. ⌜ r ≡ anyShorter n (a ∷ b ∷ []) ⌝ }
+{
+    if a < n {
+        return true;
+    }
+    b < n
+}
+
+pub fn of_grid(cell: usize, first: usize, span: usize, row: usize, row_end: usize) -> Verdict
+    ensures { λ r. ⌜ r ≡ verdictOf (gridArguments (cell ∷ first ∷ span ∷ []) (row ∷ «row_end» ∷ [])) ⌝ }
+{
+    if any_below(cell, first, span, lists::MAX_ENTRIES) {
+        return Verdict::Refused {
+            number: 11,
+            line: 0,
+        };
+    }
+    if either_below(row, row_end, lists::MAX_LINES) {
+        return Verdict::Refused {
+            number: 11,
+            line: 0,
+        };
+    }
+    Verdict::Accepted
+}
+
+// Whether a setting is out of its range.
+fn settings_out(wrap: u32, raw: u32, width: u32) -> bool
+    ensures { λ r. ⌜ r ≡ (ltb maxWrap wrap || ltb 1 raw || ltb maxWidth width) ⌝ }
+{
+    if wrap_out(wrap) {
+        return true;
+    }
+    if raw > 1 {
+        return true;
+    }
+    width > lists::MAX_WIDTH
+}
+
+pub fn of_layout(wrap: u32, raw: u32, width: u32, column: usize, x: usize, wide: usize) -> Verdict
+    ensures { λ r. ⌜ r ≡ verdictOf (layoutArguments wrap raw width (column ∷ []) (x ∷ wide ∷ [])) ⌝ }
+{
+    if settings_out(wrap, raw, width) {
+        return Verdict::Refused { number: 9, line: 0 };
+    }
+    if column < lists::MAX_LINES {
+        return Verdict::Refused {
+            number: 11,
+            line: 0,
+        };
+    }
+    if either_below(x, wide, lists::MAX_ENTRIES) {
+        return Verdict::Refused {
+            number: 11,
+            line: 0,
+        };
+    }
+    Verdict::Accepted
+}
