@@ -8,7 +8,7 @@
  *   is 0: the library as it is compiled does not follow such a pointer, but what is proved is about pointers that are not null.)
  * - A buffer that is lent for writing overlaps neither another buffer of the call nor the sheet, and nothing else touches it during the call.
  * - There is room on the stack. Measured at the most: tables_layout 593,000 bytes, tables_estimates 560,000, tables_grid 511,000, tables_check 510,000,
- *   tables_measure 300, whatever the sheet; TABLES_STACK is enough for any call. Without it a call ends in the system's stack overflow. Nothing is allocated.
+ *   tables_measure 300, on small and on full sheets alike; TABLES_STACK is enough for any call. Without it a call ends in the system's stack overflow. Nothing is allocated.
  *
  * There is no state outside the arguments: calls may run in several threads at once, each with buffers of its own, and a sheet may be shared.
  *
@@ -31,7 +31,7 @@
 #define TABLES_MAX_WIDTH 65535    /* largest width */
 #define TABLES_STACK 700000       /* bytes of stack that are enough for any call */
 
-/* In the order in which they are looked for: 9, 11, 8, 1; then line by line 2, 3, 4; then 4 for what is missing; 10; then table by table 5, 6, 7. */
+/* In the order in which they are looked for: 9, 11, 8, 1; then line by line 2, 3, 4; then 4 for no node, an empty table or an empty body; 10; then table by table 5, 6, 7. */
 enum tables_refusal {
     TABLES_ACCEPTED = 0,
     TABLES_BAD_HEADING = 1,      /* the first line is not exactly the heading with its line feed; line 0 */
