@@ -73,7 +73,22 @@ typedef struct tables_layout_result {
     uint32_t width;   /* of the table */
 } tables_layout_result;
 
+typedef struct tables_missing_result {
+    uint32_t number, line;
+    uint32_t count;   /* so many numbers of missing entries stand in entry */
+    uint32_t columns; /* so many causes stand in cause */
+} tables_missing_result;
+
 enum tables_way { TABLES_SIDEWAYS = 0, TABLES_DOWN = 1 };
+
+/* Why a column is 0 wide: the first that holds, where TABLES_PAGE comes before all others. */
+enum tables_cause {
+    TABLES_SHOWN = 0,  /* it is not 0 wide */
+    TABLES_EMPTY = 1,  /* its size is 0 */
+    TABLES_LITTLE = 2, /* its share of the width is 0 */
+    TABLES_CUT = 3,    /* its share was cut away */
+    TABLES_PAGE = 4    /* the page has width 0 */
+};
 
 #ifdef __cplusplus
 extern "C" {
@@ -110,6 +125,14 @@ tables_layout_result tables_layout(
     uint32_t *column, size_t column_len,
     uint32_t *x, size_t x_len,
     uint32_t *wide, size_t wide_len);
+
+/* Which entries of the table in a line are missing, those that tables_layout leaves out, and why. For each missing entry: its number in the grid's order,
+ * the first is 0, with at least TABLES_MAX_ENTRIES places. For each column: its cause (enum tables_cause), with at least TABLES_MAX_COLUMNS places. An
+ * entry is missing exactly if none of its columns is TABLES_SHOWN. */
+tables_missing_result tables_missing(
+    const uint8_t *sheet, size_t sheet_len, uint32_t line, uint32_t wrap, uint32_t raw, uint32_t width,
+    uint32_t *entry, size_t entry_len,
+    uint32_t *cause, size_t cause_len);
 
 #ifdef __cplusplus
 }

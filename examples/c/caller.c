@@ -1,4 +1,4 @@
-// A caller in C: takes the name of an input as `layout` reads it, settings and a sheet, and shows what the five calls say of its first table.
+// A caller in C: takes the name of an input as `layout` reads it, settings and a sheet, and shows what the six calls say of its first table.
 #include <stdio.h>
 #include <string.h>
 #include "tables.h"
@@ -9,12 +9,14 @@ _Static_assert(sizeof(tables_measure_result) == 20 && offsetof(tables_measure_re
 _Static_assert(sizeof(tables_estimates_result) == 12 && offsetof(tables_estimates_result, lines) == 8, "tables_estimates_result");
 _Static_assert(sizeof(tables_grid_result) == 20 && offsetof(tables_grid_result, rows) == 8 && offsetof(tables_grid_result, columns) == 16, "tables_grid_result");
 _Static_assert(sizeof(tables_layout_result) == 20 && offsetof(tables_layout_result, way) == 8 && offsetof(tables_layout_result, width) == 16, "tables_layout_result");
+_Static_assert(sizeof(tables_missing_result) == 16 && offsetof(tables_missing_result, count) == 8 && offsetof(tables_missing_result, columns) == 12, "tables_missing_result");
 
 static uint8_t input[TABLES_MAX_BYTES + 100];
 static uint32_t size[TABLES_MAX_LINES], least[TABLES_MAX_LINES], prefix[TABLES_MAX_LINES];
 static uint32_t cell[TABLES_MAX_ENTRIES], first[TABLES_MAX_ENTRIES], span[TABLES_MAX_ENTRIES];
 static uint32_t row[TABLES_MAX_LINES], row_end[TABLES_MAX_LINES];
 static uint32_t column[TABLES_MAX_COLUMNS], x[TABLES_MAX_ENTRIES], wide[TABLES_MAX_ENTRIES];
+static uint32_t entry[TABLES_MAX_ENTRIES], cause[TABLES_MAX_COLUMNS];
 #define PLACES(a) (a), sizeof(a) / sizeof *(a)
 
 static int refused(uint32_t number, uint32_t line) {
@@ -68,5 +70,11 @@ int main(int argc, char **argv) {
     for (uint32_t i = 0; i < l.columns; i++) printf("column %u: width %u\n", i, column[i]);
     for (uint32_t r = 0, i = 0; r < g.rows; r++)
         for (; i < row_end[r]; i++) printf("row %u, cell %u: x %u, width %u\n", row[r], cell[i], x[i], wide[i]);
+
+    tables_missing_result k = tables_missing(sheet, len, line, wrap, raw, width, PLACES(entry), PLACES(cause));
+    if (refused(k.number, k.line)) return 1;
+    printf("missing: %u entries\n", k.count);
+    for (uint32_t i = 0; i < k.count; i++) printf("entry %u is missing\n", entry[i]);
+    for (uint32_t i = 0; i < k.columns; i++) printf("column %u: cause %u\n", i, cause[i]);
     return 0;
 }

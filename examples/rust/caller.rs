@@ -1,10 +1,10 @@
-// A caller in Rust: takes the name of an input as `layout` reads it, settings and a sheet, and shows what the five calls say of its first table.
+// A caller in Rust: takes the name of an input as `layout` reads it, settings and a sheet, and shows what the six calls say of its first table.
 mod tables;
 
 fn show(settings: [u32; 3], sheet: &[u8]) -> Result<(), tables::Refusal> {
     let [mut size, mut least, mut prefix, mut row, mut row_end] = [[0; tables::LINES]; 5];
-    let [mut cell, mut first, mut span, mut x, mut wide] = [[0; tables::ENTRIES]; 5];
-    let mut column = [0; tables::COLUMNS];
+    let [mut cell, mut first, mut span, mut x, mut wide, mut entry] = [[0; tables::ENTRIES]; 6];
+    let [mut column, mut cause] = [[0; tables::COLUMNS]; 2];
     tables::check(sheet)?;
     println!("check: accepted");
     let [s, l, p] = tables::measure(b" a  b ", settings[0], false)?;
@@ -26,6 +26,14 @@ fn show(settings: [u32; 3], sheet: &[u8]) -> Result<(), tables::Refusal> {
             println!("row {}, cell {}: x {}, width {}", row[r], cell[i], x[i], wide[i]);
             i += 1;
         }
+    }
+    let [count, columns] = tables::missing(sheet, line, settings, [&mut entry, &mut cause])?;
+    println!("missing: {count} entries");
+    for i in 0..count as usize {
+        println!("entry {} is missing", entry[i]);
+    }
+    for i in 0..columns as usize {
+        println!("column {i}: cause {}", cause[i]);
     }
     Ok(())
 }

@@ -1,4 +1,4 @@
-//! The five calls of libtables_c.a, safe: a reference is never null and is aligned, and what is lent with `&mut` overlaps nothing, which is all that
+//! The six calls of libtables_c.a, safe: a reference is never null and is aligned, and what is lent with `&mut` overlaps nothing, which is all that
 //! they ask beside 1 MB of stack. What they answer, and what the refusals mean, stands in include/tables.h.
 
 /// The least places of a lent buffer with one for each line or row, each entry, each column.
@@ -38,6 +38,7 @@ extern "C" {
     fn tables_estimates(s: In, n: usize, wrap: u32, a: Out, al: usize, b: Out, bl: usize, c: Out, cl: usize) -> Answer<1>;
     fn tables_grid(s: In, n: usize, line: u32, a: Out, al: usize, b: Out, bl: usize, c: Out, cl: usize, d: Out, dl: usize, e: Out, el: usize) -> Answer<3>;
     fn tables_layout(s: In, n: usize, line: u32, wrap: u32, raw: u32, width: u32, a: Out, al: usize, b: Out, bl: usize, c: Out, cl: usize) -> Answer<3>;
+    fn tables_missing(s: In, n: usize, line: u32, wrap: u32, raw: u32, width: u32, a: Out, al: usize, b: Out, bl: usize) -> Answer<2>;
 }
 
 pub fn check(s: &[u8]) -> Result<[u32; 0], Refusal> {
@@ -66,4 +67,9 @@ pub fn layout(s: &[u8], line: u32, [wrap, raw, width]: [u32; 3], [a, b, c]: [&mu
     let (al, bl, cl) = (a.len(), b.len(), c.len());
     let (a, b, c) = (a.as_mut_ptr(), b.as_mut_ptr(), c.as_mut_ptr());
     unsafe { tables_layout(s.as_ptr(), s.len(), line, wrap, raw, width, a, al, b, bl, c, cl) }.result()
+}
+
+/// count, columns; settings: wrap, raw, width; lent: entry, cause
+pub fn missing(s: &[u8], line: u32, [wrap, raw, width]: [u32; 3], [a, b]: [&mut [u32]; 2]) -> Result<[u32; 2], Refusal> {
+    unsafe { tables_missing(s.as_ptr(), s.len(), line, wrap, raw, width, a.as_mut_ptr(), a.len(), b.as_mut_ptr(), b.len()) }.result()
 }

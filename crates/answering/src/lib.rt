@@ -9,6 +9,7 @@ ghost use Rattle.lists.specs.Limits.{maxLines};
 ghost use Rattle.records.specs.Kept.{keptCount};
 ghost use Rattle.listing.specs.Listing.{Place};
 use listing::refusal;
+use listing::verdict;
 use lists::MAX_LINES;
 use lists::Verdict;
 use settings::Given;
@@ -63,8 +64,9 @@ pub fn answers(out: &mut [u8], at: usize, input: &[u8]) -> usize
     requires { ⌜ Place (now out) at ⌝ }
     ensures { λ r. ⌜ Place (now (out .exit)) r ⌝ }
 {
-    let Settled::Set(given) = settings::settings(input) else {
-        return refusal(out, at, 9, 0);
+    let settled = settings::settings(input);
+    let Settled::Set(given) = settled else {
+        return verdict(out, at, settings::verdict_of(settled));
     };
     let from = given.sheet;
     checked(out, at, &input[from..], given)

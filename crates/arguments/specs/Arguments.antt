@@ -28,3 +28,7 @@ gridArguments entries rows = check (anyShorter maxEntries entries || anyShorter 
 abbrev pub layoutArguments : ℕ → ℕ → ℕ → List ℕ → List ℕ → List Check
 layoutArguments wrap raw width columns entries =
     settingsCheck wrap raw width ∷ check (anyShorter maxLines columns || anyShorter maxEntries entries) 11 0 ∷ []
+
+abbrev pub missingArguments : ℕ → ℕ → ℕ → List ℕ → List ℕ → List Check
+missingArguments wrap raw width entries columns =
+    settingsCheck wrap raw width ∷ check (anyShorter maxEntries entries || anyShorter maxLines columns) 11 0 ∷ []

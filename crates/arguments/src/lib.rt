@@ -4,7 +4,7 @@ ghost use mathlib.Core.List.{[], _∷_};
 ghost use mathlib.Core.Bool.{_||_};
 ghost use lib.Dec.{ltb};
 ghost use Rattle.lists.specs.Limits.{maxWrap, maxWidth};
-ghost use Rattle.arguments.specs.Arguments.{anyShorter, estimatesArguments, gridArguments, layoutArguments};
+ghost use Rattle.arguments.specs.Arguments.{anyShorter, estimatesArguments, gridArguments, layoutArguments, missingArguments};
 ghost use Rattle.lists.specs.Refusals.{verdictOf};
 use lists::Verdict;
 
@@ -97,6 +97,27 @@ pub fn of_layout(wrap: u32, raw: u32, width: u32, column: usize, x: usize, wide:
         };
     }
     if either_below(x, wide, lists::MAX_ENTRIES) {
+        return Verdict::Refused {
+            number: 11,
+            line: 0,
+        };
+    }
+    Verdict::Accepted
+}
+
+pub fn of_missing(wrap: u32, raw: u32, width: u32, entry: usize, cause: usize) -> Verdict
+    ensures { λ r. ⌜ r ≡ verdictOf (missingArguments wrap raw width (entry ∷ []) (cause ∷ [])) ⌝ }
+{
+    if settings_out(wrap, raw, width) {
+        return Verdict::Refused { number: 9, line: 0 };
+    }
+    if entry < lists::MAX_ENTRIES {
+        return Verdict::Refused {
+            number: 11,
+            line: 0,
+        };
+    }
+    if cause < lists::MAX_LINES {
         return Verdict::Refused {
             number: 11,
             line: 0,

@@ -16,6 +16,10 @@ pub record Bounded (e : Estimate) : Type 0 where
   pub small : e .size ≤ maxSize
   pub least-size : e .least ≤ e .size
 
+-- and that of all
+abbrev pub AllBounded : List Estimate → Type 0
+AllBounded es = (k : ℕ) → k < length es → Bounded (getD es k none)
+
 -- a sheet with the kept grids of its tables, results with a place for each line, and scratch for the columns of a table
 pub record Lent (ls : List Kept) (gs : List Place) (b : List Estimate) (leasts : List ℕ) : Type 0 where
   pub sheet : Sheet ls

@@ -11,7 +11,7 @@ use Rattle.records.specs.Kept.{keptCount, keptsOf}
 use Rattle.records.proofs.Kepts.{kepts-take}
 use Rattle.sheet.specs.declared.Reading.{Reading}
 use Rattle.sheet.specs.declared.Reading.the-variants as reading
-use Rattle.sheet.proofs.First.{first-passes}
+use Rattle.sheet.proofs.First.{first-passes, figures-fail, front-pass}
 use Rattle.cells.specs.Cells as cells
 use Rattle.cells.specs.Listed.{heldRows}
 use Rattle.grid.specs.Grid.{entriesOf}
@@ -78,11 +78,11 @@ module _ {s : List ℕ} {line : ℕ} {read : Reading} {lines : List ℕ} (w : Op
             answer = z ∙ sym (first-passes NoGrid _ cs p);
             few-entries = omega (arith, m .few-entries);
             few-rows = omega (arith, m .few-rows);
-            cells = rw (p, x) (m .cells);
-            firsts = rw (p, x) (m .firsts);
-            spans = rw (p, x) (m .spans);
-            row-lines = rw (p, y) (m .row-lines);
-            row-ends = rw (p, y) (m .row-ends);
+            cells = front-pass cell cs p x (m .cells);
+            firsts = front-pass first′ cs p x (m .firsts);
+            spans = front-pass span cs p x (m .spans);
+            row-lines = front-pass row cs p y (m .row-lines);
+            row-ends = front-pass end cs p y (m .row-ends);
           }
       at (reading.Refused number l) e =
           let o = sym (w .answer) ∙ e in
@@ -93,9 +93,9 @@ module _ {s : List ℕ} {line : ℕ} {read : Reading} {lines : List ℕ} (w : Op
             answer = sym (told true s line NoGrid _ number l o);
             few-entries = omega arith;
             few-rows = omega arith;
-            cells = rw p;
-            firsts = rw p;
-            spans = rw p;
-            row-lines = rw p;
-            row-ends = rw p;
+            cells = sym (figures-fail cs _ p);
+            firsts = sym (figures-fail cs _ p);
+            spans = sym (figures-fail cs _ p);
+            row-lines = sym (figures-fail cs _ p);
+            row-ends = sym (figures-fail cs _ p);
           })

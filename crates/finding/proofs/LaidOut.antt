@@ -14,7 +14,7 @@ use Rattle.records.proofs.Kepts.{kepts-take}
 use Rattle.sheet.specs.Steps.{roomFor}
 use Rattle.sheet.specs.declared.Reading.{Reading}
 use Rattle.sheet.specs.declared.Reading.the-variants as reading
-use Rattle.sheet.proofs.First.{first-passes}
+use Rattle.sheet.proofs.First.{first-passes, figures-fail, front-pass}
 use Rattle.grid.specs.Grid.{entriesOf}
 use Rattle.estimates.specs.inner.Figures.{figuresOf}
 use Rattle.opening.specs.Opening.{keptLines, openChecks}
@@ -96,15 +96,15 @@ module _ {s : List ℕ} {line wrap : ℕ} {read : Reading} {lines : List ℕ} {f
             let k : line - 1 + 1 ≡ line = omega arith in
             let l = rw k at (m .laid wrap (w .measured n e .figures)) in
             let z = g .answer n e ∙ (λ i. Table (l .way-is i) (m .entries-are i) (m .columns-are i) (l .width-is i)) in
-            let x : placeTotal r ≡ length (entriesOf (rowsAt s line)) = ap placeTotal z in
-            let y : columnTotal r ≡ columnsAt s line = ap columnTotal z in
+            let i : placeTotal r ≡ length (entriesOf (rowsAt s line)) = ap placeTotal z in
+            let j : columnTotal r ≡ columnsAt s line = ap columnTotal z in
             record {
               answer = z ∙ sym (first-passes Refused _ cs p);
               few-columns = omega (arith, m .few-columns);
               few-entries = omega (arith, m .few-entries);
-              widths = rw (p, y) (l .column-is);
-              xs = rw (p, x) (l .xs-are);
-              wides = rw (p, x) (l .wides-are);
+              widths = front-pass column cs p j (l .column-is);
+              xs = front-pass x cs p i (l .xs-are);
+              wides = front-pass wide cs p i (l .wides-are);
               promised = λ _. l .promised low;
             }
         at (reading.Refused number l) e =
@@ -115,8 +115,8 @@ module _ {s : List ℕ} {line wrap : ℕ} {read : Reading} {lines : List ℕ} {f
               answer = sym (told true s line Refused _ number l o);
               few-columns = omega arith;
               few-entries = omega arith;
-              widths = rw p;
-              xs = rw p;
-              wides = rw p;
+              widths = sym (figures-fail cs _ p);
+              xs = sym (figures-fail cs _ p);
+              wides = sym (figures-fail cs _ p);
               promised = λ q. let z : _≡_ {A = ℕ} 0 1 = cc in absurd (omega arith);
             })

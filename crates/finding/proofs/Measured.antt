@@ -4,25 +4,28 @@ use mathlib.Core.Bool.{false}
 use mathlib.Core.List.{List, map}
 use Prim.Native.Nat.{ℕ, _+_, _*_, _/_, _≤_, _<_}
 use native.Mathlib.Omega.{arith}
-use lib.ListN.{length, getD, take}
+use lib.ListN.{length, take, length-map}
 use Rattle.lists.specs.Lists.{over}
 use Rattle.lists.specs.Limits.{maxLines}
-use Rattle.lists.specs.Refusals.{first}
+use Rattle.lists.specs.Refusals.{first, ifPasses}
 use Rattle.text.specs.declared.Estimate.{Estimate}
 use Rattle.records.specs.Records.{numbersOf}
 use Rattle.sheet.specs.Sheet.{sheetLines}
+use Rattle.sheet.proofs.First.{first-passes, figures-fail, front-pass}
 use Rattle.sheet.specs.Steps.{roomFor}
 use Rattle.sheet.specs.declared.Reading.{Reading}
 use Rattle.sheet.specs.declared.Reading.the-variants.{Lines, Refused}
-use Rattle.estimates.specs.Estimates.{estimates}
+use Rattle.estimates.specs.Estimates.{estimates, measured, estOf}
+use Rattle.estimates.proofs.Laws.{length-all}
 use Rattle.estimates.specs.inner.Figures.{figureBy, figuresOf}
 use Rattle.opening.specs.Opening.{keptLines, openChecks, openedOf}
 use Rattle.opening.specs.inner.Measures.{SheetMeasured}
 use Rattle.table.proofs.Rooms.{unpacked}
-use Rattle.finding.specs.Figures.{ifPasses, sizeOf, leastOf, prefixOf}
+use Rattle.finding.specs.Figures.{sizeOf, leastOf, prefixOf}
 use Rattle.finding.specs.inner.Found.{linesIn, LinesRoom, EstimatesFound}
 use Rattle.finding.specs.inner.Made.{FiguresFit, FiguresTold}
-use Rattle.finding.proofs.Openings.{passed, failed, lines-few}
+use Rattle.opening.proofs.Passing.{passed}
+use Rattle.finding.proofs.Openings.{failed, lines-few}
 
 pub figures-told : (n : ℕ) (figures size₀ least₀ prefix₀ : List ℕ) {size least prefix : List ℕ} → n ≤ length figures / 3
     → size ≡ over (numbersOf 3 0 n figures) size₀ → least ≡ over (numbersOf 3 1 n figures) least₀ → prefix ≡ over (numbersOf 3 2 n figures) prefix₀
@@ -60,8 +63,8 @@ module _ {s : List ℕ} {wrap : ℕ} {r : Reading} {lines places figures : List 
           let p = passed false s 0 k (sym (m .opened .answer) ∙ f) in
           let i : linesIn r ≡ length (keptLines s) = ap linesIn f ∙ p .kept in
           let j : n ≡ length (keptLines s) = e ∙ i in
-          rw (p .all) (ap (λ (t : ℕ). take t slice) (sym e) ∙ q ∙ ap (λ (t : ℕ). map figure (take t (figuresOf figures))) j ∙ ap (map figure) (m .measured k f .figures))
-      at (Refused number l) f = rw (failed false s 0 number l (sym (m .opened .answer) ∙ f), f)
+          front-pass slice (openChecks false s 0) (p .all) (sym e) (q ∙ ap (λ (t : ℕ). map figure (take t (figuresOf figures))) j ∙ ap (map figure) (m .measured k f .figures))
+      at (Refused number l) f = rw f (sym (figures-fail (openChecks false s 0) _ (failed false s 0 number l (sym (m .opened .answer) ∙ f))))
 
   pub estimates-found : {size least prefix : List ℕ} → FiguresTold n (figuresOf figures) size least prefix
       → EstimatesFound (openChecks false s 0) s wrap r size least prefix
@@ -72,4 +75,7 @@ module _ {s : List ℕ} {wrap : ℕ} {r : Reading} {lines places figures : List 
     sizes = front sizeOf size (t .sizes);
     leasts = front leastOf least (t .leasts);
     prefixes = front prefixOf prefix (t .prefixes);
+    sound = λ p k h.
+        m .measured (length (sheetLines s)) (m .opened .answer ∙ first-passes Refused (Lines (length (sheetLines s))) (openChecks false s 0) p) .sound k
+        (omega (arith, length-map (measured wrap 1 (keptLines s)) estOf, length-all wrap (keptLines s)));
   }

@@ -2,27 +2,23 @@
 use mathlib.Core.Path.{_≡_, refl, sym, ap, _∙_}
 use mathlib.Core.Bool.{Bool, true, false}
 use mathlib.Core.List.{List, [], append-nil}
-use Prim.Native.Nat.{ℕ, _-_, _*_, _/_, _≤_, _<_}
+use Prim.Native.Nat.{ℕ, _-_, _*_, _≤_, _<_}
 use native.Mathlib.Omega.{arith}
 use lib.ListN.{length, take}
-use Rattle.lists.specs.Limits.{maxLines}
 use Rattle.lists.specs.Refusals.{first, passes}
-use Rattle.records.specs.Kept.{keptCount, keptsOf, placeBy, placesOf}
-use Rattle.records.proofs.Records.{length-of}
+use Rattle.records.specs.Kept.{keptCount, keptsOf}
 use Rattle.records.proofs.Kepts.{kepts-take}
 use Rattle.sheet.specs.Sheet.{sheetLines}
 use Rattle.sheet.specs.Steps.{roomFor}
-use Rattle.sheet.specs.Reading.{readingOf}
 use Rattle.sheet.specs.declared.Reading.{Reading}
 use Rattle.sheet.specs.declared.Reading.the-variants.{Lines, Refused}
-use Rattle.sheet.proofs.First.{first-passes, first-accepts, first-carries}
-use Rattle.sheet.proofs.Bounds.{accepted-lines, accepted-room}
-use Rattle.estimates.specs.inner.Figures.{figureBy, figuresOf}
+use Rattle.sheet.proofs.First.{first-passes, first-carries}
 use Rattle.opening.specs.Opening.{keptLines, openChecks, openedOf}
 use Rattle.opening.specs.inner.Opened.{Opened}
 use Rattle.opening.proofs.Answers.{Apt, table-apt}
-use Rattle.opening.proofs.Ready.{kept-count, kept-lined}
-use Rattle.opening.proofs.Opens.{opened-reads, opened-asked}
+use Rattle.opening.proofs.Ready.{kept-lined}
+use Rattle.opening.proofs.Opens.{opened-asked}
+use Rattle.opening.proofs.Passing.{Passed, passed}
 use Rattle.table.specs.inner.Fitting.{Asked}
 use Rattle.finding.specs.inner.Found.{linesIn}
 use Rattle.finding.specs.inner.Made.{AskedIn, OpenedAt}
@@ -30,25 +26,7 @@ use Rattle.finding.specs.inner.Made.{AskedIn, OpenedAt}
 -- ---- the checks
 
 module _ (asks : Bool) (s : List ℕ) (line : ℕ) where
-  -- an opened sheet has passed every check
-  pub record Passed (n : ℕ) : Type 0 where
-    pub all : passes (openChecks asks s line) ≡ true
-    pub reading : readingOf s ≡ Lines n
-    pub count : n ≡ length (sheetLines s)
-    pub kept : n ≡ length (keptLines s)
-    pub few : n ≤ maxLines
-    pub room : n ≤ roomFor s
-
-  pub passed : (n : ℕ) → openedOf asks s line ≡ Lines n → Passed n
-  unfolding openedOf
-  passed n e =
-      let (p, q) =
-      first-accepts Refused (Lines (length (sheetLines s))) (Lines n) (openChecks asks s line) (λ number l f. let z : _≡_ {A = ℕ} 0 1 = cc in omega arith) e in
-      let r : readingOf s ≡ Lines n = opened-reads asks s line n e in
-      let c = accepted-lines s n r in
-      record { all = p; reading = r; count = c .0; kept = kept-count s n r; few = omega arith; room = accepted-room s n r }
-
-  -- a refused one has not
+  -- a refused sheet has not passed every check
   pub failed : (number l : ℕ) → openedOf asks s line ≡ Refused number l → passes (openChecks asks s line) ≡ false
   unfolding openedOf
   failed number l e = at (passes (openChecks asks s line)) refl
@@ -71,7 +49,7 @@ module _ (asks : Bool) (s : List ℕ) (line : ℕ) where
   -- there are no more lines than there is room for
   pub lines-few : (r : Reading) → r ≡ openedOf asks s line → linesIn r ≤ roomFor s
   unfolding linesIn
-  lines-few (Lines n) e = passed n (sym e) .room
+  lines-few (Lines n) e = passed asks s line n (sym e) .room
   lines-few (Refused number l) e = omega arith
 
 -- ---- the line asked for
@@ -105,12 +83,3 @@ module _ {s : List ℕ} {line : ℕ} {r : Reading} {lines : List ℕ} (w : Opene
 -- the same of the lines that stand in the first places
 pub front-asked : {read : Reading} {lines : List ℕ} {line n : ℕ} → AskedIn read lines line → read ≡ Lines n → Asked (keptsOf (take (6 * n) lines)) line
 front-asked {lines = lines} {n = n} a e = rw (kepts-take lines n (a .front n e)) (a .asked n e)
-
--- ---- room
-
--- slices that are long enough for so many records
-pub places-room : (k : ℕ) (xs : List ℕ) → k ≤ length xs / 2 → k ≤ length (placesOf xs)
-places-room k xs h = omega (arith, length-of 2 placeBy xs)
-
-pub figures-room : (k : ℕ) (xs : List ℕ) → k ≤ length xs / 3 → k ≤ length (figuresOf xs)
-figures-room k xs h = omega (arith, length-of 3 figureBy xs)

@@ -1,9 +1,7 @@
 -- The figures of a sheet's tables and lines, by the sheet's bytes, a line and the settings. These are definitions; nothing is assumed.
-use mathlib.Core.Bool.{cond}
-use mathlib.Core.List.{List, []}
+use mathlib.Core.List.{List}
 use Prim.Native.Nat.{ℕ, _-_}
 use lib.ListN.{drop}
-use Rattle.lists.specs.Refusals.{Check, passes}
 use Rattle.text.specs.declared.Estimate.{Estimate}
 use Rattle.columns.specs.Boxes.{Box, flat}
 use Rattle.columns.specs.Columns as columns
@@ -16,10 +14,6 @@ use Rattle.widths.specs.Widths.{wayOf, finalWidths, tableWidth}
 use Rattle.widths.specs.declared.Way.{Way}
 use Rattle.placing.specs.Place.{Placed, placeRows}
 use Rattle.opening.specs.Opening.{keptLines}
-
--- the figures where every check passes; else none
-abbrev pub ifPasses : List Check → List ℕ → List ℕ
-ifPasses cs xs = cond (passes cs) xs []
 
 -- of a line
 abbrev pub sizeOf : Estimate → ℕ

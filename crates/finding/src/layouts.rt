@@ -92,7 +92,7 @@ fn measured_small(
 }
 
 // The same of any sheet.
-fn measured_large(
+pub fn measured_large(
     sheet: &[u8],
     line: u32,
     wrap: u32,

@@ -3,7 +3,7 @@
 mod checking; // a sheet opened for its answer alone
 mod estimating; // the estimates of all lines
 mod grids; // the grid of one table
-mod layouts; // the layout of one table
+pub mod layouts; // the layout of one table
 mod sizes; // small sheets
 
 ghost use mathlib.Core.Path.{_≡_};

@@ -223,33 +223,59 @@ fn make_many(lines: &[u32], at: usize, entries: &mut [u32], rows: &mut [u32]) ->
     finish(placed, &wide, &line, &row_line, &row_end, entries, rows)
 }
 
-// The grid of a table with which the lines end, and whose lines ask for so many rows. The lines and the rows are asked for apart: a function that
-// is called once may become a part of its caller, which would then have the longest arrays for every table.
-fn make_last(lines: &[u32], at: usize, asked: u64, entries: &mut [u32], rows: &mut [u32]) -> Judged
+// The lines for which the next longer arrays do.
+fn next(most: usize) -> usize
+    requires { ⌜ most ≤ 512 ⌝ }
+    ensures { λ r. ⌜ most < r ⌝ }
+{
+    if most < FEW_LINES {
+        return FEW_LINES;
+    }
+    if most < SOME_LINES {
+        return SOME_LINES;
+    }
+    MAX_LINES
+}
+
+// How many lines an array must be for, as there are so many and they ask for so many rows.
+fn larger(n: usize, asked: u64) -> u64
+    ensures { λ r. ⌜ (n ≤ r) × (asked ≤ r) ⌝ }
+{
+    if n as u64 > asked {
+        return n as u64;
+    }
+    asked
+}
+
+// The grid of a table with which the lines end, and whose lines ask for so many rows: in arrays for at most so many lines if they do, and else in
+// longer ones. It calls itself for those, since a function that calls itself takes none with long arrays into its own frame: so a small table
+// does not pay for the room of a large one.
+fn make_within(
+    most: usize,
+    lines: &[u32],
+    at: usize,
+    asked: u64,
+    entries: &mut [u32],
+    rows: &mut [u32],
+) -> Judged
     requires { ⌜ GridReady (keptsOf (now lines)) at (entriesOf (now entries)) (rowsOf (now rows)) ⌝ }
     requires { ⌜ asked ≡ rowsIn (drop (at + 1) (keptsOf (now lines))) ⌝ }
     ensures { λ r. ⌜ GridMade (heldRows (keptsOf (now (lines .entry))) at) r (entriesOf (now (entries .exit))) (rowsOf (now (rows .exit))) ⌝ }
 {
+    if most > SOME_LINES {
+        return make_many(lines, at, entries, rows);
+    }
     let n = records::count(lines) - at;
-    if n > SOME_LINES {
-        return make_many(lines, at, entries, rows);
+    if larger(n, asked) <= most as u64 {
+        if most > FEW_LINES {
+            return make_some(lines, at, entries, rows);
+        }
+        if most > LEAST_LINES {
+            return make_few(lines, at, entries, rows);
+        }
+        return make_least(lines, at, entries, rows);
     }
-    if asked > SOME_LINES as u64 {
-        return make_many(lines, at, entries, rows);
-    }
-    if n > FEW_LINES {
-        return make_some(lines, at, entries, rows);
-    }
-    if asked > FEW_LINES as u64 {
-        return make_some(lines, at, entries, rows);
-    }
-    if n > LEAST_LINES {
-        return make_few(lines, at, entries, rows);
-    }
-    if asked > LEAST_LINES as u64 {
-        return make_few(lines, at, entries, rows);
-    }
-    make_least(lines, at, entries, rows)
+    make_within(next(most), lines, at, asked, entries, rows)
 }
 
 // The grid of the table at the place `at`: a record for each entry and for each row, and how many there are; or the first of the refusals 5, 6
@@ -260,7 +286,7 @@ pub fn make(lines: &[u32], at: usize, entries: &mut [u32], rows: &mut [u32]) -> 
 {
     let extent = extent_of(lines, at);
     let end = records::WIDTH * extent.end;
-    make_last(&lines[..end], at, extent.asked, entries, rows)
+    make_within(LEAST_LINES, &lines[..end], at, extent.asked, entries, rows)
 }
 
 // The grid of the table at the place `at` of an opened sheet, to which no refusal applies.

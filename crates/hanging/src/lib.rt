@@ -1,6 +1,6 @@
 // The rows of a table by positions, with room of its own for the cells that hang, of four sizes: it is cleared for each table, and for a small
 // table a short one does. The sizes are for speed alone.
-ghost use Prim.Native.Nat.{_+_, _≤_};
+ghost use Prim.Native.Nat.{_+_, _≤_, _<_};
 ghost use lib.ListN.{length};
 ghost use Rattle.positions.specs.inner.Slices.{tableOf, PositionsDone};
 ghost use Rattle.hanging.specs.Placeable.{Placeable};
@@ -195,8 +195,34 @@ fn position_many(
     )
 }
 
-// A table of no more than some rows and cells.
-fn position_short(
+// The rows and cells for which the next longer room does.
+fn next(most: usize) -> usize
+    requires { ⌜ most ≤ 256 ⌝ }
+    ensures { λ r. ⌜ most < r ⌝ }
+{
+    if most < FEW_EACH {
+        return FEW_EACH;
+    }
+    if most < SOME_EACH {
+        return SOME_EACH;
+    }
+    MAX_LINES
+}
+
+// The larger of the two.
+fn larger(rows: usize, cells: usize) -> usize
+    ensures { λ r. ⌜ (rows ≤ r) × (cells ≤ r) ⌝ }
+{
+    if rows > cells {
+        return rows;
+    }
+    cells
+}
+
+// All rows of a table by positions: with room for at most so many rows and as many cells if it does, and else with more. It calls itself for more,
+// since a function that calls itself takes none with long arrays into its own frame: so a small table does not pay for the room of a large one.
+fn position_within(
+    most: usize,
     room: usize,
     cell_line: &[u32],
     cell_span: &[u32],
@@ -208,16 +234,13 @@ fn position_short(
     row_end: &mut [u32],
 ) -> Positions
     requires { ⌜ Placeable room (now «cell_line») (now «cell_span») (now «cell_rows») (now «cell_end») (now «row_line») (now «out_line») (now «out_wide») (now «row_end») ⌝ }
-    requires { ⌜ (length (now «cell_end») ≤ 256) × (length (now «cell_line») ≤ 256) ⌝ }
     ensures { λ r. ⌜ PositionsDone
         (tableOf (now («cell_line» .entry)) (now («cell_span» .entry)) (now («cell_rows» .entry)) (now («row_line» .entry)) 0 (now («cell_end» .entry))) r
         (now («row_line» .entry)) (now («out_line» .entry)) (now («out_wide» .entry)) (now («row_end» .entry))
         (now («row_line» .exit)) (now («out_line» .exit)) (now («out_wide» .exit)) (now («row_end» .exit)) ⌝ }
 {
-    let r = cell_end.len();
-    let n = cell_line.len();
-    if r > FEW_EACH {
-        return position_some(
+    if most > SOME_EACH {
+        return position_many(
             room,
             cell_line,
             cell_span,
@@ -229,8 +252,34 @@ fn position_short(
             row_end,
         );
     }
-    if n > FEW_EACH {
-        return position_some(
+    if larger(cell_end.len(), cell_line.len()) <= most {
+        if most > FEW_EACH {
+            return position_some(
+                room,
+                cell_line,
+                cell_span,
+                cell_rows,
+                cell_end,
+                row_line,
+                out_line,
+                out_wide,
+                row_end,
+            );
+        }
+        if most > LEAST_EACH {
+            return position_few(
+                room,
+                cell_line,
+                cell_span,
+                cell_rows,
+                cell_end,
+                row_line,
+                out_line,
+                out_wide,
+                row_end,
+            );
+        }
+        return position_least(
             room,
             cell_line,
             cell_span,
@@ -242,33 +291,8 @@ fn position_short(
             row_end,
         );
     }
-    if r > LEAST_EACH {
-        return position_few(
-            room,
-            cell_line,
-            cell_span,
-            cell_rows,
-            cell_end,
-            row_line,
-            out_line,
-            out_wide,
-            row_end,
-        );
-    }
-    if n > LEAST_EACH {
-        return position_few(
-            room,
-            cell_line,
-            cell_span,
-            cell_rows,
-            cell_end,
-            row_line,
-            out_line,
-            out_wide,
-            row_end,
-        );
-    }
-    position_least(
+    position_within(
+        next(most),
         room,
         cell_line,
         cell_span,
@@ -281,8 +305,7 @@ fn position_short(
     )
 }
 
-// All rows of a table by positions. The rows and the cells are asked for apart: a function that is called once may become a part of its caller,
-// which would then have the longest arrays for every table.
+// All rows of a table by positions.
 pub fn position(
     room: usize,
     cell_line: &[u32],
@@ -300,35 +323,8 @@ pub fn position(
         (now («row_line» .entry)) (now («out_line» .entry)) (now («out_wide» .entry)) (now («row_end» .entry))
         (now («row_line» .exit)) (now («out_line» .exit)) (now («out_wide» .exit)) (now («row_end» .exit)) ⌝ }
 {
-    let r = cell_end.len();
-    let n = cell_line.len();
-    if r > SOME_EACH {
-        return position_many(
-            room,
-            cell_line,
-            cell_span,
-            cell_rows,
-            cell_end,
-            row_line,
-            out_line,
-            out_wide,
-            row_end,
-        );
-    }
-    if n > SOME_EACH {
-        return position_many(
-            room,
-            cell_line,
-            cell_span,
-            cell_rows,
-            cell_end,
-            row_line,
-            out_line,
-            out_wide,
-            row_end,
-        );
-    }
-    position_short(
+    position_within(
+        LEAST_EACH,
         room,
         cell_line,
         cell_span,

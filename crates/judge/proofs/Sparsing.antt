@@ -33,6 +33,10 @@ module _ {ks : List Kept} {most left i : ℕ} (z : Sofar ks most left i) where
   unfolding sum
   stop h f = record { few = f; short = let e = rw (drop-of-length-le ks {i = i} h) at (z .sum-left) in omega arith }
 
+-- few lines and rows are no more than some
+pub sparse-more : {ks : List Kept} {most more : ℕ} → most ≤ more → Sparse most ks → Sparse more ks
+sparse-more h z = record { few = omega (arith, z .few); short = omega (arith, z .short) }
+
 -- arrays by the lines, and the largest
 module _ {ks : List Kept} (es rs : List ℕ) {places : ℕ} (c : length ks ≤ places) where
   pub roomy-sparse : {most : ℕ} → Sparse most ks → (most + most) * 3 ≤ length es → most * 2 ≤ length rs → Roomy ks (length (entriesOf es)) (length (rowsOf rs)) places

@@ -17,9 +17,13 @@ ghost use Rattle.judge.specs.inner.Keeping.{storedIn, EntriesFit, Judged
 
 // Lines of a sheet for which short arrays do: 128 and 512. Its tables have no more entries than twice as many, one for each line, and one for
 // each row that a cell asks for. A row takes two numbers, an entry three. The sizes are for speed alone.
+const FEW_LINES: u32 = 128;
+
 const FEW_ROWS: usize = 2 * 128;
 
 const FEW_ENTRIES: usize = 3 * 256;
+
+const SOME_LINES: u32 = 512;
 
 const SOME_ROWS: usize = 2 * 512;
 
@@ -185,6 +189,37 @@ fn judge_many(lines: &[u32], places: &mut [u32]) -> Verdict
     judge_in(lines, &mut entries, &mut rows, places)
 }
 
+// The lines for which the next longer arrays do.
+fn next(most: u32) -> u32
+    requires { ⌜ most ≤ 512 ⌝ }
+    ensures { λ r. ⌜ most < r ⌝ }
+{
+    if most < SOME_LINES {
+        return SOME_LINES;
+    }
+    MAX_LINES as u32
+}
+
+// Judges each table of a sheet: in arrays for at most so many lines if they do, and else in longer ones. It calls itself for those, since a
+// function that calls itself takes none with long arrays into its own frame: so a small sheet does not pay for the room of a large one.
+fn judge_within(most: u32, lines: &[u32], places: &mut [u32]) -> Verdict
+    requires { ⌜ Lined (keptsOf (now lines)) ⌝ }
+    requires { ⌜ Nests (keptsOf (now lines)) ⌝ }
+    requires { ⌜ length (keptsOf (now lines)) ≤ length (placesOf (now places)) ⌝ }
+    ensures { λ r. ⌜ TablesJudged (keptsOf (now (lines .entry))) r (placesOf (now (places .exit))) ⌝ }
+{
+    if most > SOME_LINES {
+        return judge_many(lines, places);
+    }
+    if is_sparse(lines, most) {
+        if most > FEW_LINES {
+            return judge_some(lines, places);
+        }
+        return judge_few(lines, places);
+    }
+    judge_within(next(most), lines, places)
+}
+
 // Judges each table of a sheet, in the order of lines: the first refusal that applies, on the table's line. If there is none, the place of each
 // cell's line holds its first column and its span, and that of each table's line its rows and columns.
 pub fn judge_tables(lines: &[u32], places: &mut [u32]) -> Verdict
@@ -193,11 +228,5 @@ pub fn judge_tables(lines: &[u32], places: &mut [u32]) -> Verdict
     requires { ⌜ length (keptsOf (now lines)) ≤ length (placesOf (now places)) ⌝ }
     ensures { λ r. ⌜ TablesJudged (keptsOf (now (lines .entry))) r (placesOf (now (places .exit))) ⌝ }
 {
-    if is_sparse(lines, 128) {
-        return judge_few(lines, places);
-    }
-    if is_sparse(lines, 512) {
-        return judge_some(lines, places);
-    }
-    judge_many(lines, places)
+    judge_within(FEW_LINES, lines, places)
 }

@@ -28,7 +28,7 @@ use Rattle.opening.proofs.Ready.{kept-lined}
 use Rattle.table.specs.Arranging.{ArrangedAt}
 use Rattle.table.specs.inner.Room.{LayoutRoom}
 use Rattle.table.proofs.Grids.{all-measured}
-use Rattle.finding.proofs.Openings.{Passed, passed}
+use Rattle.opening.proofs.Passing.{Passed, passed}
 use Rattle.listing.specs.Listing.{Listable}
 use Rattle.listing.specs.inner.Rooms.{TableAt, ReadListable, LayRooms, SameLengths}
 

@@ -11,12 +11,19 @@ use Rattle.records.specs.declared.Kept.{Kept}
 use Rattle.cells.specs.Listed.{heldRows}
 use Rattle.grid.specs.Facts.{Sound}
 use Rattle.grid.specs.Judging.{Lined}
+use Rattle.widths.specs.declared.Way.{Way}
+use Rattle.widths.specs.declared.Way.the-variants.{Sideways, Down}
 use Rattle.table.specs.Arranging.{AllMeasured}
 
 -- a place of a buffer that has room for a line once it is written out
 pub record Place (out : List ℕ) (at : ℕ) : Type 0 where
   pub room : 64 ≤ length out
   pub within : at ≤ length out
+
+-- the letter of a way: h sideways, v down the page
+unfoldable pub wayLetter : Way → ℕ
+wayLetter Sideways = 104
+wayLetter Down = 118
 
 -- a measured sheet, none of whose tables is refused, and a width at which they can be laid out
 pub record Listable (ks : List Kept) (figures : List Estimate) (width : ℕ) : Type 0 where

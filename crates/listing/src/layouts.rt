@@ -1,7 +1,8 @@
 // How each table of a measured sheet is laid out.
+ghost use mathlib.Core.Path.{_≡_};
 ghost use Rattle.records.specs.Kept.{keptsOf};
 ghost use Rattle.estimates.specs.inner.Figures.{figuresOf};
-ghost use Rattle.listing.specs.Listing.{Place, Listable};
+ghost use Rattle.listing.specs.Listing.{Place, wayLetter, Listable};
 ghost use Rattle.listing.specs.inner.Rooms.{LayRooms, TableAt};
 use super::entries::entries;
 use super::entries::numbered;
@@ -12,15 +13,22 @@ use line::kinds::TABLE;
 use settings::Given;
 use widths::Way;
 
-// Puts the letter of a way between two spaces.
+// The letter of a way.
+fn letter_of(way: Way) -> u8
+    ensures { λ r. ⌜ r ≡ wayLetter way ⌝ }
+{
+    match way {
+        Way::Sideways => b'h',
+        Way::Down => b'v',
+    }
+}
+
+// Puts it between two spaces.
 fn letter(out: &mut [u8], at: usize, way: Way) -> usize
     requires { ⌜ Place (now out) at ⌝ }
     ensures { λ r. ⌜ Place (now (out .exit)) r ⌝ }
 {
-    match way {
-        Way::Sideways => words(out, at, b" h "),
-        Way::Down => words(out, at, b" v "),
-    }
+    words(out, at, &[b' ', letter_of(way), b' '])
 }
 
 // Puts the first two lines of a table: its line, its way, its columns and its width.

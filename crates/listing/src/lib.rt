@@ -12,6 +12,7 @@ ghost use Rattle.listing.specs.inner.Rooms.{ReadListable};
 use lists::MAX_ENTRIES;
 use lists::MAX_LINES;
 use lists::MAX_POSITION;
+use lists::Verdict;
 use settings::Given;
 use settings::Settled;
 use sheet::Reading;
@@ -23,6 +24,17 @@ pub fn refusal(out: &mut [u8], at: usize, number: u32, line: u32) -> usize
 {
     let next = lines::words(out, at, b"refusal line\n");
     lines::two(out, next, number, line)
+}
+
+// Puts a refusal, if the verdict is one.
+pub fn verdict(out: &mut [u8], at: usize, v: Verdict) -> usize
+    requires { ⌜ Place (now out) at ⌝ }
+    ensures { λ r. ⌜ Place (now (out .exit)) r ⌝ }
+{
+    match v {
+        Verdict::Accepted => at,
+        Verdict::Refused { number, line } => refusal(out, at, number, line),
+    }
 }
 
 // Puts the layout of every table of a measured sheet. All tables are laid out in the same arrays.
@@ -102,8 +114,9 @@ pub fn answer(out: &mut [u8], at: usize, input: &[u8]) -> usize
     requires { ⌜ Place (now out) at ⌝ }
     ensures { λ r. ⌜ Place (now (out .exit)) r ⌝ }
 {
-    let Settled::Set(given) = settings::settings(input) else {
-        return refusal(out, at, 9, 0);
+    let settled = settings::settings(input);
+    let Settled::Set(given) = settled else {
+        return verdict(out, at, settings::verdict_of(settled));
     };
     let from = given.sheet;
     opened(out, at, &input[from..], given)

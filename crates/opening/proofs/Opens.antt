@@ -11,7 +11,7 @@ use Rattle.sheet.specs.Sheet.{sheetLines, sheetChecks}
 use Rattle.sheet.specs.Reading.{readingOf, Reads}
 use Rattle.sheet.specs.declared.Reading.{Reading}
 use Rattle.sheet.specs.declared.Reading.the-variants.{Lines, Refused}
-use Rattle.sheet.proofs.First.{both-true, first-accepts, first-passes, passes-append}
+use Rattle.sheet.proofs.First.{passes-both, both-true, first-accepts, first-passes, passes-append}
 use Rattle.sheet.proofs.Accepted.{refused-carries, accepted-leaves}
 use Rattle.sheet.proofs.Bounds.{accepted-lines}
 use Rattle.grid.specs.Grid.{tablesChecks}
@@ -38,24 +38,24 @@ module _ (asks : Bool) (s : List ℕ) (line n : ℕ) (e : openedOf asks s line �
   opened-reads = first-passes Refused (Lines (length (sheetLines s))) (sheetChecks s) (opened-parts .0) ∙ opened-all .1
 
   pub opened-tables : passes (tablesChecks 1 (keptLines s)) ≡ true
-  unfolding asked passes
+  unfolding asked
   opened-tables = by asks (opened-parts .1)
     where
       by : (b : Bool) → passes (asked b (keptLines s) line) ≡ true → passes (tablesChecks 1 (keptLines s)) ≡ true
-      by true p = both-true (not (not (isTable (keptLines s) line))) (passes (tablesChecks 1 (keptLines s))) p .1
+      by true p = passes-both _ _ p .1
       by false p = p
 
   -- the line that is asked for is a table
   pub opened-asked : asks ≡ true → isTable (keptLines s) line ≡ true
-  unfolding asked passes
+  unfolding asked
   opened-asked q = by asks q (opened-parts .1)
     where
-      double : (b : Bool) → not (not b) ≡ true → b ≡ true
+      double : (b : Bool) → not b ≡ false → b ≡ true
       double true h = refl
-      double false h = h
+      double false h = sym h
 
       by : (b : Bool) → b ≡ true → passes (asked b (keptLines s) line) ≡ true → isTable (keptLines s) line ≡ true
-      by true q p = double (isTable (keptLines s) line) (both-true (not (not (isTable (keptLines s) line))) (passes (tablesChecks 1 (keptLines s))) p .0)
+      by true q p = double (isTable (keptLines s) line) (passes-both _ _ p .0)
       by false q p = let z : _≡_ {A = ℕ} 0 1 = cc in absurd (omega arith)
 
 module _ {asks : Bool} {s : List ℕ} {line : ℕ} {lines places : List ℕ} {q : Reading} (w : Reads s q lines) where

@@ -6,6 +6,8 @@ use Prim.Native.Nat.{ℕ, _+_, _-_}
 use lib.Dec.{eqb}
 use lib.ListN.{length, take, drop}
 use Rattle.lists.specs.Limits.{maxWrap, maxWidth}
+use Rattle.lists.specs.declared.Verdict.{Verdict}
+use Rattle.lists.specs.declared.Verdict.the-variants.{Accepted, Refused}
 use Rattle.text.specs.Decimal.{Number}
 use Rattle.line.specs.Kinds.{same}
 use Rattle.line.specs.Lines.{feed}
@@ -50,6 +52,11 @@ settingsIn all s =
     thenSetting 32 1 s₁ (λ raw s₂.
     thenSetting feed maxWidth s₂ (λ width sheet.
     Set (record { wrap = wrap; raw = raw; width = width; sheet = all - length sheet }))))
+
+-- what a program answers to them: 9, line 0, where they are malformed
+unfoldable pub settledVerdict : Settled → Verdict
+settledVerdict (Set given) = Accepted
+settledVerdict Malformed = Refused 9 0
 
 unfoldable pub settingsOf : List ℕ → Settled
 settingsOf s = cond (same (take 15 s) settingsHeading) (settingsIn (length s) (drop 15 s)) Malformed

@@ -3,9 +3,10 @@ ghost use mathlib.Core.Path.{_≡_};
 ghost use Prim.Native.Nat.{_+_, _-_, _*_, _≤_};
 ghost use lib.ListN.{drop};
 ghost use Rattle.line.specs.Numbers.{isDigit, numberOf};
-ghost use Rattle.settings.specs.Settings.{settingsOf};
+ghost use Rattle.settings.specs.Settings.{settledVerdict, settingsOf};
 ghost use Rattle.settings.specs.Reading.{startsWith, countBefore, digitsIn, writtenIn, settingRead};
 use line::FieldRead;
+use lists::Verdict;
 
 // The three settings, and the place where the sheet starts.
 pub struct Given {
@@ -126,6 +127,16 @@ fn setting_at(bytes: &[u8], at: usize, stop: u8, most: u32) -> FieldRead
         return FieldRead::Unsound;
     };
     FieldRead::Sound(value, end + 1)
+}
+
+// What a program answers to settings: that they are taken, or a refusal.
+pub fn verdict_of(settled: Settled) -> Verdict
+    ensures { λ r. ⌜ r ≡ settledVerdict settled ⌝ }
+{
+    match settled {
+        Settled::Set(_) => Verdict::Accepted,
+        Settled::Malformed => Verdict::Refused { number: 9, line: 0 },
+    }
 }
 
 // The settings that the first two lines of an input give, and the place where its sheet starts.

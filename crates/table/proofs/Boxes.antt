@@ -19,9 +19,10 @@ use Rattle.estimates.specs.Estimates.{Done, none, undone, estOf, boxOf, boxRow,
 use Rattle.placing.specs.inner.Rows.{endOf, Ascends}
 use Rattle.grid.specs.Judging.{shown}
 use Rattle.gridding.specs.Packed.{endedRows}
-use Rattle.table.specs.Laying.{figureAt, entryBox}
-use Rattle.table.specs.inner.Grids.{All, RowTiles, Later, RowLater, Fits}
-use Rattle.table.proofs.Every.{all-append, all-map, at-any, map-same}
+use Rattle.sizing.specs.Sizing.{figureAt, entryBox}
+use Rattle.sizing.specs.inner.Room.{All}
+use Rattle.table.specs.inner.Grids.{RowTiles, Later, RowLater, Fits}
+use Rattle.sizing.proofs.Every.{all-append, all-map, at-any, map-same}
 
 -- the rows' ends take a list of all entries apart into the grid's rows
 pub rows-apart : (f : Entry → Box) (n : ℕ) (g : List GridRow) →

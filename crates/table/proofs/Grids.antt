@@ -28,10 +28,11 @@ use Rattle.gridding.specs.Packed.{TableReady, TableMade}
 use Rattle.gridding.specs.declared.Counts.{Counts}
 use Rattle.widths.specs.declared.Laid.{Laid}
 use Rattle.table.specs.Laying.{boxRowsBy, LaidTable}
-use Rattle.table.specs.inner.Grids.{All, RowTiles, Later, RowLater, Fits, Listed}
-use Rattle.table.proofs.Every.{all-at}
-use Rattle.table.proofs.Table.{table-layable, table-laid}
-use Rattle.table.specs.Arranging.{AllMeasured, ArrangedAt}
+use Rattle.sizing.specs.inner.Room.{All}
+use Rattle.table.specs.inner.Grids.{RowTiles, Later, RowLater, Fits, Listed}
+use Rattle.sizing.proofs.Every.{all-at}
+use Rattle.table.proofs.Table.{table-rows, table-layable, table-laid}
+use Rattle.table.specs.Arranging.{AllMeasured, boxesAt, ArrangedAt}
 use Rattle.table.specs.inner.Room.{FrontLayable, LayoutRoom}
 
 every-all : {A : Type 0} {P : A → Type 0} (Q : A → Type 0) → ((x : A) → P x → Q x) → {xs : List A} → Every P xs → All Q xs
@@ -100,6 +101,11 @@ module _ {ks : List Kept} {at : ℕ} {es₀ : List packed.Entry} {rs₀ : List R
           figures-are = rw (length-measured wrap 1 ks) e;
           enough = omega (arith, length-measured wrap 1 ks, m .enough);
         }
+
+    -- the rows of its boxes are those of the definition
+    pub made-rows : (wrap : ℕ) → take (length ks) figures ≡ estimates wrap ks →
+        boxRowsBy (take (counts .rows) rs) (take (counts .entries) es) figures ≡ boxesAt wrap ks at
+    made-rows wrap e = table-rows (listed wrap e) (at + 1) (later-in wrap)
 
     -- the table made can be laid out in the front of slices
     pub made-front : {width : ℕ} {column x wide : List ℕ} → LayoutRoom table width column x wide

@@ -1,7 +1,5 @@
-pub mod Every
 pub mod Boxes
 pub mod Table
-pub mod Raises
 pub mod Steps
 pub mod Grids
 pub mod Fronts

@@ -17,8 +17,9 @@ use Rattle.widths.specs.declared.Laid.{Laid}
 use Rattle.grid.specs.Judging.{shown}
 use Rattle.table.specs.Laying.{boxRowsBy, LaidTable}
 use Rattle.table.specs.inner.Room.{LayableTable}
-use Rattle.table.specs.inner.Grids.{All, RowTiles, RowLater, Fits, Listed}
-use Rattle.table.proofs.Every.{all-drop}
+use Rattle.sizing.specs.inner.Room.{All}
+use Rattle.table.specs.inner.Grids.{RowTiles, RowLater, Fits, Listed}
+use Rattle.sizing.proofs.Every.{all-drop}
 use Rattle.table.proofs.Boxes.{boxes-of-grid, ends-ascend, lines-within, tiles-of-grid}
 
 -- the table in line t

@@ -1,31 +1,21 @@
 -- One table laid out: its grid's entries with the estimates of their cells. These are definitions; nothing is assumed.
 use mathlib.Core.Path.{_≡_}
-use mathlib.Core.Bool.{cond}
 use mathlib.Core.List.{List, map}
-use Prim.Native.Nat.{ℕ, _-_, _≤_}
-use lib.Dec.{eqb}
-use lib.ListN.{getD}
+use Prim.Native.Nat.{ℕ, _≤_}
 use Rattle.text.specs.declared.Estimate.{Estimate}
 use Rattle.records.specs.declared.Entry.{Entry}
 use Rattle.records.specs.declared.Row.{Row}
-use Rattle.columns.specs.Boxes.{Box, box, rowsBy, flat}
+use Rattle.columns.specs.Boxes.{Box, rowsBy, flat}
 use Rattle.columns.specs.Columns.{sizeOf, leastOf, largest}
-use Rattle.estimates.specs.Estimates.{none}
 use Rattle.widths.specs.Widths.{wayOf, finalWidths, tableWidth}
 use Rattle.widths.specs.declared.Way.{Way}
 use Rattle.widths.specs.declared.Laid.{Laid}
 use Rattle.placing.specs.Place.{Placed, placeRows}
 use Rattle.placing.specs.inner.Rows.{endOf}
 use Rattle.placing.specs.Promise.{Promised}
+use Rattle.sizing.specs.Sizing.{entryBox}
 
--- the figures of the cell in a line, whose place is one less; none for a filler, whose line is 0
-abbrev pub figureAt : List Estimate → ℕ → Estimate
-figureAt figures cell = cond (eqb cell 0) none (getD figures (cell - 1) none)
-
--- an entry with the figures of its line, and the rows of all
-abbrev pub entryBox : List Estimate → Entry → Box
-entryBox figures e = box (e .first) (e .span) (figureAt figures (e .cell) .size) (figureAt figures (e .cell) .least)
-
+-- the rows of the boxes of all entries
 unfoldable pub boxRowsBy : List Row → List Entry → List Estimate → List (List Box)
 boxRowsBy rs es figures = rowsBy 0 (map endOf rs) (map (entryBox figures) es)
 

@@ -1,6 +1,4 @@
 // One table of a measured sheet laid out: its grid made, and laid out in the front of lent slices.
-mod raising; // raising.rt: the figures of its columns
-mod scratch; // scratch.rt: its columns laid out, with room of two sizes
 pub mod fitting; // fitting.rt: told and laid out in lent buffers, with arrays of two sizes
 
 use gridding::Counts;
@@ -34,7 +32,7 @@ pub fn lay(
     requires { ⌜ LayableTable (entriesOf (now entries)) (rowsOf (now rows)) (figuresOf (now figures)) width (now column) (now x) (now wide) ⌝ }
     ensures { λ r. ⌜ LaidTable (length (now (column .entry))) (boxRowsBy (rowsOf (now (rows .entry))) (entriesOf (now (entries .entry))) (figuresOf (now (figures .entry)))) raw width (now (column .exit)) (now (x .exit)) (now (wide .exit)) r ⌝ }
 {
-    let laid = scratch::lay_columns(entries, figures, raw, width, column);
+    let laid = sizing::lay_columns(entries, figures, raw, width, column);
     let way = laid.way;
     placing::place(way, entries, rows, column, width, x, wide);
     laid

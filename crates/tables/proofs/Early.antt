@@ -9,7 +9,7 @@ use lib.Dec.{ltb}
 use lib.ListN.{length, take}
 use borrow.Author.Tests.{ltb-false}
 use Rattle.lists.specs.Lists.{padded}
-use Rattle.lists.specs.Refusals.{Check, check, first, verdictOf, passes}
+use Rattle.lists.specs.Refusals.{Check, check, first, verdictOf}
 use Rattle.lists.specs.declared.Verdict.{Verdict}
 use Rattle.lists.specs.declared.Verdict.the-variants.{Accepted, Refused}
 use Rattle.sheet.proofs.First.{neither}
@@ -21,27 +21,24 @@ abbrev pub nines : Bool → Bool → List Check
 nines b₁ b₂ = check b₁ 9 0 ∷ check b₂ 11 0 ∷ []
 
 module _ {A : Type 0} (refused : ℕ → ℕ → A) (accepted : A) (ds : List Check) where
-  pub first-nines : (b₁ b₂ : Bool) → first refused accepted (early (verdictOf (nines b₁ b₂)) ∷ ds) ≡ first refused accepted (check b₁ 9 0 ∷ check b₂ 11 0 ∷ ds)
+  first-nines : (b₁ b₂ : Bool) → first refused accepted (early (verdictOf (nines b₁ b₂)) ∷ ds) ≡ first refused accepted (check b₁ 9 0 ∷ check b₂ 11 0 ∷ ds)
   unfolding first verdictOf early
   first-nines true b₂ = refl
   first-nines false true = refl
   first-nines false false = refl
 
-  pub first-eleven : (b : Bool) → first refused accepted (early (verdictOf (check b 11 0 ∷ [])) ∷ ds) ≡ first refused accepted (check b 11 0 ∷ ds)
+  first-eleven : (b : Bool) → first refused accepted (early (verdictOf (check b 11 0 ∷ [])) ∷ ds) ≡ first refused accepted (check b 11 0 ∷ ds)
   unfolding first verdictOf early
   first-eleven true = refl
   first-eleven false = refl
 
-pub passes-nines : (ds : List Check) (b₁ b₂ : Bool) → passes (early (verdictOf (nines b₁ b₂)) ∷ ds) ≡ passes (check b₁ 9 0 ∷ check b₂ 11 0 ∷ ds)
-unfolding first verdictOf early passes
-passes-nines ds true b₂ = refl
-passes-nines ds false true = refl
-passes-nines ds false false = refl
+-- a verdict that was asked for before the rest
+module _ {A : Type 0} (refused : ℕ → ℕ → A) (accepted : A) (v : Verdict) (ds : List Check) where
+  pub early-nines : (b₁ b₂ : Bool) → v ≡ verdictOf (nines b₁ b₂) → first refused accepted (early v ∷ ds) ≡ first refused accepted (check b₁ 9 0 ∷ check b₂ 11 0 ∷ ds)
+  early-nines b₁ b₂ judged = ap (λ (w : Verdict). first refused accepted (early w ∷ ds)) judged ∙ first-nines refused accepted ds b₁ b₂
 
-pub passes-eleven : (ds : List Check) (b : Bool) → passes (early (verdictOf (check b 11 0 ∷ [])) ∷ ds) ≡ passes (check b 11 0 ∷ ds)
-unfolding first verdictOf early passes
-passes-eleven ds true = refl
-passes-eleven ds false = refl
+  pub early-eleven : (b : Bool) → v ≡ verdictOf (check b 11 0 ∷ []) → first refused accepted (early v ∷ ds) ≡ first refused accepted (check b 11 0 ∷ ds)
+  early-eleven b judged = ap (λ (w : Verdict). first refused accepted (early w ∷ ds)) judged ∙ first-eleven refused accepted ds b
 
 -- no refusal: no test holds
 pub none-nines : (b₁ b₂ : Bool) → verdictOf (nines b₁ b₂) ≡ Accepted → (b₁ ≡ false) × (b₂ ≡ false)
@@ -64,7 +61,6 @@ fits refused accepted count none Accepted ds r most room e h f = omega (arith, f
 fits refused accepted count none (Refused number line) ds r most room e h f = let z : count r ≡ 0 = ap count e ∙ none number line in omega arith
 
 -- what a lent buffer holds in the end, of which the first places were kept
-pub leaving : (o xs slice : List ℕ) {n m : ℕ} {t u : Bool} {after : List ℕ} → t ≡ u → n ≡ m → length slice ≡ length o
-    → after ≡ padded (length slice) (take n slice) → take m slice ≡ cond t xs [] → after ≡ padded (length o) (cond u xs [])
-leaving o xs slice p q same w v =
-    w ∙ ap₂ padded same (ap (λ (k : ℕ). take k slice) q ∙ v ∙ ap (λ (b : Bool). cond b xs []) p)
+pub leaving : (o slice : List ℕ) {n m : ℕ} {found left after : List ℕ} → found ≡ left → n ≡ m → length slice ≡ length o
+    → after ≡ padded (length slice) (take n slice) → take m slice ≡ found → after ≡ padded (length o) left
+leaving o slice p q same w v = w ∙ ap₂ padded same (ap (λ (k : ℕ). take k slice) q ∙ v ∙ p)

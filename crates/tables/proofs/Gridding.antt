@@ -7,7 +7,7 @@ use native.Mathlib.Omega.{arith}
 use lib.ListN.{length, take}
 use Rattle.lists.specs.Lists.{padded}
 use Rattle.lists.specs.Limits.{maxLines, maxEntries}
-use Rattle.lists.specs.Refusals.{Check, first, verdictOf, passes}
+use Rattle.lists.specs.Refusals.{Check, first, verdictOf, passes, ifPasses}
 use Rattle.lists.specs.declared.Verdict.{Verdict}
 use Rattle.lists.specs.declared.Verdict.the-variants.{Accepted, Refused as Refuses}
 use Rattle.grid.specs.Grid.{entriesOf}
@@ -22,7 +22,7 @@ use Rattle.tables.specs.inner.Telling.{early, griddedIn}
 use Rattle.tables.specs.declared.Gridded.{Gridded}
 use Rattle.tables.specs.declared.Gridded.the-variants.{Grid, Refused as NoGrid}
 use Rattle.arguments.proofs.Shorter.{three-fit, two-fit}
-use Rattle.tables.proofs.Early.{first-eleven, passes-eleven, none-eleven, fits, leaving}
+use Rattle.tables.proofs.Early.{early-eleven, none-eleven, fits, leaving}
 use Rattle.sheet.proofs.First.{neither, first-told}
 use Rattle.finding.specs.declared.Shape.{Shape}
 use Rattle.finding.specs.declared.Shape.the-variants.{Grid as Shaped, Refused as NotShaped}
@@ -30,7 +30,7 @@ use Rattle.finding.specs.declared.Shape.the-variants.{Grid as Shaped, Refused a
 -- refused for the arguments
 pub grid-early : (number at : ℕ) (cs : List Check) (s : List ℕ) (line : ℕ) (cell first′ span row end : List ℕ)
     → GridFound (early (Refuses number at) ∷ cs) s line (NotShaped number at) cell first′ span row end
-unfolding first early passes entryTotal rowTotal
+unfolding first early ifPasses entryTotal rowTotal
 grid-early number at cs s line cell first′ span row end =
     record {
       answer = refl;
@@ -46,7 +46,7 @@ grid-early number at cs s line cell first′ span row end =
 -- not refused for the arguments
 pub grid-late : {v : Verdict} {cs : List Check} {s : List ℕ} {line : ℕ} {r : Shape} {cell first′ span row end : List ℕ} → v ≡ Accepted
     → GridFound cs s line r cell first′ span row end → GridFound (early v ∷ cs) s line r cell first′ span row end
-unfolding first early passes
+unfolding first early ifPasses
 grid-late z f =
     rw z (record {
       answer = f .answer;
@@ -95,25 +95,23 @@ module _ {s : List ℕ} {line : ℕ} {v : Verdict} {cell₀ first₀ span₀ row
       → a ≡ padded (length cell) (take n cell) → b ≡ padded (length first′) (take n first′) → c ≡ padded (length span) (take n span)
       → d ≡ padded (length row) (take m row) → e ≡ padded (length end) (take m end)
       → GridAnswer s line cell₀ first₀ span₀ row₀ end₀ t a b c d e
-  unfolding griddedOf griddedIn asked
+  unfolding griddedOf griddedIn asked ifPasses
   grid-answered t k l ka kb kc kd ke a b c d e =
-      let cs = gridChecks s line (length cell₀ ∷ length first₀ ∷ length span₀ ∷ []) (length row₀ ∷ length end₀ ∷ []) in
       let shape = Shaped (length (rowsAt s line)) (length (entriesOf (rowsAt s line))) (columnsAt s line) in
-      let p : passes (early v ∷ openChecks true s line) ≡ passes cs =
-      ap (λ (w : Verdict). passes (early w ∷ openChecks true s line)) judged ∙ passes-eleven (openChecks true s line) _ in
+      let f : (xs : List ℕ) → first (λ number line. []) xs (early v ∷ openChecks true s line) ≡ first (λ number line. []) xs (gridChecks s line (length cell₀ ∷ length first₀ ∷ length span₀ ∷ []) (length row₀ ∷ length end₀ ∷ [])) =
+      λ xs. early-eleven (λ number line. []) xs v (openChecks true s line) _ judged in
       record {
         answer =
             t
             ∙ ap griddedIn (found .answer)
             ∙ first-told griddedIn NotShaped shape (early v ∷ openChecks true s line)
-            ∙ ap (λ (w : Verdict). first NoGrid (Grid (length (rowsAt s line)) (length (entriesOf (rowsAt s line))) (columnsAt s line)) (early w ∷ openChecks true s line)) judged
-            ∙ first-eleven NoGrid (Grid (length (rowsAt s line)) (length (entriesOf (rowsAt s line))) (columnsAt s line)) (openChecks true s line) _;
+            ∙ early-eleven NoGrid (Grid (length (rowsAt s line)) (length (entriesOf (rowsAt s line))) (columnsAt s line)) v (openChecks true s line) _ judged;
         left =
             record {
-              cells = leaving cell₀ _ cell p k ka a (found .cells);
-              firsts = leaving first₀ _ first′ p k kb b (found .firsts);
-              spans = leaving span₀ _ span p k kc c (found .spans);
-              row-lines = leaving row₀ _ row p l kd d (found .row-lines);
-              row-ends = leaving end₀ _ end p l ke e (found .row-ends);
+              cells = leaving cell₀ cell (f _) k ka a (found .cells);
+              firsts = leaving first₀ first′ (f _) k kb b (found .firsts);
+              spans = leaving span₀ span (f _) k kc c (found .spans);
+              row-lines = leaving row₀ row (f _) l kd d (found .row-lines);
+              row-ends = leaving end₀ end (f _) l ke e (found .row-ends);
             };
       }

@@ -1,6 +1,6 @@
 -- `layout`: what is found in the sheet is what the call answers and leaves, and of it the third demand holds. Assumes nothing.
 use mathlib.Core.Path.{_≡_, refl, sym, ap, _∙_}
-use mathlib.Core.Bool.{true, _||_}
+use mathlib.Core.Bool.{true, false, _||_}
 use mathlib.Core.List.{List, [], _∷_}
 use Prim.Native.Nat.{ℕ, _-_, _≤_}
 use native.Mathlib.Omega.{arith}
@@ -9,7 +9,7 @@ use lib.ListN.{length, take}
 use borrow.Author.Tests.{ltb-false}
 use Rattle.lists.specs.Lists.{padded}
 use Rattle.lists.specs.Limits.{maxLines, maxEntries, maxWrap, maxWidth}
-use Rattle.lists.specs.Refusals.{Check, first, verdictOf, passes}
+use Rattle.lists.specs.Refusals.{Check, first, verdictOf, passes, ifPasses}
 use Rattle.lists.specs.declared.Verdict.{Verdict}
 use Rattle.lists.specs.declared.Verdict.the-variants.{Accepted, Refused as Refuses}
 use Rattle.sheet.proofs.First.{neither, first-told}
@@ -27,12 +27,12 @@ use Rattle.tables.specs.inner.Telling.{early, laidIn}
 use Rattle.tables.specs.declared.LaidOut.{LaidOut}
 use Rattle.tables.specs.declared.LaidOut.the-variants.{Refused as NoLayout}
 use Rattle.arguments.proofs.Shorter.{two-fit, or-false}
-use Rattle.tables.proofs.Early.{first-nines, passes-nines, none-nines, fits, leaving}
+use Rattle.tables.proofs.Early.{early-nines, none-nines, fits, leaving}
 
 -- refused for the arguments
 pub layout-early : (number at : ℕ) (cs : List Check) (s : List ℕ) (line wrap raw width : ℕ) (column x wide : List ℕ)
     → LayoutFound (early (Refuses number at) ∷ cs) s line wrap raw width (Refused number at) column x wide
-unfolding first early passes columnTotal placeTotal
+unfolding first early passes ifPasses columnTotal placeTotal
 layout-early number at cs s line wrap raw width column x wide =
     record {
       answer = refl;
@@ -47,7 +47,7 @@ layout-early number at cs s line wrap raw width column x wide =
 -- not refused for the arguments
 pub layout-late : {v : Verdict} {cs : List Check} {s : List ℕ} {line wrap raw width : ℕ} {r : Arranged} {column x wide : List ℕ} → v ≡ Accepted
     → LayoutFound cs s line wrap raw width r column x wide → LayoutFound (early v ∷ cs) s line wrap raw width r column x wide
-unfolding first early passes
+unfolding first early passes ifPasses
 layout-late z f =
     rw z (record {
       answer = f .answer;
@@ -104,24 +104,22 @@ module _ {s : List ℕ} {line wrap raw width : ℕ} {v : Verdict} {column₀ x�
       → length column ≡ length column₀ → length x ≡ length x₀ → length wide ≡ length wide₀
       → a ≡ padded (length column) (take n column) → b ≡ padded (length x) (take m x) → c ≡ padded (length wide) (take m wide)
       → LayoutAnswer s line wrap raw width column₀ x₀ wide₀ t a b c
-  unfolding laidOutOf laidIn asked
+  unfolding laidOutOf laidIn asked passes ifPasses
   layout-answered t k l ka kb kc a b c =
-      let cs = layoutChecks s line wrap raw width (length column₀ ∷ []) (length x₀ ∷ length wide₀ ∷ []) in
       let table = Table (wayAt s line wrap raw width) (length (entriesOf (rowsAt s line))) (columnsAt s line) (widthAt s line wrap raw width) in
-      let p : passes (early v ∷ openChecks true s line) ≡ passes cs =
-      ap (λ (w : Verdict). passes (early w ∷ openChecks true s line)) judged ∙ passes-nines (openChecks true s line) _ _ in
+      let f : (xs : List ℕ) → first (λ number line. []) xs (early v ∷ openChecks true s line) ≡ first (λ number line. []) xs (layoutChecks s line wrap raw width (length column₀ ∷ []) (length x₀ ∷ length wide₀ ∷ [])) =
+      λ xs. early-nines (λ number line. []) xs v (openChecks true s line) _ _ judged in
       record {
         answer =
             t
             ∙ ap laidIn (found .answer)
             ∙ first-told laidIn Refused table (early v ∷ openChecks true s line)
-            ∙ ap (λ (w : Verdict). first NoLayout (laidIn table) (early w ∷ openChecks true s line)) judged
-            ∙ first-nines NoLayout (laidIn table) (openChecks true s line) _ _;
+            ∙ early-nines NoLayout (laidIn table) v (openChecks true s line) _ _ judged;
         left =
             record {
-              widths = leaving column₀ _ column p k ka a (found .widths);
-              xs = leaving x₀ _ x p l kb b (found .xs);
-              wides = leaving wide₀ _ wide p l kc c (found .wides);
-              promised = λ q. found .promised (p ∙ q);
+              widths = leaving column₀ column (f _) k ka a (found .widths);
+              xs = leaving x₀ x (f _) l kb b (found .xs);
+              wides = leaving wide₀ wide (f _) l kc c (found .wides);
+              promised = λ q. found .promised (early-nines (λ number line. false) true v (openChecks true s line) _ _ judged ∙ q);
             };
       }

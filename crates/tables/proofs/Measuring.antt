@@ -1,13 +1,13 @@
 -- `estimates`: what is found in the sheet is what the call answers and leaves. Assumes nothing.
 use mathlib.Core.Path.{_≡_, refl, sym, ap, _∙_}
-use mathlib.Core.Bool.{false}
+use mathlib.Core.Bool.{true, false, false≢true}
 use mathlib.Core.List.{List, [], _∷_}
 use Prim.Native.Nat.{ℕ, _≤_}
 use native.Mathlib.Omega.{arith}
 use lib.ListN.{length, take}
 use Rattle.lists.specs.Lists.{padded}
 use Rattle.lists.specs.Limits.{maxLines}
-use Rattle.lists.specs.Refusals.{Check, first, verdictOf, passes}
+use Rattle.lists.specs.Refusals.{Check, first, verdictOf, passes, ifPasses}
 use Rattle.lists.specs.declared.Verdict.{Verdict}
 use Rattle.lists.specs.declared.Verdict.the-variants.{Accepted, Refused as Refuses}
 use Rattle.sheet.specs.Sheet.{sheetLines}
@@ -24,20 +24,20 @@ use Rattle.tables.specs.inner.Telling.{early, measuredIn}
 use Rattle.tables.specs.declared.Estimated.{Estimated}
 use Rattle.tables.specs.declared.Estimated.the-variants.{Lines as Measures, Refused as NotMeasured}
 use Rattle.arguments.proofs.Shorter.{three-fit}
-use Rattle.tables.proofs.Early.{first-nines, passes-nines, none-nines, fits, leaving}
+use Rattle.tables.proofs.Early.{early-nines, none-nines, fits, leaving}
 
 -- refused for the arguments
 pub found-early : (number line : ℕ) (cs : List Check) (s : List ℕ) (wrap : ℕ) (size least prefix : List ℕ)
     → EstimatesFound (early (Refuses number line) ∷ cs) s wrap (Refused number line) size least prefix
-unfolding first early passes linesIn
-found-early number line cs s wrap size least prefix = record { answer = refl; few = omega arith; sizes = refl; leasts = refl; prefixes = refl }
+unfolding first early passes ifPasses linesIn
+found-early number line cs s wrap size least prefix = record { answer = refl; few = omega arith; sizes = refl; leasts = refl; prefixes = refl; sound = λ p. absurd (false≢true p) }
 
 -- not refused for the arguments
 pub found-late : {v : Verdict} {cs : List Check} {s : List ℕ} {wrap : ℕ} {r : Reading} {size least prefix : List ℕ} → v ≡ Accepted
     → EstimatesFound cs s wrap r size least prefix → EstimatesFound (early v ∷ cs) s wrap r size least prefix
-unfolding first early passes
+unfolding first early passes ifPasses
 found-late z f =
-    rw z (record { answer = f .answer; few = f .few; sizes = f .sizes; leasts = f .leasts; prefixes = f .prefixes })
+    rw z (record { answer = f .answer; few = f .few; sizes = f .sizes; leasts = f .leasts; prefixes = f .prefixes; sound = f .sound })
 
 -- where the arguments are not refused, each lent buffer has room for all lines
 fit : (wrap : ℕ) (v : Verdict) (a b c : ℕ) → v ≡ verdictOf (estimatesArguments wrap (a ∷ b ∷ c ∷ [])) → v ≡ Accepted → (maxLines ≤ a) × (maxLines ≤ b) × (maxLines ≤ c)
@@ -68,21 +68,19 @@ module _ {s : List ℕ} {wrap : ℕ} {v : Verdict} {size₀ least₀ prefix₀ :
       → length size ≡ length size₀ → length least ≡ length least₀ → length prefix ≡ length prefix₀
       → size′ ≡ padded (length size) (take n size) → least′ ≡ padded (length least) (take n least) → prefix′ ≡ padded (length prefix) (take n prefix)
       → EstimatesAnswer s wrap size₀ least₀ prefix₀ a size′ least′ prefix′
-  unfolding estimatedOf measuredIn asked
+  unfolding estimatedOf measuredIn asked passes ifPasses
   answered t k h i j a b c =
-      let p : passes (early v ∷ openChecks false s 0) ≡ passes (estimatesChecks s wrap (length size₀ ∷ length least₀ ∷ length prefix₀ ∷ [])) =
-      ap (λ (m : Verdict). passes (early m ∷ openChecks false s 0)) judged ∙ passes-nines (openChecks false s 0) _ _ in
       record {
         answer =
             t
             ∙ ap measuredIn (found .answer)
             ∙ first-told measuredIn Refused (Lines (length (sheetLines s))) (early v ∷ openChecks false s 0)
-            ∙ ap (λ (m : Verdict). first NotMeasured (Measures (length (sheetLines s))) (early m ∷ openChecks false s 0)) judged
-            ∙ first-nines NotMeasured (Measures (length (sheetLines s))) (openChecks false s 0) _ _;
+            ∙ early-nines NotMeasured (Measures (length (sheetLines s))) v (openChecks false s 0) _ _ judged;
         left =
             record {
-              sizes = leaving size₀ _ size p k h a (found .sizes);
-              leasts = leaving least₀ _ least p k i b (found .leasts);
-              prefixes = leaving prefix₀ _ prefix p k j c (found .prefixes);
+              sizes = leaving size₀ size (early-nines (λ number line. []) _ v (openChecks false s 0) _ _ judged) k h a (found .sizes);
+              leasts = leaving least₀ least (early-nines (λ number line. []) _ v (openChecks false s 0) _ _ judged) k i b (found .leasts);
+              prefixes = leaving prefix₀ prefix (early-nines (λ number line. []) _ v (openChecks false s 0) _ _ judged) k j c (found .prefixes);
+              sound = λ q. found .sound (early-nines (λ number line. false) true v (openChecks false s 0) _ _ judged ∙ q);
             };
       }

@@ -11,6 +11,7 @@ use Rattle.text.specs.Text.{measureOf, textSize, readable, trimStart, trimEnd, 
 use Rattle.text.specs.Decimal.{digitsIn, digits, writing, plain}
 use Rattle.text.specs.Prefix.{lastNumber, olPrefix}
 use Rattle.text.specs.declared.Measured.the-variants.{Figures}
+use Rattle.line.specs.Names.{word, firstCodes}
 use Rattle.edges.specs.Edges.{countBelow, endsFrom, allAt}
 use Rattle.cells.specs.Cells as cells
 use Rattle.cells.specs.Cells.{cell, rowSum, widest, resolveRow, resolveBody}
@@ -24,13 +25,13 @@ use Rattle.widths.specs.Widths.{wayOf, finalWidths, nonzero, tableWidth}
 use Rattle.widths.specs.declared.Way.the-variants.{Sideways, Down}
 
 -- " a  b ", wrap 3: 4,3
-pub text-inner-run : measureOf (32 ∷ 97 ∷ 32 ∷ 32 ∷ 98 ∷ 32 ∷ []) 3 false ≡ Figures (record { size = 4; least = 3; prefix = 0 })
-unfolding measureOf first textSize classOf readable trimStart trimEnd widths runs begins
+pub text-inner-run : measureOf (word " a  b ") 3 false ≡ Figures (record { size = 4; least = 3; prefix = 0 })
+unfolding firstCodes measureOf first textSize classOf readable trimStart trimEnd widths runs begins
 text-inner-run = refl
 
 -- "   ": 0,0
-pub text-spaces : measureOf (32 ∷ 32 ∷ 32 ∷ []) 3 false ≡ Figures (record { size = 0; least = 0; prefix = 0 })
-unfolding measureOf first textSize classOf readable trimStart trimEnd widths runs begins
+pub text-spaces : measureOf (word "   ") 3 false ≡ Figures (record { size = 0; least = 0; prefix = 0 })
+unfolding firstCodes measureOf first textSize classOf readable trimStart trimEnd widths runs begins
 text-spaces = refl
 
 -- img of nothing, wrap 3: 2,2

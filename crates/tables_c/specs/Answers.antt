@@ -13,6 +13,8 @@ use Rattle.tables.specs.declared.Gridded.{Gridded}
 use Rattle.tables.specs.declared.Gridded.the-variants as gridded
 use Rattle.tables.specs.declared.LaidOut.{LaidOut}
 use Rattle.tables.specs.declared.LaidOut.the-variants as laidOut
+use Rattle.missing.specs.declared.Explained.{Explained}
+use Rattle.missing.specs.declared.Explained.the-variants as explained
 use Rattle.widths.specs.declared.Way.{Way}
 use Rattle.widths.specs.declared.Way.the-variants.{Sideways, Down}
 use Rattle.tables_c.specs.declared.CheckResult.{CheckResult}
@@ -20,6 +22,7 @@ use Rattle.tables_c.specs.declared.MeasureResult.{MeasureResult}
 use Rattle.tables_c.specs.declared.EstimatesResult.{EstimatesResult}
 use Rattle.tables_c.specs.declared.GridResult.{GridResult}
 use Rattle.tables_c.specs.declared.LayoutResult.{LayoutResult}
+use Rattle.tables_c.specs.declared.MissingResult.{MissingResult}
 
 unfoldable pub checkResult : Verdict → CheckResult
 checkResult verdict.Accepted = record { number = 0; line = 0 }
@@ -49,3 +52,7 @@ wayNumber Down = 1
 unfoldable pub layoutResult : LaidOut → LayoutResult
 layoutResult (laidOut.Layout way columns width) = record { number = 0; line = 0; way = wayNumber way; columns = columns; width = width }
 layoutResult (laidOut.Refused number line) = record { number = number; line = line; way = 0; columns = 0; width = 0 }
+
+unfoldable pub missingResult : Explained → MissingResult
+missingResult (explained.Causes count columns) = record { number = 0; line = 0; count = count; columns = columns }
+missingResult (explained.Refused number line) = record { number = number; line = line; count = 0; columns = 0 }

@@ -1,11 +1,13 @@
-// The five calls for C and Rust: numbers, lent slices and `#[repr(C)]` structs of numbers alone. A slice crosses as a pointer and a length.
+// The six calls for C and Rust: numbers, lent slices and `#[repr(C)]` structs of numbers alone. A slice crosses as a pointer and a length.
 ghost use mathlib.Core.Path.{_≡_};
 ghost use Rattle.lists.specs.Refusals.{verdictOf};
 ghost use Rattle.text.specs.Text.{measureOf};
 ghost use Rattle.tables.specs.Calls.{checkChecks};
 ghost use Rattle.tables.specs.Answers.{estimatedOf, forLines, EstimatesLeft, griddedOf, forEntries, forRows, GridLeft, laidOutOf, forColumns, forPlaces, LayoutLeft};
-ghost use Rattle.tables_c.specs.Answers.{checkResult, asImg, measureResult, estimatesResult, gridResult, wayNumber, layoutResult};
+ghost use Rattle.missing.specs.Missing.{explainedOf, forOne, MissingLeft};
+ghost use Rattle.tables_c.specs.Answers.{checkResult, asImg, measureResult, estimatesResult, gridResult, wayNumber, layoutResult, missingResult};
 use lists::Verdict;
+use missing::Explained;
 use tables::Estimated;
 use tables::Gridded;
 use tables::LaidOut;
@@ -52,6 +54,14 @@ pub struct LayoutResult {
     pub way: u32,
     pub columns: u32,
     pub width: u32,
+}
+
+#[repr(C)]
+pub struct MissingResult {
+    pub number: u32,
+    pub line: u32,
+    pub count: u32,
+    pub columns: u32,
 }
 
 // Whether a sheet is accepted.
@@ -204,6 +214,37 @@ pub extern "C" fn tables_layout(
             way: 0,
             columns: 0,
             width: 0,
+        },
+    }
+}
+
+// The missing entries of the table in a line, and the causes of its columns.
+#[no_mangle]
+pub extern "C" fn tables_missing(
+    sheet: &[u8],
+    line: u32,
+    wrap: u32,
+    raw: u32,
+    width: u32,
+    entry: &mut [u32],
+    cause: &mut [u32],
+) -> MissingResult
+    ensures { λ r. ⌜ r ≡ missingResult (explainedOf (now (sheet .entry)) line wrap raw width (forOne (now (entry .entry))) (forOne (now (cause .entry)))) ⌝ }
+    ensures { λ _. ⌜ MissingLeft (now (sheet .entry)) line wrap raw width (now (entry .entry)) (now (cause .entry))
+        (now (entry .exit)) (now (cause .exit)) ⌝ }
+{
+    match missing::missing(sheet, line, wrap, raw, width, entry, cause) {
+        Explained::Causes { count, columns } => MissingResult {
+            number: 0,
+            line: 0,
+            count,
+            columns,
+        },
+        Explained::Refused { number, line: at } => MissingResult {
+            number,
+            line: at,
+            count: 0,
+            columns: 0,
         },
     }
 }

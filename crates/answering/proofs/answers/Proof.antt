@@ -10,14 +10,17 @@ use Rattle.answering.proofs.answers.Tie as tie
 settings-requires : tie.Need-settings-requires
 settings-requires c κs = search needs
 
-enum-known-given : tie.Need-enum-known-given
-enum-known-given c = search needs
+enum-known-settled : tie.Need-enum-known-settled
+enum-known-settled c = search needs
 
 enum-told : tie.Need-enum-told
 enum-told c = search needs
 
-refusal-requires : tie.Need-refusal-requires
-refusal-requires c κs = search needs
+verdict-of-requires : tie.Need-verdict-of-requires
+verdict-of-requires c κs = search needs
+
+verdict-requires : tie.Need-verdict-requires
+verdict-requires c κs = search needs
 
 same-length : tie.Need-same-length
 same-length c = search needs
@@ -26,10 +29,10 @@ returns : tie.Need-returns
 returns c = search needs
 
 sub-checked : tie.Need-sub-checked
-sub-checked c = settings-in-range _ _ (sym (c .before .before .before .before .settings .ensures) ∙ c .before .before .given .given .1) .sheet
+sub-checked c = settings-in-range _ _ (sym (c .before .before .before .before .settings .ensures) ∙ c .before .before .settled .given .1) .sheet
 
 part-checked-start : tie.Need-part-checked-start
-part-checked-start c = omega (arith, settings-in-range _ _ (sym (c .before .before .before .before .settings .ensures) ∙ c .before .before .given .given .1) .sheet)
+part-checked-start c = omega (arith, settings-in-range _ _ (sym (c .before .before .before .before .settings .ensures) ∙ c .before .before .settled .given .1) .sheet)
 
 part-checked-end : tie.Need-part-checked-end
 part-checked-end c = search needs
@@ -48,9 +51,10 @@ answers-spec =
     tie.close
     (tie.spec
     settings-requires
-    enum-known-given
+    enum-known-settled
     enum-told
-    refusal-requires
+    verdict-of-requires
+    verdict-requires
     same-length
     returns
     sub-checked

@@ -1,17 +1,19 @@
 -- What is found in a sheet, where the checks pass or one of them refuses. These are definitions; nothing is assumed.
 use mathlib.Core.Path.{_≡_}
+use mathlib.Core.Bool.{true}
 use mathlib.Core.List.{List, map}
 use Prim.Native.Nat.{ℕ, _≤_}
 use lib.ListN.{length, take}
 use Rattle.lists.specs.Limits.{maxLines, maxEntries}
-use Rattle.lists.specs.Refusals.{Check, first}
+use Rattle.lists.specs.Refusals.{Check, first, passes, ifPasses}
 use Rattle.sheet.specs.Sheet.{sheetLines}
 use Rattle.sheet.specs.declared.Reading.{Reading}
 use Rattle.sheet.specs.declared.Reading.the-variants.{Lines, Refused as NotRead}
 use Rattle.grid.specs.Grid.{shownLine, entriesOf, rowEnds}
 use Rattle.estimates.specs.Estimates.{estimates}
+use Rattle.estimates.specs.Meets.{AllBounded}
 use Rattle.opening.specs.Opening.{keptLines}
-use Rattle.finding.specs.Figures.{ifPasses, sizeOf, leastOf, prefixOf, firstOf, spanOf, rowLine, rowsAt, columnsAt}
+use Rattle.finding.specs.Figures.{sizeOf, leastOf, prefixOf, firstOf, spanOf, rowLine, rowsAt, columnsAt}
 use Rattle.finding.specs.declared.Shape.{Shape}
 use Rattle.finding.specs.declared.Shape.the-variants.{Grid, Refused as NoGrid}
 
@@ -34,6 +36,7 @@ pub record EstimatesFound (cs : List Check) (s : List ℕ) (wrap : ℕ) (r : Rea
   pub sizes : take (linesIn r) size ≡ ifPasses cs (map sizeOf (estimates wrap (keptLines s)))
   pub leasts : take (linesIn r) least ≡ ifPasses cs (map leastOf (estimates wrap (keptLines s)))
   pub prefixes : take (linesIn r) prefix ≡ ifPasses cs (map prefixOf (estimates wrap (keptLines s)))
+  pub sound : passes cs ≡ true → AllBounded (estimates wrap (keptLines s))
 
 -- ---- the grid of one table
 

@@ -5,7 +5,7 @@ use mathlib.Core.List.{List, map}
 use Prim.Native.Nat.{ℕ, _≤_}
 use lib.ListN.{length, take}
 use Rattle.lists.specs.Limits.{maxLines, maxEntries}
-use Rattle.lists.specs.Refusals.{Check, first, passes}
+use Rattle.lists.specs.Refusals.{Check, first, passes, ifPasses}
 use Rattle.text.specs.declared.Estimate.{Estimate}
 use Rattle.records.specs.Kept.{keptsOf}
 use Rattle.sheet.specs.declared.Reading.{Reading}
@@ -17,7 +17,7 @@ use Rattle.opening.specs.inner.Measures.{LinesMeasured}
 use Rattle.table.specs.Arranging.{AllMeasured}
 use Rattle.table.specs.declared.Arrangement as arranging
 use Rattle.table.specs.inner.Fitting.{LayoutMade}
-use Rattle.finding.specs.Figures.{ifPasses, xOf, widthOf, rowsAt, columnsAt, boxesAt, wayAt, widthsAt, widthAt, placesAt}
+use Rattle.finding.specs.Figures.{xOf, widthOf, rowsAt, columnsAt, boxesAt, wayAt, widthsAt, widthAt, placesAt}
 use Rattle.finding.specs.inner.Made.{OpenedAt}
 use Rattle.finding.specs.declared.Arranged.{Arranged}
 use Rattle.finding.specs.declared.Arranged.the-variants.{Table, Refused}

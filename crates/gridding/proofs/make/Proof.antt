@@ -14,11 +14,11 @@ extent-of-requires c κs = search needs
 mul-end : tie.Need-mul-end
 mul-end c = search needs
 
-slice-aggregate-make-last : tie.Need-slice-aggregate-make-last
-slice-aggregate-make-last c = sym (length-take-le _ _ (omega (arith, (c .before .before) .extent-of .ensures .within, length-kepts ((c .before .before .before .before .before .before) .args .lines .now))))
+slice-aggregate-make-within : tie.Need-slice-aggregate-make-within
+slice-aggregate-make-within c = sym (length-take-le _ _ (omega (arith, (c .before .before) .extent-of .ensures .within, length-kepts ((c .before .before .before .before .before .before) .args .lines .now))))
 
-make-last-requires : tie.Need-make-last-requires
-make-last-requires c κs = let e = (c .before .before .before .before) .extent-of .ensures in rw (kepts-take ((c .before .before .before .before .before .before .before .before) .args .lines .now) ((c .before .before .before .before) .extent-of .result .end) (omega (arith, (c .before .before .before .before) .extent-of .ensures .within, length-kepts ((c .before .before .before .before .before .before .before .before) .args .lines .now)))) (ready-front e ((c .before .before .before .before .before .before .before .before) .pre), e .rows)
+make-within-requires : tie.Need-make-within-requires
+make-within-requires c κs = let e = (c .before .before .before .before) .extent-of .ensures in rw (kepts-take ((c .before .before .before .before .before .before .before .before) .args .lines .now) ((c .before .before .before .before) .extent-of .result .end) (omega (arith, (c .before .before .before .before) .extent-of .ensures .within, length-kepts ((c .before .before .before .before .before .before .before .before) .args .lines .now)))) (ready-front e ((c .before .before .before .before .before .before .before .before) .pre), e .rows)
 
 same-length : tie.Need-same-length
 same-length c = search needs
@@ -27,7 +27,7 @@ same-length-2 : tie.Need-same-length-2
 same-length-2 c = search needs
 
 returns : tie.Need-returns
-returns c = let m = rw (kepts-take ((c .before .before .before .before .before .before .before .before .before .before .before .before .before) .args .lines .now) ((c .before .before .before .before .before .before .before .before .before) .extent-of .result .end) (omega (arith, (c .before .before .before .before .before .before .before .before .before) .extent-of .ensures .within, length-kepts ((c .before .before .before .before .before .before .before .before .before .before .before .before .before) .args .lines .now)))) at ((c .before .before .before .before) .make-last .ensures) in rw (held-front ((c .before .before .before .before .before .before .before .before .before) .extent-of .ensures)) at m
+returns c = let m = rw (kepts-take ((c .before .before .before .before .before .before .before .before .before .before .before .before .before) .args .lines .now) ((c .before .before .before .before .before .before .before .before .before) .extent-of .result .end) (omega (arith, (c .before .before .before .before .before .before .before .before .before) .extent-of .ensures .within, length-kepts ((c .before .before .before .before .before .before .before .before .before .before .before .before .before) .args .lines .now)))) at ((c .before .before .before .before) .make-within .ensures) in rw (held-front ((c .before .before .before .before .before .before .before .before .before) .extent-of .ensures)) at m
 
 pub make-spec : {M : Type 1} → statement M
 make-spec =
@@ -35,8 +35,8 @@ make-spec =
     (tie.spec
     extent-of-requires
     mul-end
-    slice-aggregate-make-last
-    make-last-requires
+    slice-aggregate-make-within
+    make-within-requires
     same-length
     same-length-2
     returns)

@@ -10,14 +10,17 @@ use Rattle.listing.proofs.answer.Tie as tie
 settings-requires : tie.Need-settings-requires
 settings-requires c κs = search needs
 
-enum-known-given : tie.Need-enum-known-given
-enum-known-given c = search needs
+enum-known-settled : tie.Need-enum-known-settled
+enum-known-settled c = search needs
 
 enum-told : tie.Need-enum-told
 enum-told c = search needs
 
-refusal-requires : tie.Need-refusal-requires
-refusal-requires c κs = search needs
+verdict-of-requires : tie.Need-verdict-of-requires
+verdict-of-requires c κs = search needs
+
+verdict-requires : tie.Need-verdict-requires
+verdict-requires c κs = search needs
 
 same-length : tie.Need-same-length
 same-length c = search needs
@@ -26,11 +29,11 @@ returns : tie.Need-returns
 returns c = search needs
 
 sub-opened : tie.Need-sub-opened
-sub-opened c = settings-in-range _ _ (sym ((c .before .before .before .before) .settings .ensures) ∙ (c .before .before) .given .given .1) .sheet
+sub-opened c = settings-in-range _ _ (sym ((c .before .before .before .before) .settings .ensures) ∙ (c .before .before) .settled .given .1) .sheet
 
 part-opened-start : tie.Need-part-opened-start
 part-opened-start c =
-    omega (arith, settings-in-range _ _ (sym ((c .before .before .before .before) .settings .ensures) ∙ (c .before .before) .given .given .1) .sheet)
+    omega (arith, settings-in-range _ _ (sym ((c .before .before .before .before) .settings .ensures) ∙ (c .before .before) .settled .given .1) .sheet)
 
 part-opened-end : tie.Need-part-opened-end
 part-opened-end c = search needs
@@ -38,8 +41,7 @@ part-opened-end c = search needs
 opened-requires : tie.Need-opened-requires
 opened-requires c κs = (
   (c .before .before .before .before .before .before .before .before) .pre,
-  settings-in-range _ _ (sym ((c .before .before .before .before .before)
-      .settings .ensures) ∙ (c .before .before .before) .given .given .1) .width,
+  settings-in-range _ _ (sym ((c .before .before .before .before .before) .settings .ensures) ∙ (c .before .before .before) .settled .given .1) .width,
 )
 
 same-length-2 : tie.Need-same-length-2
@@ -53,9 +55,10 @@ answer-spec =
     tie.close
     (tie.spec
     settings-requires
-    enum-known-given
+    enum-known-settled
     enum-told
-    refusal-requires
+    verdict-of-requires
+    verdict-requires
     same-length
     returns
     sub-opened

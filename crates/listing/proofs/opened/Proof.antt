@@ -1,7 +1,7 @@
 -- `listing::opened` meets its contract: the local arrays have room for every sheet, and a sheet that was accepted can be listed (`read-listable`).
 -- Assumes nothing.
 use native.Mathlib.Omega.{arith}
-use Rattle.finding.proofs.Openings.{places-room, figures-room}
+use Rattle.opening.proofs.Passing.{places-room, figures-room}
 use Rattle.listing.proofs.Ready.{read-listable}
 use borrow.Author.Needs.{needs}
 use Rattle.listing.proofs.opened.Statement.{statement}

@@ -1,7 +1,7 @@
 -- A table's grid and the estimates of all lines, as the records that it is laid out from. These are definitions; nothing is assumed.
 use mathlib.Core.Path.{_≡_}
 use mathlib.Core.Bool.{false}
-use mathlib.Core.List.{List, [], _∷_, map}
+use mathlib.Core.List.{List, map}
 use Prim.Native.Nat.{ℕ, _≤_, _<_}
 use lib.ListN.{length, take}
 use Rattle.text.specs.declared.Estimate.{Estimate}
@@ -12,11 +12,7 @@ use Rattle.grid.specs.Facts.{Tiles}
 use Rattle.estimates.specs.Estimates.{Done, estOf}
 use Rattle.grid.specs.Judging.{shown}
 use Rattle.gridding.specs.Packed.{endedRows}
-
--- every element of the list has P
-unfoldable pub All : {A : Type 0} → (A → Type 0) → List A → Type 0
-All P [] = Unit {0}
-All P (x ∷ xs) = P x × All P xs
+use Rattle.sizing.specs.inner.Room.{All}
 
 -- the row's entries tile the columns from 0 on
 abbrev pub RowTiles : ℕ → GridRow → Type 0

@@ -1,7 +1,7 @@
 -- What the code that lays out a table asks of its slices, and what it leaves in them. These are definitions; nothing is assumed.
 use mathlib.Core.Path.{_≡_}
 use mathlib.Core.List.{List, map}
-use Prim.Native.Nat.{ℕ, _+_, _≤_, _<_}
+use Prim.Native.Nat.{ℕ, _≤_, _<_}
 use lib.ListN.{length, getD, take}
 use Rattle.lists.specs.Limits.{maxPosition, maxWidth}
 use Rattle.text.specs.declared.Estimate.{Estimate}
@@ -10,11 +10,9 @@ use Rattle.records.specs.declared.Entry.{Entry}
 use Rattle.records.specs.declared.Row.{Row}
 use Rattle.cells.specs.Cells as cells
 use Rattle.grid.specs.Grid.{gridOf, columnsOf, entriesOf}
-use Rattle.columns.specs.Boxes.{Box, TilesAll}
-use Rattle.columns.specs.Columns.{sizeOf, leastOf, largest}
+use Rattle.columns.specs.Boxes.{TilesAll}
 use Rattle.placing.specs.inner.Rows.{endOf, Ascends}
-use Rattle.table.specs.inner.Grids.{All}
-use Rattle.table.specs.Laying.{entryBox, boxRowsBy}
+use Rattle.table.specs.Laying.{boxRowsBy}
 
 -- a table's records: entries, rows that tile the columns, the estimates of the sheet's lines; and places for the results
 pub record LayableTable (es : List Entry) (rs : List Row) (figures : List Estimate) (width : ℕ) (column xs wides : List ℕ) : Type 0 where
@@ -25,34 +23,6 @@ pub record LayableTable (es : List Entry) (rs : List Row) (figures : List Estima
   pub tiles : TilesAll (length column) (boxRowsBy rs es figures)
   pub columns : length column ≤ maxPosition
   pub small : width ≤ maxWidth
-
--- a box has a column, ends within n columns, and is no wider at the least than in full
-pub record Whole (n : ℕ) (b : Box) : Type 0 where
-  pub some : 1 ≤ b .span
-  pub ends : b .first + b .span ≤ n
-  pub low : b .least ≤ b .size
-
--- entries whose figures are there, each whole in n columns
-pub record Entered (es : List Entry) (figures : List Estimate) (n : ℕ) : Type 0 where
-  pub within : (i : ℕ) → i < length es → getD es i noEntry .cell ≤ length figures
-  pub whole : All (Whole n) (map (entryBox figures) es)
-
--- and as many places for the columns' leasts as for their sizes
-pub record Raisable (es : List Entry) (figures : List Estimate) (sizes leasts : List ℕ) : Type 0 where
-  pub entered : Entered es figures (length sizes)
-  pub leasts-length : length leasts ≡ length sizes
-
--- the largest sizes and leasts of the entries in each of n columns
-abbrev pub sizesIn : List Entry → List Estimate → ℕ → List ℕ
-sizesIn es figures n = largest sizeOf (map (entryBox figures) es) n
-
-abbrev pub leastsIn : List Entry → List Estimate → ℕ → List ℕ
-leastsIn es figures n = largest leastOf (map (entryBox figures) es) n
-
--- the sizes and leasts of c columns
-pub record Raised (es : List Entry) (figures : List Estimate) (c : ℕ) (sizes leasts : List ℕ) : Type 0 where
-  pub sizes-are : sizes ≡ sizesIn es figures c
-  pub leasts-are : leasts ≡ leastsIn es figures c
 
 -- a table's records in the front of the slices: so many rows, entries and columns
 pub record FrontLayable (r n c : ℕ) (es : List Entry) (rs : List Row) (figures : List Estimate) (width : ℕ) (column x wide : List ℕ) : Type 0 where

@@ -1,6 +1,6 @@
 -- `finding::checking::read_small` meets its contract: a sheet has no more lines than short arrays have room for. Assumes nothing.
 use native.Mathlib.Omega.{arith}
-use Rattle.finding.proofs.Openings.{places-room}
+use Rattle.opening.proofs.Passing.{places-room}
 use borrow.Author.Needs.{needs}
 use Rattle.finding.proofs.checking.read_small.Statement.{statement}
 use Rattle.finding.proofs.checking.read_small.Tie as tie

@@ -1,7 +1,7 @@
 -- `finding::estimating::estimates_large` meets its contract: a sheet has no more lines than the arrays have room for, and the buffer of the
 -- sizes has a place for each column. Assumes nothing.
 use native.Mathlib.Omega.{arith}
-use Rattle.finding.proofs.Openings.{places-room, figures-room}
+use Rattle.opening.proofs.Passing.{places-room, figures-room}
 use Rattle.finding.proofs.Measured.{lines-still, figures-fit, estimates-found}
 use borrow.Author.Needs.{needs}
 use Rattle.finding.proofs.estimating.estimates_large.Statement.{statement}

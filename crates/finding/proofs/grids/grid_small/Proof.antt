@@ -1,6 +1,7 @@
 -- `finding::grids::grid_small` meets its contract: a sheet has no more lines than short arrays have room for. Assumes nothing.
 use native.Mathlib.Omega.{arith}
-use Rattle.finding.proofs.Openings.{places-room, opened-at, asked-in}
+use Rattle.opening.proofs.Passing.{places-room}
+use Rattle.finding.proofs.Openings.{opened-at, asked-in}
 use Rattle.finding.proofs.Gridded.{grid-found}
 use borrow.Author.Needs.{needs}
 use Rattle.finding.proofs.grids.grid_small.Statement.{statement}

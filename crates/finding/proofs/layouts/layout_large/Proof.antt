@@ -1,7 +1,8 @@
 -- `finding::layouts::layout_large` meets its contract: a sheet has no more lines than the arrays have room for, and the buffer of
 -- the columns has a place for each. Assumes nothing.
 use native.Mathlib.Omega.{arith}
-use Rattle.finding.proofs.Openings.{figures-room, asked-in}
+use Rattle.opening.proofs.Passing.{figures-room}
+use Rattle.finding.proofs.Openings.{asked-in}
 use Rattle.finding.proofs.LaidOut.{out-still, measured-in, layout-found}
 use borrow.Author.Needs.{needs}
 use Rattle.finding.proofs.layouts.layout_large.Statement.{statement}

@@ -1,6 +1,6 @@
 -- `finding::layouts::measured_large` meets its contract: a sheet has no more lines than the arrays have room for. Assumes nothing.
 use native.Mathlib.Omega.{arith}
-use Rattle.finding.proofs.Openings.{places-room}
+use Rattle.opening.proofs.Passing.{places-room}
 use Rattle.finding.proofs.LaidOut.{lines-of}
 use borrow.Author.Needs.{needs}
 use Rattle.finding.proofs.layouts.measured_large.Statement.{statement}

@@ -1,0 +1,5 @@
+pub mod Telling
+pub mod Listing
+pub mod Missed
+pub mod Columns
+pub mod Told

@@ -1,0 +1,2 @@
+-- What the functions that tell of a sheet's tables need of them.
+pub mod Wholes

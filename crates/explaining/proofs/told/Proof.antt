@@ -1,0 +1,54 @@
+-- `explaining::told` meets its contract: the lines of a sheet that is accepted are the first records, which stand in the first places (`front-listable`).
+-- Assumes nothing.
+use mathlib.Core.Path.{sym}
+use native.Mathlib.Omega.{arith}
+use lib.Seq.{length-take-le}
+use Rattle.listing.proofs.Ready.{front-listable}
+use borrow.Author.Needs.{needs}
+use Rattle.explaining.proofs.told.Statement.{statement}
+use Rattle.explaining.proofs.told.Tie as tie
+
+enum-known-read : tie.Need-enum-known-read
+enum-known-read c = search needs
+
+refusal-requires : tie.Need-refusal-requires
+refusal-requires c κs = search needs
+
+enum-known-read-2 : tie.Need-enum-known-read-2
+enum-known-read-2 c = search needs
+
+mul-end : tie.Need-mul-end
+mul-end c = omega (arith, (c .before .before .before .before .before .before) .pre .1 .few _ ((c .before) .read2 .given .1))
+
+slice-aggregate-all-told : tie.Need-slice-aggregate-all-told
+slice-aggregate-all-told c = sym (length-take-le _ _ (omega (arith, (c .before .before .before .before .before .before .before .before) .pre .1 .front _ ((c .before .before .before) .read2 .given .1))))
+
+all-told-requires : tie.Need-all-told-requires
+all-told-requires c κs = ((c .before .before .before .before .before .before .before .before) .pre .0, front-listable ((c .before .before .before .before .before .before .before .before) .pre .1) ((c .before .before .before) .read2 .given .1))
+
+same-length : tie.Need-same-length
+same-length c = search needs
+
+returns : tie.Need-returns
+returns c = search needs
+
+same-length-2 : tie.Need-same-length-2
+same-length-2 c = search needs
+
+returns-2 : tie.Need-returns-2
+returns-2 c = search needs
+
+pub told-spec : {M : Type 1} → statement M
+told-spec =
+    tie.close
+    (tie.spec
+    enum-known-read
+    refusal-requires
+    enum-known-read-2
+    mul-end
+    slice-aggregate-all-told
+    all-told-requires
+    same-length
+    returns
+    same-length-2
+    returns-2)

@@ -1,0 +1,54 @@
+-- `reasons::losses::row_by_row` is safe and ends. The invariant: the place reached is one of the buffer, and the buffer keeps its length; the call of a
+-- turn keeps both. The measure is the rows left. Assumes nothing.
+use mathlib.Core.Path.{_≡_}
+use Prim.Native.Nat.{_-_}
+use lib.ListN.{length}
+use Rattle.listing.specs.Listing.{Place}
+use borrow.Author.Needs.{needs}
+use Rattle.reasons.proofs.losses.row_by_row.Statement.{statement}
+use Rattle.reasons.proofs.losses.row_by_row.Tie as tie
+
+abbrev Inv-loop : tie.InvT-loop
+Inv-loop out₀ at rows entries figures wide n next₀ from₀ i₀ out next from i = Place out next × (length out ≡ length out₀)
+
+abbrev μ-loop : tie.MeasureT-loop
+μ-loop out₀ at rows entries figures wide n next₀ from₀ i₀ out next from i = n - i
+
+loop-holds : tie.Need-loop-holds Inv-loop μ-loop
+loop-holds c = search needs
+
+row-at-requires : tie.Need-row-at-requires Inv-loop μ-loop
+row-at-requires c κs = search needs
+
+row-entries-requires : tie.Need-row-entries-requires Inv-loop μ-loop
+row-entries-requires c κs = search needs
+
+add-i : tie.Need-add-i Inv-loop μ-loop
+add-i c = search needs
+
+loop-less : tie.Need-loop-less Inv-loop μ-loop
+loop-less c = search needs
+
+loop-again : tie.Need-loop-again Inv-loop μ-loop
+loop-again c = search needs
+
+same-length : tie.Need-same-length Inv-loop μ-loop
+same-length c = search needs
+
+returns : tie.Need-returns Inv-loop μ-loop
+returns c = search needs
+
+pub row-by-row-spec : {M : Type 1} → statement M
+row-by-row-spec =
+    tie.close
+    (tie.spec
+    Inv-loop
+    μ-loop
+    loop-holds
+    row-at-requires
+    row-entries-requires
+    add-i
+    loop-less
+    loop-again
+    same-length
+    returns)
