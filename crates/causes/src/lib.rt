@@ -100,13 +100,6 @@ fn none_shown(cause: &[u32]) -> bool
     true
 }
 
-// An index of 32 bits as a slice takes it.
-fn index(x: u32) -> usize
-    ensures { λ r. ⌜ r ≡ x ⌝ }
-{
-    x as usize
-}
-
 // The numbers of the entries that are missing, each of whose columns has a cause, in the order of the grid, and how many there are.
 pub fn list_missing(entries: &[u32], cause: &[u32], missing: &mut [u32]) -> usize
     requires { ⌜ Listable (entriesOf (now entries)) (now cause) (now missing) ⌝ }
@@ -117,8 +110,8 @@ pub fn list_missing(entries: &[u32], cause: &[u32], missing: &mut [u32]) -> usiz
     let mut i = 0;
     while i < count {
         let e = records::entry_at(entries, i);
-        let from = index(e.first);
-        let to = from + index(e.span);
+        let from = lists::index(e.first);
+        let to = from + lists::index(e.span);
         if none_shown(&cause[from..to]) {
             missing[n] = i as u32;
             n += 1;

@@ -6,13 +6,14 @@ use Prim.Native.Nat.{ℕ, zero, suc, _+_, _*_, _/_, _≤_, _<_}
 use native.Mathlib.Nat.{zero-div, mul-zero}
 use native.Mathlib.Omega.{arith}
 use lib.ListN.{length, getD}
+use Rattle.lists.specs.Lists.{All}
 use Rattle.columns.specs.Boxes.{box, covers, flat}
 use Rattle.columns.specs.Columns.{leastOf, gives, largestAt}
 use Rattle.columns.proofs.Upto.{same-upTo}
-use Rattle.columns.proofs.Listed.{Every, Within}
+use Rattle.columns.proofs.Listed.{Within}
 use Rattle.grid.specs.Grid.{Entry, GridRow, entriesOf}
 use Rattle.estimates.specs.Estimates.{Done, boxOf, boxRows, tabled}
-use Rattle.estimates.specs.inner.Walk.{EveryPlace, spreadCells, tabledBy}
+use Rattle.estimates.specs.inner.Walk.{spreadCells, tabledBy}
 use Rattle.estimates.specs.Held.{noEntry}
 use Rattle.estimates.proofs.Owners.{unfilled, ownerOf}
 use Rattle.estimates.proofs.Tabling.{spread-columns}
@@ -57,8 +58,8 @@ module _ (t : ℕ) (rest : List Done) where
       go false h r = rw r
 
   within-map : (n : ℕ) (es : List Entry) → ((k : ℕ) → k < length es → getD es k noEntry .first + getD es k noEntry .span ≤ n)
-      → Every (Within n) (map (boxOf t rest) es)
-  unfolding Every boxOf
+      → All (Within n) (map (boxOf t rest) es)
+  unfolding All boxOf
   within-map n [] h = tt
   within-map n (e ∷ es) h = (h zero (omega arith), within-map n es (λ k l. h (suc k) (omega arith)))
 
@@ -72,45 +73,40 @@ module _ (t : ℕ) (rest : List Done) where
         same-upTo n (largestAt leastOf (map (boxOf t rest) es)) (largestAt leastOf (map (boxOf t rest) (unfilled es))) (λ j l. most-unfilled es j),
       )
 
--- every entry of a list has P
-unfoldable pub EveryEntry : (Entry → Type 0) → List Entry → Type 0
-EveryEntry P [] = Unit {0}
-EveryEntry P (e ∷ es) = P e × EveryEntry P es
-
 pub every-unfilled : (P : Entry → Type 0) (es : List Entry) → ((k : ℕ) → k < length es → getD es k noEntry .filler ≡ false → P (getD es k noEntry))
-    → EveryEntry P (unfilled es)
-unfolding EveryEntry unfilled
+    → All P (unfilled es)
+unfolding All unfilled
 every-unfilled P [] h = tt
 every-unfilled P (e ∷ es) h = go (e .filler) refl (every-unfilled P es (λ k l. h (suc k) (omega arith)))
   where
-    go : (f : Bool) → e .filler ≡ f → EveryEntry P (unfilled es) → EveryEntry P (cond f (unfilled es) (e ∷ unfilled es))
+    go : (f : Bool) → e .filler ≡ f → All P (unfilled es) → All P (cond f (unfilled es) (e ∷ unfilled es))
     go true q r = r
     go false q r = (h zero (omega arith) q, r)
 
 -- what holds of every place
 
-pub every-both : (P Q R : ℕ → Type 0) (ps : List ℕ) → EveryPlace P ps → EveryPlace Q ps → ((q : ℕ) → P q → Q q → R q) → EveryPlace R ps
-unfolding EveryPlace
+pub every-both : (P Q R : ℕ → Type 0) (ps : List ℕ) → All P ps → All Q ps → ((q : ℕ) → P q → Q q → R q) → All R ps
+unfolding All
 every-both P Q R [] a b h = tt
 every-both P Q R (q ∷ ps) a b h = (h q (a .0) (b .0), every-both P Q R ps (a .1) (b .1) h)
 
-pub map-places : {A : Type 0} (P : ℕ → Type 0) (f g : ℕ → A) (ps : List ℕ) → EveryPlace P ps → ((q : ℕ) → P q → f q ≡ g q) → map f ps ≡ map g ps
-unfolding EveryPlace
+pub map-places : {A : Type 0} (P : ℕ → Type 0) (f g : ℕ → A) (ps : List ℕ) → All P ps → ((q : ℕ) → P q → f q ≡ g q) → map f ps ≡ map g ps
+unfolding All
 map-places P f g [] e h = refl
 map-places P f g (q ∷ ps) e h = ap₂ (λ (x : _) (xs : List _). x ∷ xs) (h q (e .0)) (map-places P f g ps (e .1) h)
 
 -- a list of entries by the places of their cells: what holds of each entry and its place, and what is made of it
-pub by-places : (P : Entry → Type 0) (Q : ℕ → Type 0) (es : List Entry) (ps : List ℕ) → map ownerOf es ≡ map suc ps → EveryEntry P es
-    → ((e : Entry) (q : ℕ) → e .owner ≡ suc q → P e → Q q) → EveryPlace Q ps
-unfolding EveryEntry EveryPlace
+pub by-places : (P : Entry → Type 0) (Q : ℕ → Type 0) (es : List Entry) (ps : List ℕ) → map ownerOf es ≡ map suc ps → All P es
+    → ((e : Entry) (q : ℕ) → e .owner ≡ suc q → P e → Q q) → All Q ps
+unfolding All
 by-places P Q [] [] m e h = tt
 by-places P Q [] (q ∷ ps) m e h = let z : _≡_ {A = ℕ} 0 1 = cc in absurd (omega arith)
 by-places P Q (x ∷ es) [] m e h = tt
 by-places P Q (x ∷ es) (q ∷ ps) m e h = (h x q (cc) (e .0), by-places P Q es ps (cc) (e .1) h)
 
 pub map-by-places : {A : Type 0} (P : Entry → Type 0) (f : Entry → A) (g : ℕ → A) (es : List Entry) (ps : List ℕ) → map ownerOf es ≡ map suc ps
-    → EveryEntry P es → ((e : Entry) (q : ℕ) → e .owner ≡ suc q → P e → f e ≡ g q) → map f es ≡ map g ps
-unfolding EveryEntry
+    → All P es → ((e : Entry) (q : ℕ) → e .owner ≡ suc q → P e → f e ≡ g q) → map f es ≡ map g ps
+unfolding All
 map-by-places P f g [] [] m e h = refl
 map-by-places P f g [] (q ∷ ps) m e h = let z : _≡_ {A = ℕ} 0 1 = cc in absurd (omega arith)
 map-by-places P f g (x ∷ es) [] m e h = let z : _≡_ {A = ℕ} 0 1 = cc in absurd (omega arith)

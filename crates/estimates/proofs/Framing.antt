@@ -9,6 +9,7 @@ use native.Mathlib.Numerals.{add-one}
 use native.Mathlib.Omega.{arith}
 use native.Mathlib.Decide.{decLt, ℕ-discrete}
 use lib.ListN.{length, getD, set, List·getD-map}
+use Rattle.lists.specs.Lists.{All}
 use Rattle.lists.specs.Limits.{maxPosition}
 use Rattle.text.specs.declared.Estimate.{Estimate}
 use Rattle.columns.specs.Boxes.{Box, box}
@@ -21,7 +22,7 @@ use Rattle.estimates.specs.Estimates.{estimate, none, undone, estOf, est
 use Rattle.estimates.specs.Held.{Held, AllGrids}
 use Rattle.estimates.specs.Sheet.{Sheet, lineAt}
 use Rattle.estimates.specs.inner.Figures.{figuresOf}
-use Rattle.estimates.specs.inner.Walk.{boxed, cellsFrom, EveryPlace, spreadCells, tabledBy}
+use Rattle.estimates.specs.inner.Walk.{boxed, cellsFrom, spreadCells, tabledBy}
 use Rattle.estimates.specs.inner.Spread.{Ends, boxesAt, Fits, Cells, TableReady, Tabulated}
 use Rattle.estimates.specs.inner.Cycle.{NodeReady, Passed, FilledAt, Holder, CellMeets, TableMeets, estAt, doneOf, heldAt, weight}
 use Rattle.estimates.specs.declared.Part.{Part}
@@ -166,7 +167,7 @@ module _ {wrap : ℕ} {ls : List Kept} {gs : List Place} {b : List Estimate} {at
     pub columns : getD gs at noPlace .span ≤ maxPosition
     columns = omega (arith, kept .columns at a t, grids at a t .few)
 
-    cells-range : EveryPlace (λ (q : ℕ). (at + 1 ≤ q) × (q < i)) (cellsFrom ls (lineAt ls at .depth) (at + 1))
+    cells-range : All (λ (q : ℕ). (at + 1 ≤ q) × (q < i)) (cellsFrom ls (lineAt ls at .depth) (at + 1))
     cells-range = cells-in ls (lineAt ls at .depth) (at + 1) i (i - (at + 1)) (at + 1) (omega (arith, l .passed .after)) (omega arith) (l .passed .within) ends
 
     same-boxes : boxesAt ls gs c at ≡ boxesFrom wrap ls gs (lineAt ls at .depth) (at + 1)

@@ -7,7 +7,7 @@ use native.Mathlib.Decide.{decLt}
 use native.Mathlib.Omega.{arith}
 use lib.ListN.{length, getD, take, drop, length-replicate, getD-replicate, List·getD-eq-default}
 use lib.Seq.{drop-cons}
-use Rattle.lists.specs.Lists.{sum, padded}
+use Rattle.lists.specs.Lists.{sum, padded, All}
 use Rattle.lists.specs.Limits.{maxPosition}
 use Rattle.text.specs.declared.Estimate.{Estimate}
 use Rattle.records.specs.Kept.{noPlace}
@@ -20,7 +20,7 @@ use Rattle.columns.proofs.Mapped.{inPart, length-inPart, part-before, part-in, 
 use Rattle.columns.proofs.Largest.{gives-before, gives-in, gives-after}
 use Rattle.estimates.specs.Estimates.{none}
 use Rattle.estimates.specs.Sheet.{lineAt}
-use Rattle.estimates.specs.inner.Walk.{boxed, cellsFrom, EveryPlace, spreadCells}
+use Rattle.estimates.specs.inner.Walk.{boxed, cellsFrom, spreadCells}
 use Rattle.estimates.specs.inner.Spread.{boxesAt, Fits, Cells, Spreads}
 use Rattle.estimates.proofs.Laws.{cells-stop, cells-take, cells-skip}
 
@@ -47,7 +47,7 @@ pub record SpreadLoop (ls : List Kept) (gs : List Place) (es : List Estimate) (n
   pub after : at < next
   pub to : next ≤ end
   pub long : length columns ≡ n
-  pub fit : EveryPlace (Fits gs es n) (cellsFrom ls (lineAt ls at .depth) next)
+  pub fit : All (Fits gs es n) (cellsFrom ls (lineAt ls at .depth) next)
   pub whole : all + spreadCells (map (boxed gs es) (cellsFrom ls (lineAt ls at .depth) next)) ≡ spreadCells (boxesAt ls gs es at)
   pub most : (j : ℕ) → max (getD columns j 0) (largestAt leastOf (map (boxed gs es) (cellsFrom ls (lineAt ls at .depth) next)) j) ≡ largestAt leastOf (boxesAt ls gs es at) j
 
@@ -89,7 +89,7 @@ module _ {ls : List Kept} {gs : List Place} {es : List Estimate} {m n at end : �
       more = rw (taken, f, g)
 
       pub cell-fits : CellFits n all p x
-      unfolding EveryPlace
+      unfolding All
       cell-fits =
           let a = (rw taken at (s .fit)) .0 in
           record {
@@ -102,7 +102,7 @@ module _ {ls : List Kept} {gs : List Place} {es : List Estimate} {m n at end : �
       pub spread-cell : (ys : List ℕ) (from wide : ℕ) → from ≡ p .first → wide ≡ p .span
           → ys ≡ map (λ (z : ℕ). max z (x .least / p .span)) (take wide (drop from columns))
           → SpreadLoop ls gs es m at end (all + p .span * (x .size / p .span)) (next + 1) (take from columns ++ (ys ++ drop wide (drop from columns)))
-      unfolding largestAt EveryPlace
+      unfolding largestAt All
       spread-cell ys from wide u v w =
           let b = boxed gs es next in
           let a = (rw taken at (s .fit)) .0 in

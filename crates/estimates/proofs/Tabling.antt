@@ -9,19 +9,19 @@ use lib.Dec.{eqb}
 use lib.ListN.{length, getD, take}
 use lib.Seq.{take-at}
 use borrow.Author.Tests.{eq-eqb, ne-eqb}
-use Rattle.lists.specs.Lists.{sum}
+use Rattle.lists.specs.Lists.{sum, All}
 use Rattle.text.specs.declared.Estimate.{Estimate}
 use Rattle.columns.specs.Boxes.{Box, Measures}
 use Rattle.columns.specs.Columns.{sizeOf, leastOf, largestAt, sumAt, largest, sums}
 use Rattle.columns.proofs.Upto.{length-upTo, below-upTo}
-use Rattle.columns.proofs.Listed.{Every, Within}
+use Rattle.columns.proofs.Listed.{Within}
 use Rattle.columns.proofs.Largest.{largest-least-size, largest-length}
 use Rattle.columns.proofs.Summed.{sum-of-columns}
 use Rattle.estimates.specs.Estimates.{estimate, none}
 use Rattle.records.specs.declared.Kept.{Kept}
 use Rattle.records.specs.declared.Place.{Place}
 use Rattle.estimates.specs.Sheet.{lineAt}
-use Rattle.estimates.specs.inner.Walk.{boxed, cellsFrom, EveryPlace, spreadCells, tabledBy}
+use Rattle.estimates.specs.inner.Walk.{boxed, cellsFrom, spreadCells, tabledBy}
 use Rattle.estimates.specs.inner.Spread.{boxesAt, Fits, Cells, Spreads, Tabulated}
 
 sum-le : (xs ys : List ℕ) → length xs ≡ length ys → ((j : ℕ) → getD xs j 0 ≤ getD ys j 0) → sum xs ≤ sum ys
@@ -42,10 +42,10 @@ unfolding spreadCells sum
 spread-sum [] = refl
 spread-sum (b ∷ bs) = omega (arith, spread-sum bs)
 
-pub spread-columns : (bs : List Box) (n : ℕ) → Every (Within n) bs → sum (sums sizeOf bs n) ≡ spreadCells bs
+pub spread-columns : (bs : List Box) (n : ℕ) → All (Within n) bs → sum (sums sizeOf bs n) ≡ spreadCells bs
 spread-columns bs n w = sum-of-columns sizeOf bs n w ∙ sym (spread-sum bs)
 
-pub leasts-le : (bs : List Box) (n : ℕ) → Every (Within n) bs → Measures bs → sum (largest leastOf bs n) ≤ spreadCells bs
+pub leasts-le : (bs : List Box) (n : ℕ) → All (Within n) bs → Measures bs → sum (largest leastOf bs n) ≤ spreadCells bs
 leasts-le bs n w m =
     let l = largest-least-size bs n m in
     omega (
@@ -58,13 +58,13 @@ leasts-le bs n w m =
 -- what holds of the cells holds of their boxes
 
 module _ (gs : List Place) (es : List Estimate) (n : ℕ) where
-  within-boxes : (qs : List ℕ) → EveryPlace (Fits gs es n) qs → Every (Within n) (map (boxed gs es) qs)
-  unfolding EveryPlace Every
+  within-boxes : (qs : List ℕ) → All (Fits gs es n) qs → All (Within n) (map (boxed gs es) qs)
+  unfolding All
   within-boxes [] f = tt
   within-boxes (q ∷ qs) f = (f .0 .ends, within-boxes qs (f .1))
 
-  measures-boxes : (qs : List ℕ) → EveryPlace (Fits gs es n) qs → Measures (map (boxed gs es) qs)
-  unfolding EveryPlace Measures
+  measures-boxes : (qs : List ℕ) → All (Fits gs es n) qs → Measures (map (boxed gs es) qs)
+  unfolding All Measures
   measures-boxes [] f = tt
   measures-boxes (q ∷ qs) f = (f .0 .sound, measures-boxes qs (f .1))
 

@@ -9,6 +9,7 @@ use Rattle.lists.specs.Lists.{sum}
 use Rattle.lists.specs.Limits.{maxLines, maxDepth}
 use Rattle.text.specs.Decimal.{shift}
 use Rattle.line.specs.Kinds.{headKind, olKind, isFrame, mayHold}
+use Rattle.records.specs.Parents.{Parent}
 use Rattle.records.specs.Kept.{noKept}
 use Rattle.records.specs.declared.Kept.{Kept}
 
@@ -18,13 +19,6 @@ lineAt ls k = getD ls k noKept
 
 abbrev pub ownOf : Kept → ℕ
 ownOf l = l .own
-
--- the line at p is the parent of the line at i: the nearest earlier line one less deep
-pub record Parent (ls : List Kept) (p i : ℕ) : Type 0 where
-  pub before : p < i
-  pub within : i < length ls
-  pub deeper : lineAt ls i .depth ≡ lineAt ls p .depth + 1
-  pub between : (k : ℕ) → p < k → k < i → lineAt ls p .depth < lineAt ls k .depth
 
 -- of the largest size, what the lines' own texts may take together: each of the 4,096 lines may add 4,096
 abbrev pub maxOwn : ℕ

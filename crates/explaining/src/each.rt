@@ -7,8 +7,8 @@ ghost use Rattle.listing.specs.inner.Rooms.{TableAt};
 ghost use Rattle.explaining.specs.inner.Tables.{TableWhole, ColumnRooms, GridRooms};
 use line::kinds::TABLE;
 use lists::MAX_POSITION;
-use settings::Given;
 use reasons::told;
+use settings::Given;
 
 const FEW_COLUMNS: usize = 64;
 

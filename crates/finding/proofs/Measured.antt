@@ -21,7 +21,7 @@ use Rattle.estimates.specs.inner.Figures.{figureBy, figuresOf}
 use Rattle.opening.specs.Opening.{keptLines, openChecks, openedOf}
 use Rattle.opening.specs.inner.Measures.{SheetMeasured}
 use Rattle.table.proofs.Rooms.{unpacked}
-use Rattle.finding.specs.Figures.{sizeOf, leastOf, prefixOf}
+use Rattle.finding.specs.Figures.{lineSize, lineLeast, linePrefix}
 use Rattle.finding.specs.inner.Found.{linesIn, LinesRoom, EstimatesFound}
 use Rattle.finding.specs.inner.Made.{FiguresFit, FiguresTold}
 use Rattle.opening.proofs.Passing.{passed}
@@ -31,9 +31,9 @@ pub figures-told : (n : ℕ) (figures size₀ least₀ prefix₀ : List ℕ) {si
     → size ≡ over (numbersOf 3 0 n figures) size₀ → least ≡ over (numbersOf 3 1 n figures) least₀ → prefix ≡ over (numbersOf 3 2 n figures) prefix₀
     → FiguresTold n (figuresOf figures) size least prefix
 figures-told n xs p q r h a b c = record {
-  sizes = unpacked 3 0 n xs p figureBy sizeOf (λ r. refl) h a;
-  leasts = unpacked 3 1 n xs q figureBy leastOf (λ r. refl) h b;
-  prefixes = unpacked 3 2 n xs r figureBy prefixOf (λ r. refl) h c;
+  sizes = unpacked 3 0 n xs p figureBy lineSize (λ r. refl) h a;
+  leasts = unpacked 3 1 n xs q figureBy lineLeast (λ r. refl) h b;
+  prefixes = unpacked 3 2 n xs r figureBy linePrefix (λ r. refl) h c;
 }
 
 -- buffers that are as long as they were have the same room
@@ -72,9 +72,9 @@ module _ {s : List ℕ} {wrap : ℕ} {r : Reading} {lines places figures : List 
   estimates-found {size} {least} {prefix} t = record {
     answer = m .opened .answer;
     few = omega (arith, lines-few false s 0 r (m .opened .answer));
-    sizes = front sizeOf size (t .sizes);
-    leasts = front leastOf least (t .leasts);
-    prefixes = front prefixOf prefix (t .prefixes);
+    sizes = front lineSize size (t .sizes);
+    leasts = front lineLeast least (t .leasts);
+    prefixes = front linePrefix prefix (t .prefixes);
     sound = λ p k h.
         m .measured (length (sheetLines s)) (m .opened .answer ∙ first-passes Refused (Lines (length (sheetLines s))) (openChecks false s 0) p) .sound k
         (omega (arith, length-map (measured wrap 1 (keptLines s)) estOf, length-all wrap (keptLines s)));

@@ -8,7 +8,7 @@ use Rattle.columns.specs.Columns as columns
 use Rattle.columns.specs.Columns.{largest}
 use Rattle.cells.specs.Cells as cells
 use Rattle.cells.specs.Listed.{heldRows}
-use Rattle.grid.specs.Grid.{Entry, GridRow, gridOf, columnsOf}
+use Rattle.grid.specs.Grid.{GridRow, gridOf, columnsOf}
 use Rattle.estimates.specs.Estimates.{measured, boxRows}
 use Rattle.widths.specs.Widths.{wayOf, finalWidths, tableWidth}
 use Rattle.widths.specs.declared.Way.{Way}
@@ -16,25 +16,16 @@ use Rattle.placing.specs.Place.{Placed, placeRows}
 use Rattle.opening.specs.Opening.{keptLines}
 
 -- of a line
-abbrev pub sizeOf : Estimate → ℕ
-sizeOf e = e .size
+abbrev pub lineSize : Estimate → ℕ
+lineSize e = e .size
 
-abbrev pub leastOf : Estimate → ℕ
-leastOf e = e .least
+abbrev pub lineLeast : Estimate → ℕ
+lineLeast e = e .least
 
-abbrev pub prefixOf : Estimate → ℕ
-prefixOf e = e .prefix
+abbrev pub linePrefix : Estimate → ℕ
+linePrefix e = e .prefix
 
--- of an entry, of a row, and of an entry's place
-abbrev pub firstOf : Entry → ℕ
-firstOf e = e .first
-
-abbrev pub spanOf : Entry → ℕ
-spanOf e = e .span
-
-abbrev pub rowLine : GridRow → ℕ
-rowLine r = r .line
-
+-- of an entry's place
 abbrev pub xOf : Placed → ℕ
 xOf p = p .x
 

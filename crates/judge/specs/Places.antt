@@ -8,6 +8,7 @@ use Rattle.lists.specs.Refusals.{verdictOf}
 use Rattle.lists.specs.declared.Verdict.{Verdict}
 use Rattle.lists.specs.declared.Verdict.the-variants.{Accepted}
 use Rattle.line.specs.Kinds.{tableKind, mayHold}
+use Rattle.records.specs.Parents.{Parent}
 use Rattle.records.specs.Kept.{noKept, noPlace, tablePlace}
 use Rattle.records.specs.declared.Kept.{Kept}
 use Rattle.records.specs.declared.Place.{Place}
@@ -39,13 +40,6 @@ pub record KeptTable (table : List cells.Row) (at : ℕ) (ps : List Place) : Typ
 
 pub record TablesKept (ks : List Kept) (ps : List Place) : Type 0 where
   pub table : (t : ℕ) → t < length ks → getD ks t noKept .kind ≡ tableKind → KeptTable (heldRows ks t) t ps
-
--- the line at p is the parent of the line at i: the nearest earlier line one less deep
-pub record Parent (ks : List Kept) (p i : ℕ) : Type 0 where
-  pub before : p < i
-  pub within : i < length ks
-  pub deeper : getD ks i noKept .depth ≡ getD ks p noKept .depth + 1
-  pub between : (k : ℕ) → p < k → k < i → getD ks p noKept .depth < getD ks k noKept .depth
 
 -- each line's parent may hold it
 pub record Nests (ks : List Kept) : Type 0 where

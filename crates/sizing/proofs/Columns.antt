@@ -5,6 +5,7 @@ use mathlib.Core.List.{List, [], _∷_, map}
 use Prim.Native.Nat.{ℕ, _≤_}
 use native.Mathlib.Omega.{arith}
 use lib.ListN.{length}
+use Rattle.lists.specs.Lists.{All}
 use Rattle.lists.specs.Limits.{maxPosition}
 use Rattle.text.specs.declared.Estimate.{Estimate}
 use Rattle.records.specs.declared.Entry.{Entry}
@@ -15,7 +16,7 @@ use Rattle.widths.specs.Cut.{Below}
 use Rattle.widths.specs.inner.Lay.{Layable, LaidOut}
 use Rattle.widths.specs.declared.Laid.{Laid}
 use Rattle.sizing.specs.Sizing.{entryBox, sizesIn, leastsIn}
-use Rattle.sizing.specs.inner.Room.{All, Whole, Entered, Raisable, Raised}
+use Rattle.sizing.specs.inner.Room.{Whole, Entered, Raisable, Raised}
 
 whole-measures : (n : ℕ) (bs : List Box) → All (Whole n) bs → Measures bs
 unfolding Measures All

@@ -14,13 +14,6 @@ ghost use Rattle.sizing.specs.inner.Room.{Entered, Raisable, Raised};
 
 const FEW_COLUMNS: usize = 64;
 
-// An index of 32 bits as a slice takes it.
-fn index(x: u32) -> usize
-    ensures { λ r. ⌜ r ≡ x ⌝ }
-{
-    x as usize
-}
-
 // The figures of the cell in a line: lines are counted from 1. A filler, whose line is 0, takes no room whatever it continues.
 fn figures_of(figures: &[u32], cell: u32) -> Estimate
     requires { ⌜ cell ≤ length (figuresOf (now figures)) ⌝ }
@@ -33,7 +26,7 @@ fn figures_of(figures: &[u32], cell: u32) -> Estimate
             prefix: 0,
         };
     }
-    let at = index(cell - 1);
+    let at = lists::index(cell - 1);
     estimates::packed::estimate_at(figures, at)
 }
 
@@ -54,8 +47,8 @@ pub fn raise_columns(entries: &[u32], figures: &[u32], sizes: &mut [u32], leasts
         if f.size == 0 {
             i += 1; // nothing to raise, as with every filler: no least is above its size
         } else {
-            let from = index(e.first);
-            let to = from + index(e.span);
+            let from = lists::index(e.first);
+            let to = from + lists::index(e.span);
             columns::raise(&mut sizes[from..to], f.size / e.span);
             columns::raise(&mut leasts[from..to], f.least / e.span);
             i += 1;

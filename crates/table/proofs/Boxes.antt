@@ -9,6 +9,7 @@ use native.Mathlib.Omega.{arith}
 use lib.ListN.{length, getD, take, drop, length-append, length-map, List·getD-map}
 use lib.Seq.{take-at, drop-at, getD-drop, getD-take}
 use borrow.Author.Tests.{ne-eqb}
+use Rattle.lists.specs.Lists.{All}
 use Rattle.text.specs.declared.Estimate.{Estimate}
 use Rattle.records.specs.Kept as packed
 use Rattle.columns.specs.Boxes as boxes
@@ -20,7 +21,6 @@ use Rattle.placing.specs.inner.Rows.{endOf, Ascends}
 use Rattle.grid.specs.Judging.{shown}
 use Rattle.gridding.specs.Packed.{endedRows}
 use Rattle.sizing.specs.Sizing.{figureAt, entryBox}
-use Rattle.sizing.specs.inner.Room.{All}
 use Rattle.table.specs.inner.Grids.{RowTiles, Later, RowLater, Fits}
 use Rattle.sizing.proofs.Every.{all-append, all-map, at-any, map-same}
 

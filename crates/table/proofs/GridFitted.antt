@@ -14,14 +14,14 @@ use Rattle.records.specs.declared.Row.{Row}
 use Rattle.cells.specs.Cells as cells
 use Rattle.cells.specs.Listed.{heldRows}
 use Rattle.positions.specs.Positions.{originalRows, allRows}
-use Rattle.grid.specs.Grid.{GridRow, shownLine, gridOf, entriesOf, rowEnds}
+use Rattle.grid.specs.Grid.{GridRow, shownLine, gridOf, entriesOf, rowEnds, firstOf, spanOf, rowLine}
 use Rattle.grid.proofs.GridLists.{grid-count}
 use Rattle.grid.proofs.GridFacts.{grid-rows, grid-entries, grid-columns}
 use Rattle.grid.proofs.Rebuilt.{held-few}
 use Rattle.gridding.specs.declared.Counts.{Counts}
 use Rattle.grid.specs.Judging.{shown}
 use Rattle.gridding.specs.Packed.{endedRows, TableMade}
-use Rattle.table.specs.inner.Fitting.{Asked, GridRoom, cellIn, firstIn, spanIn, lineIn, endIn, firstOf, spanOf, rowLine, GridFits, GridTold, GridMade}
+use Rattle.table.specs.inner.Fitting.{Asked, GridRoom, cellIn, firstIn, spanIn, lineIn, endIn, GridFits, GridTold, GridMade}
 use Rattle.table.proofs.Rooms.{Most, unpacked}
 
 -- what was unpacked of the records of a grid

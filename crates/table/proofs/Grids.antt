@@ -6,6 +6,7 @@ use Prim.Native.Nat.{ℕ, suc, _+_, _-_, _/_, _≤_, _<_}
 use native.Mathlib.Omega.{arith}
 use lib.ListN.{length, getD, take, List·getD-map}
 use lib.Seq.{length-take-le}
+use Rattle.lists.specs.Lists.{All}
 use Rattle.text.specs.declared.Estimate.{Estimate}
 use Rattle.records.specs.Records.{recordsOf}
 use Rattle.records.proofs.Records.{length-of}
@@ -28,7 +29,6 @@ use Rattle.gridding.specs.Packed.{TableReady, TableMade}
 use Rattle.gridding.specs.declared.Counts.{Counts}
 use Rattle.widths.specs.declared.Laid.{Laid}
 use Rattle.table.specs.Laying.{boxRowsBy, LaidTable}
-use Rattle.sizing.specs.inner.Room.{All}
 use Rattle.table.specs.inner.Grids.{RowTiles, Later, RowLater, Fits, Listed}
 use Rattle.sizing.proofs.Every.{all-at}
 use Rattle.table.proofs.Table.{table-rows, table-layable, table-laid}

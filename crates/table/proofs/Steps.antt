@@ -5,6 +5,7 @@ use mathlib.Core.List.{List, [], _∷_, map, map-map}
 use Prim.Native.Nat.{ℕ, _+_}
 use native.Mathlib.Omega.{arith}
 use lib.ListN.{length, length-map}
+use Rattle.lists.specs.Lists.{All}
 use Rattle.text.specs.declared.Estimate.{Estimate}
 use Rattle.records.specs.declared.Entry.{Entry}
 use Rattle.records.specs.declared.Row.{Row}
@@ -20,7 +21,7 @@ use Rattle.placing.proofs.Bare.{bare, place-rows-bare, tiles-rows-bare}
 use Rattle.placing.proofs.Ready.{flat-rows}
 use Rattle.placing.proofs.Promise as promise
 use Rattle.sizing.specs.Sizing.{entryBox, sizesIn, leastsIn}
-use Rattle.sizing.specs.inner.Room.{All, Whole, Entered}
+use Rattle.sizing.specs.inner.Room.{Whole, Entered}
 use Rattle.sizing.proofs.Columns.{below-in}
 use Rattle.table.specs.Laying.{boxRowsBy, wayIn, widthsIn, placesIn, LaidTable}
 use Rattle.table.specs.inner.Room.{LayableTable}

@@ -6,6 +6,7 @@ use Prim.Native.Nat.{ℕ, _≤_}
 use native.Mathlib.Nat.{zero-add}
 use native.Mathlib.Omega.{arith}
 use lib.ListN.{length, getD, drop, length-map}
+use Rattle.lists.specs.Lists.{All}
 use Rattle.lists.specs.Limits.{maxPosition, maxWidth}
 use Rattle.text.specs.declared.Estimate.{Estimate}
 use Rattle.records.specs.Kept.{noEntry}
@@ -17,7 +18,6 @@ use Rattle.widths.specs.declared.Laid.{Laid}
 use Rattle.grid.specs.Judging.{shown}
 use Rattle.table.specs.Laying.{boxRowsBy, LaidTable}
 use Rattle.table.specs.inner.Room.{LayableTable}
-use Rattle.sizing.specs.inner.Room.{All}
 use Rattle.table.specs.inner.Grids.{RowTiles, RowLater, Fits, Listed}
 use Rattle.sizing.proofs.Every.{all-drop}
 use Rattle.table.proofs.Boxes.{boxes-of-grid, ends-ascend, lines-within, tiles-of-grid}

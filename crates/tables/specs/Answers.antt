@@ -8,12 +8,12 @@ use lib.ListN.{length}
 use Rattle.lists.specs.Lists.{padded}
 use Rattle.lists.specs.Refusals.{Check, first, passes, ifPasses}
 use Rattle.sheet.specs.Sheet.{sheetLines}
-use Rattle.grid.specs.Grid.{shownLine, entriesOf, rowEnds}
+use Rattle.grid.specs.Grid.{shownLine, entriesOf, rowEnds, firstOf, spanOf, rowLine}
 use Rattle.estimates.specs.Estimates.{estimates}
 use Rattle.estimates.specs.Meets.{AllBounded}
 use Rattle.placing.specs.Promise.{Promised}
 use Rattle.opening.specs.Opening.{keptLines}
-use Rattle.finding.specs.Figures.{sizeOf, leastOf, prefixOf, firstOf, spanOf, rowLine, xOf, widthOf, rowsAt, columnsAt, boxesAt, wayAt, widthsAt, widthAt, placesAt}
+use Rattle.finding.specs.Figures.{lineSize, lineLeast, linePrefix, xOf, widthOf, rowsAt, columnsAt, boxesAt, wayAt, widthsAt, widthAt, placesAt}
 use Rattle.tables.specs.Calls.{estimatesChecks, gridChecks, layoutChecks}
 use Rattle.tables.specs.declared.Estimated.{Estimated}
 use Rattle.tables.specs.declared.Gridded.{Gridded}
@@ -37,9 +37,9 @@ forLines size least prefix = length size ∷ length least ∷ length prefix ∷ 
 
 -- what the three buffers hold afterwards; those with a ₀ are as they were lent. Of these figures no size passes 33,554,432, and no least its size
 pub record EstimatesLeft (s : List ℕ) (wrap : ℕ) (size₀ least₀ prefix₀ size least prefix : List ℕ) : Type 0 where
-  pub sizes : size ≡ leaves (estimatesChecks s wrap (forLines size₀ least₀ prefix₀)) size₀ (map sizeOf (estimates wrap (keptLines s)))
-  pub leasts : least ≡ leaves (estimatesChecks s wrap (forLines size₀ least₀ prefix₀)) least₀ (map leastOf (estimates wrap (keptLines s)))
-  pub prefixes : prefix ≡ leaves (estimatesChecks s wrap (forLines size₀ least₀ prefix₀)) prefix₀ (map prefixOf (estimates wrap (keptLines s)))
+  pub sizes : size ≡ leaves (estimatesChecks s wrap (forLines size₀ least₀ prefix₀)) size₀ (map lineSize (estimates wrap (keptLines s)))
+  pub leasts : least ≡ leaves (estimatesChecks s wrap (forLines size₀ least₀ prefix₀)) least₀ (map lineLeast (estimates wrap (keptLines s)))
+  pub prefixes : prefix ≡ leaves (estimatesChecks s wrap (forLines size₀ least₀ prefix₀)) prefix₀ (map linePrefix (estimates wrap (keptLines s)))
   pub sound : passes (estimatesChecks s wrap (forLines size₀ least₀ prefix₀)) ≡ true → AllBounded (estimates wrap (keptLines s))
 
 pub record EstimatesAnswer (s : List ℕ) (wrap : ℕ) (size₀ least₀ prefix₀ : List ℕ) (r : Estimated) (size least prefix : List ℕ) : Type 0 where

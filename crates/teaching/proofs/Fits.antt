@@ -7,7 +7,7 @@ use Prim.Native.Nat.{ℕ, suc, _+_, _-_, _≤_}
 use native.Mathlib.Omega.{arith}
 use lib.Dec.{leb, eqb}
 use lib.ListN.{getD}
-use Rattle.lists.specs.Lists.{sum}
+use Rattle.lists.specs.Lists.{sum, All}
 use Rattle.text.specs.Text.{textEstimate}
 use Rattle.text.specs.declared.Estimate.{Estimate}
 use Rattle.line.specs.Kinds.{hasText, isLeaf, linkKind, breakKind, tableKind, bodyKind, rowKind}
@@ -20,7 +20,6 @@ use Rattle.widths.proofs.Sums.{sum-le}
 use Rattle.grid.specs.Grid.{Entry, gridOf, columnsOf, entriesOf, tableRows}
 use Rattle.estimates.specs.Estimates.{Done, undone, estimate, none, add, Children, noChildren, withChild, gather, leafOf, prefixOf, prefixed, holderOf, boxOf, boxRows, tabled, estimateOf, measured}
 use Rattle.estimates.proofs.Fillers.{flat-boxes}
-use Rattle.sizing.specs.inner.Room.{All}
 use Rattle.table.specs.inner.Grids.{Fits}
 use Rattle.sizing.proofs.Every.{at-any}
 

@@ -10,6 +10,7 @@ use lib.Dec.{eqb}
 use lib.ListN.{length, getD, drop, length-map, List·getD-map}
 use lib.Seq.{getD-drop}
 use borrow.Author.Tests.{eq-eqb}
+use Rattle.lists.specs.Lists.{All}
 use Rattle.lists.specs.Refusals.{Check, passes}
 use Rattle.line.specs.Kinds.{tableKind, cellKind}
 use Rattle.records.specs.Kept.{noKept}
@@ -38,7 +39,6 @@ use Rattle.judge.proofs.Keeping.{cells-rise}
 use Rattle.opening.specs.Opening.{keptLines}
 use Rattle.opening.proofs.Answers.{Apt, table-apt}
 use Rattle.opening.proofs.Ready.{kept-lined, kept-nests}
-use Rattle.sizing.specs.inner.Room.{All}
 use Rattle.table.specs.inner.Grids.{Fits}
 use Rattle.sizing.proofs.Every.{all-drop}
 use Rattle.table.proofs.Boxes.{tiles-of-grid}

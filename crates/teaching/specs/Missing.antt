@@ -10,12 +10,12 @@ use Rattle.lists.specs.Limits.{maxWrap, maxSize}
 use Rattle.lists.specs.Refusals.{verdictOf}
 use Rattle.lists.specs.declared.Verdict.the-variants.{Accepted}
 use Rattle.line.specs.Kinds.{tableKind, linkKind, hasText}
+use Rattle.records.specs.Parents.{Parent}
 use Rattle.records.specs.Kept.{noKept}
 use Rattle.records.specs.declared.Kept.{Kept}
 use Rattle.columns.specs.Boxes.{Box, box, flat}
 use Rattle.grid.specs.Grid.{shownLine, entriesOf}
 use Rattle.estimates.specs.Estimates.{none, estimates}
-use Rattle.estimates.specs.Sheet.{Parent}
 use Rattle.opening.specs.Opening.{keptLines, isTable}
 use Rattle.widths.specs.Cut.{at, gaps}
 use Rattle.widths.specs.Share.{shares}

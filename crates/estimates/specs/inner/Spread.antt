@@ -3,6 +3,7 @@ use mathlib.Core.Path.{_≡_}
 use mathlib.Core.List.{List, map}
 use Prim.Native.Nat.{ℕ, _+_, _≤_, _<_, _^_, _/_}
 use lib.ListN.{length, getD}
+use Rattle.lists.specs.Lists.{All}
 use Rattle.lists.specs.Limits.{maxDepth, maxPosition}
 use Rattle.text.specs.declared.Estimate.{Estimate}
 use Rattle.records.specs.Kept.{keptsOf, keptCount, placesOf, noPlace}
@@ -13,7 +14,7 @@ use Rattle.columns.specs.Columns.{leastOf, largest}
 use Rattle.estimates.specs.Estimates.{estimate, none}
 use Rattle.estimates.specs.Sheet.{lineAt}
 use Rattle.estimates.specs.inner.Figures.{figuresOf}
-use Rattle.estimates.specs.inner.Walk.{boxed, cellsFrom, EveryPlace, spreadCells, tabledBy}
+use Rattle.estimates.specs.inner.Walk.{boxed, cellsFrom, spreadCells, tabledBy}
 use Rattle.estimates.specs.declared.Part.{Part}
 
 -- what is below a line of depth d ends at r
@@ -35,7 +36,7 @@ pub record Cells (ls : List Kept) (gs : List Place) (es : List Estimate) (n at e
   pub shallow : lineAt ls at .depth ≤ maxDepth
   pub deeper : (k : ℕ) → at < k → k < end → lineAt ls at .depth < lineAt ls k .depth
   pub ends : Ends ls (lineAt ls at .depth) end
-  pub fit : EveryPlace (Fits gs es n) (cellsFrom ls (lineAt ls at .depth) (at + 1))
+  pub fit : All (Fits gs es n) (cellsFrom ls (lineAt ls at .depth) (at + 1))
   pub room : spreadCells (boxesAt ls gs es at) + maxPosition ≤ 2 ^ 32
 
 -- the same, in slices that have a record for each line of the table

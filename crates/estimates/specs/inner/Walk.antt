@@ -27,11 +27,6 @@ cellPlaces d q (l ∷ ls) =
 abbrev pub cellsFrom : List Kept → ℕ → ℕ → List ℕ
 cellsFrom ls d q = cellPlaces d q (drop q ls)
 
--- every place of a list has P
-unfoldable pub EveryPlace : (ℕ → Type 0) → List ℕ → Type 0
-EveryPlace P [] = Unit {0}
-EveryPlace P (q ∷ ps) = P q × EveryPlace P ps
-
 -- what boxes add to all their columns together: span times size / span each
 unfoldable pub spreadCells : List Box → ℕ
 spreadCells [] = 0

@@ -9,11 +9,11 @@ use Rattle.lists.specs.Refusals.{Check, first, passes, ifPasses}
 use Rattle.sheet.specs.Sheet.{sheetLines}
 use Rattle.sheet.specs.declared.Reading.{Reading}
 use Rattle.sheet.specs.declared.Reading.the-variants.{Lines, Refused as NotRead}
-use Rattle.grid.specs.Grid.{shownLine, entriesOf, rowEnds}
+use Rattle.grid.specs.Grid.{shownLine, entriesOf, rowEnds, firstOf, spanOf, rowLine}
 use Rattle.estimates.specs.Estimates.{estimates}
 use Rattle.estimates.specs.Meets.{AllBounded}
 use Rattle.opening.specs.Opening.{keptLines}
-use Rattle.finding.specs.Figures.{sizeOf, leastOf, prefixOf, firstOf, spanOf, rowLine, rowsAt, columnsAt}
+use Rattle.finding.specs.Figures.{lineSize, lineLeast, linePrefix, rowsAt, columnsAt}
 use Rattle.finding.specs.declared.Shape.{Shape}
 use Rattle.finding.specs.declared.Shape.the-variants.{Grid, Refused as NoGrid}
 
@@ -33,9 +33,9 @@ pub record LinesRoom (size least prefix : List ℕ) : Type 0 where
 pub record EstimatesFound (cs : List Check) (s : List ℕ) (wrap : ℕ) (r : Reading) (size least prefix : List ℕ) : Type 0 where
   pub answer : r ≡ first NotRead (Lines (length (sheetLines s))) cs
   pub few : linesIn r ≤ maxLines
-  pub sizes : take (linesIn r) size ≡ ifPasses cs (map sizeOf (estimates wrap (keptLines s)))
-  pub leasts : take (linesIn r) least ≡ ifPasses cs (map leastOf (estimates wrap (keptLines s)))
-  pub prefixes : take (linesIn r) prefix ≡ ifPasses cs (map prefixOf (estimates wrap (keptLines s)))
+  pub sizes : take (linesIn r) size ≡ ifPasses cs (map lineSize (estimates wrap (keptLines s)))
+  pub leasts : take (linesIn r) least ≡ ifPasses cs (map lineLeast (estimates wrap (keptLines s)))
+  pub prefixes : take (linesIn r) prefix ≡ ifPasses cs (map linePrefix (estimates wrap (keptLines s)))
   pub sound : passes cs ≡ true → AllBounded (estimates wrap (keptLines s))
 
 -- ---- the grid of one table

@@ -13,7 +13,7 @@ use Rattle.grid.specs.Facts.{Sound}
 use Rattle.opening.specs.Opening.{keptLines, openedOf}
 use Rattle.gridding.specs.declared.Counts.{Counts}
 use Rattle.table.specs.inner.Fitting.{Asked, GridMade}
-use Rattle.finding.specs.Figures.{sizeOf, leastOf, prefixOf}
+use Rattle.finding.specs.Figures.{lineSize, lineLeast, linePrefix}
 use Rattle.finding.specs.declared.Shape.{Shape}
 use Rattle.finding.specs.declared.Shape.the-variants.{Grid, Refused as NoGrid}
 
@@ -27,9 +27,9 @@ pub record FiguresFit (n : ℕ) (figures size least prefix : List ℕ) : Type 0 
   pub prefix-in : n ≤ length prefix
 
 pub record FiguresTold (n : ℕ) (fs : List Estimate) (size least prefix : List ℕ) : Type 0 where
-  pub sizes : take n size ≡ map sizeOf (take n fs)
-  pub leasts : take n least ≡ map leastOf (take n fs)
-  pub prefixes : take n prefix ≡ map prefixOf (take n fs)
+  pub sizes : take n size ≡ map lineSize (take n fs)
+  pub leasts : take n least ≡ map lineLeast (take n fs)
+  pub prefixes : take n prefix ≡ map linePrefix (take n fs)
 
 -- ---- the line asked for
 

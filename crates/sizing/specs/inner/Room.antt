@@ -1,18 +1,14 @@
 -- What the code that raises and lays out columns asks of its slices, and what it leaves in them. These are definitions; nothing is assumed.
 use mathlib.Core.Path.{_≡_}
-use mathlib.Core.List.{List, [], _∷_, map}
+use mathlib.Core.List.{List, map}
 use Prim.Native.Nat.{ℕ, _+_, _≤_, _<_}
 use lib.ListN.{length, getD}
+use Rattle.lists.specs.Lists.{All}
 use Rattle.text.specs.declared.Estimate.{Estimate}
 use Rattle.records.specs.Kept.{noEntry}
 use Rattle.records.specs.declared.Entry.{Entry}
 use Rattle.columns.specs.Boxes.{Box}
 use Rattle.sizing.specs.Sizing.{entryBox, sizesIn, leastsIn}
-
--- every element of the list has P
-unfoldable pub All : {A : Type 0} → (A → Type 0) → List A → Type 0
-All P [] = Unit {0}
-All P (x ∷ xs) = P x × All P xs
 
 -- a box has a column, ends within n columns, and is no wider at the least than in full
 pub record Whole (n : ℕ) (b : Box) : Type 0 where

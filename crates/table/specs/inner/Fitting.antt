@@ -10,8 +10,7 @@ use Rattle.records.specs.declared.Entry.{Entry}
 use Rattle.records.specs.declared.Row.{Row}
 use Rattle.cells.specs.Cells as cells
 use Rattle.cells.specs.Listed.{heldRows}
-use Rattle.grid.specs.Grid as grid
-use Rattle.grid.specs.Grid.{GridRow, shownLine, gridOf, columnsOf, entriesOf, rowEnds}
+use Rattle.grid.specs.Grid.{shownLine, firstOf, spanOf, rowLine, gridOf, columnsOf, entriesOf, rowEnds}
 use Rattle.grid.specs.Facts.{Sound}
 use Rattle.grid.specs.Judging.{Lined}
 use Rattle.estimates.specs.Estimates.{estimates}
@@ -37,7 +36,7 @@ pub record GridRoom (cell first′ span row end : List ℕ) : Type 0 where
   pub row-room : maxLines ≤ length row
   pub end-room : maxLines ≤ length end
 
--- figures of records, and of a grid's entries and rows
+-- figures of records
 abbrev pub cellIn : Entry → ℕ
 cellIn e = e .cell
 
@@ -52,15 +51,6 @@ lineIn r = r .line
 
 abbrev pub endIn : Row → ℕ
 endIn r = r .end
-
-abbrev pub firstOf : grid.Entry → ℕ
-firstOf e = e .first
-
-abbrev pub spanOf : grid.Entry → ℕ
-spanOf e = e .span
-
-abbrev pub rowLine : GridRow → ℕ
-rowLine r = r .line
 
 -- so many records of a grid, and places for their figures
 pub record GridFits (n r : ℕ) (entries rows cell first′ span row end : List ℕ) : Type 0 where

@@ -4,6 +4,7 @@ use mathlib.Core.Bool.{false}
 use mathlib.Core.List.{List, map}
 use Prim.Native.Nat.{ℕ, _≤_, _<_}
 use lib.ListN.{length, take}
+use Rattle.lists.specs.Lists.{All}
 use Rattle.text.specs.declared.Estimate.{Estimate}
 use Rattle.records.specs.declared.Entry as packed
 use Rattle.records.specs.declared.Row.{Row}
@@ -12,7 +13,6 @@ use Rattle.grid.specs.Facts.{Tiles}
 use Rattle.estimates.specs.Estimates.{Done, estOf}
 use Rattle.grid.specs.Judging.{shown}
 use Rattle.gridding.specs.Packed.{endedRows}
-use Rattle.sizing.specs.inner.Room.{All}
 
 -- the row's entries tile the columns from 0 on
 abbrev pub RowTiles : ℕ → GridRow → Type 0
