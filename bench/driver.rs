@@ -310,7 +310,9 @@ fn compare_table(name: &str, r: &Ready, buffers: &mut Buffers, theirs: &rust_sid
     for (row, printed) in theirs.rows.iter().zip(&theirs.printed) {
         let end = row[1] as usize;
         let mine: Vec<[u32; 3]> = (start..end).filter(|i| buffers.wide[*i] > 0).map(|i| [buffers.cell[i], buffers.x[i], buffers.wide[i]]).collect();
-        assert_eq!(mine, *printed, "{name}: places of {line}");
+        // down the page the places are docs/FORMAT.md's own: each cell at 0, as wide as the page
+        let theirs_placed: Vec<[u32; 3]> = printed.iter().map(|p| if theirs.way == 1 { [p[0], 0, r.width] } else { *p }).collect();
+        assert_eq!(mine, theirs_placed, "{name}: places of {line}");
         start = end;
     }
 }

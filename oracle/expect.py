@@ -8,10 +8,15 @@ HARNESS is the program that build.sh makes. Each answer stands behind a line
 3, 4 from refusals.py, 5, 6, 7 from the harness. An accepted case has the
 harness's `--full` text: what `layout` prints, then every line's estimate, then
 every grid. A `text` frame has `size least prefix` and the three figures.
+
+Down the page docs/FORMAT.md places cells otherwise than the Rust: each at 0, as
+wide as the page. There the Rust says which cells are printed, and where all spans
+of a table are 1 how wide they are; `stacked` puts the rest in its place.
 """
 
 import io
 import os
+import re
 import subprocess
 import sys
 
@@ -28,6 +33,25 @@ def run(command, data):
     if done.returncode != 0:
         raise SystemExit("%s ended with %d" % (command[0], done.returncode))
     return io.BytesIO(done.stdout)
+
+
+TABLE = re.compile(rb"(?m)^table way cols wide\n(\d+) v (\d+) (\d+)\n((?:column width\n)(?:\d+ \d+\n)*row cell x width\n)((?:\d+ \d+ \d+ \d+\n)*)")
+GRID = re.compile(rb"(?m)^grid cols\n(\d+) \d+\nrow cell first span\n((?:\d+ \d+ \d+ \d+\n)*)")
+
+
+def stacked(answer):
+    """The answer with every table that goes down the page placed as docs/FORMAT.md says."""
+    single = {int(line): all(row.split()[3] == b"1" for row in rows.splitlines()) for line, rows in GRID.findall(answer)}
+
+    def again(found):
+        line, columns, wide, between, cells = found.groups()
+        placed = [row.split() for row in cells.splitlines()]
+        if single[int(line)] and any(row[3] != wide for row in placed):
+            raise SystemExit("the harness has a cell of a table down the page that is not as wide as the page: %r" % answer[:2000])
+        return (b"table way cols wide\n%s v %s %s\n" % (line, columns, wide) + between
+                + b"".join(b"%s %s 0 %s\n" % (row[0], row[1], wide) for row in placed))
+
+    return TABLE.sub(again, answer)
 
 
 def ask(harness, frames):
@@ -47,7 +71,7 @@ def ask(harness, frames):
             answer = of_sheets.read(int(of_sheets.readline().split()[1]))
             if answer.startswith(b"panic"):
                 raise SystemExit("the harness failed, %s on: %r" % (answer.decode().strip(), frame[0][:2000]))
-            answers.append(answer)
+            answers.append(stacked(answer))
         else:
             answers.append(b"size least prefix\n" + of_texts.readline())
     return answers

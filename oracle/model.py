@@ -230,7 +230,9 @@ class Layout:
             x = 0
             for c, first, span in row:
                 room = width if self.down else sum(self.widths[first:first + span])
-                if room:
+                if room and self.down:
+                    self.placed.append((line, c.line if c else 0, 0, width))
+                elif room:
                     self.placed.append((line, c.line if c else 0, x, room + span - 1))
                     x += room + span
 

@@ -23,9 +23,9 @@ use Rattle.widths.specs.declared.Way.{Way}
 use Rattle.widths.specs.declared.Way.the-variants.{Sideways, Down}
 use Rattle.widths.proofs.Whole.{way-raw, way-zero}
 use Rattle.widths.proofs.Laying.{final-down, length-final}
-use Rattle.placing.specs.Place.{Placed, at, across, placeRow, placeRows}
+use Rattle.placing.specs.Place.{Placed, at, across, placeDown, placeRow, placeRows}
 use Rattle.placing.specs.inner.Rows.{own, next, bareBoxes}
-use Rattle.placing.proofs.Placing.{placeBy, side-by, down-by, length-row, own-missing, missing-own}
+use Rattle.placing.proofs.Placing.{placeBy, side-by, length-row, own-missing, missing-own}
 use Rattle.placing.proofs.Spread.{narrow-spread, spread-floor}
 use Rattle.placing.proofs.Tiling.{tiles-start}
 use Rattle.sizing.specs.Sizing.{entryBox}
@@ -126,6 +126,14 @@ missed-by n f cs g k x p (b ∷ bs) t =
     let here = own-zero (f b) (b .span) (t .1) ∙ sym (g b (t .1) (omega (arith, t .0, tiles-start n (p + b .span) bs (t .2)))) in
     ap₂ (λ (y : Bool) (r : List ℕ). cond y (k ∷ r) r) here (missed-by n f cs g (suc k) (next x (f b) (b .span)) (p + b .span) bs (t .2))
 
+missed-down : (n width : ℕ) (cs : List ℕ) → ((b : Box) → 1 ≤ b .span → b .first + b .span ≤ n → hidden cs b ≡ eqb width 0)
+    → (k p : ℕ) (bs : List Box) → Tiles n p bs → missingFrom k (placeDown width bs) ≡ hiddenFrom k bs cs
+unfolding missingFrom placeDown hiddenFrom Tiles
+missed-down n width cs g k p [] t = refl
+missed-down n width cs g k p (b ∷ bs) t =
+    ap₂ (λ (y : Bool) (r : List ℕ). cond y (k ∷ r) r) (sym (g b (t .1) (omega (arith, t .0, tiles-start n (p + b .span) bs (t .2)))))
+    (missed-down n width cs g (suc k) (p + b .span) bs (t .2))
+
 -- ---- all rows
 
 joined : (y : Bool) (k : ℕ) (xs ys : List ℕ) → cond y (k ∷ (xs ++ ys)) (xs ++ ys) ≡ cond y (k ∷ xs) xs ++ ys
@@ -166,8 +174,7 @@ module _ (n : ℕ) (cs zs ls : List ℕ) (width : ℕ) (z : length zs ≡ n) (c 
       ∙ missed-by n (across ws) cs (hidden-side n cs ws c (length-final Sideways zs ls width ∙ z) t) k 0 0 r h
   missed-row Down t k r h =
       let ws = finalWidths Down zs ls width in
-      ap (missingFrom k) (down-by width 0 r)
-      ∙ missed-by n (λ b. width) cs (hidden-down n cs ws c (length-final Down zs ls width ∙ z) t width (ap (λ (m : ℕ). replicate m width) z)) k 0 0 r h
+      missed-down n width cs (hidden-down n cs ws c (length-final Down zs ls width ∙ z) t width (ap (λ (m : ℕ). replicate m width) z)) k 0 r h
 
   missed-rows : (way : Way) → ((j : ℕ) → j < n → Tied (getD cs j 0) (getD (finalWidths way zs ls width) j 0)) → (k : ℕ) (rows : List (List Box)) → TilesAll n rows
       → missingFrom k (placeRows way (finalWidths way zs ls width) width rows) ≡ hiddenFrom k (flat rows) cs

@@ -3,7 +3,7 @@
 mod each; // each.rt: each table of a sheet
 
 ghost use Prim.Native.Nat.{_≤_};
-ghost use Rattle.lists.specs.Limits.{maxWidth};
+ghost use Rattle.lists.specs.Limits.{maxSize};
 ghost use Rattle.records.specs.Kept.{keptsOf};
 ghost use Rattle.estimates.specs.inner.Figures.{figuresOf};
 ghost use Rattle.listing.specs.Listing.{Place, Listable};
@@ -51,7 +51,7 @@ fn told(
 // Puts what is told of a sheet at its settings. The sheet is read and measured once, however many tables it has.
 fn opened(out: &mut [u8], at: usize, sheet: &[u8], given: Given) -> usize
     requires { ⌜ Place (now out) at ⌝ }
-    requires { ⌜ given .width ≤ maxWidth ⌝ }
+    requires { ⌜ given .width ≤ maxSize ⌝ }
     ensures { λ r. ⌜ Place (now (out .exit)) r ⌝ }
 {
     let mut kept = [0u32; 6 * MAX_LINES];

@@ -3,7 +3,7 @@ ghost use mathlib.Core.Bool.{true};
 ghost use mathlib.Core.Path.{_≡_};
 ghost use Prim.Native.Nat.{_≤_};
 ghost use lib.ListN.{length};
-ghost use Rattle.lists.specs.Limits.{maxEntries, maxPosition, maxWidth};
+ghost use Rattle.lists.specs.Limits.{maxEntries, maxPosition, maxSize};
 ghost use Rattle.lists.specs.Sizes.{smallLines};
 ghost use Rattle.records.specs.Kept.{keptCount};
 ghost use Rattle.sheet.specs.Steps.{roomFor};
@@ -47,7 +47,7 @@ fn layout_of(
 ) -> Arranged
     requires { ⌜ AskedIn read (now lines) line ⌝ }
     requires { ⌜ MeasuredIn read (now lines) (figuresOf (now figures)) ⌝ }
-    requires { ⌜ (raw ≤ 1) × (width ≤ maxWidth) ⌝ }
+    requires { ⌜ (raw ≤ 1) × (width ≤ maxSize) ⌝ }
     requires { ⌜ OutRoom (now column) (now x) (now wide) ⌝ }
     ensures { λ r. ⌜ LayoutRead read (now (lines .entry)) line (figuresOf (now (figures .entry))) raw width r
         (now (column .exit)) (now (x .exit)) (now (wide .exit)) ⌝ }
@@ -121,7 +121,7 @@ pub fn layout_small(
     wide: &mut [u32],
 ) -> Arranged
     requires { ⌜ roomFor (now sheet) ≤ smallLines ⌝ }
-    requires { ⌜ (raw ≤ 1) × (width ≤ maxWidth) ⌝ }
+    requires { ⌜ (raw ≤ 1) × (width ≤ maxSize) ⌝ }
     requires { ⌜ OutRoom (now column) (now x) (now wide) ⌝ }
     ensures { λ r. ⌜ LayoutFound (openChecks true (now (sheet .entry)) line) (now (sheet .entry)) line wrap raw width r
         (now (column .exit)) (now (x .exit)) (now (wide .exit)) ⌝ }
@@ -143,7 +143,7 @@ pub fn layout_large(
     x: &mut [u32],
     wide: &mut [u32],
 ) -> Arranged
-    requires { ⌜ (raw ≤ 1) × (width ≤ maxWidth) ⌝ }
+    requires { ⌜ (raw ≤ 1) × (width ≤ maxSize) ⌝ }
     requires { ⌜ OutRoom (now column) (now x) (now wide) ⌝ }
     ensures { λ r. ⌜ LayoutFound (openChecks true (now (sheet .entry)) line) (now (sheet .entry)) line wrap raw width r
         (now (column .exit)) (now (x .exit)) (now (wide .exit)) ⌝ }

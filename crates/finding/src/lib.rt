@@ -12,7 +12,7 @@ ghost use Prim.Native.Nat.{_≤_};
 ghost use Rattle.opening.specs.Opening.{openChecks, openedOf};
 ghost use Rattle.table.specs.inner.Fitting.{GridRoom, OutRoom};
 ghost use Rattle.finding.specs.inner.Found.{LinesRoom, EstimatesFound, GridFound};
-ghost use Rattle.lists.specs.Limits.{maxWidth};
+ghost use Rattle.lists.specs.Limits.{maxSize};
 ghost use Rattle.finding.specs.inner.Layouts.{LayoutFound};
 use sheet::Reading;
 use widths::Way;
@@ -102,7 +102,7 @@ pub fn layout(
     x: &mut [u32],
     wide: &mut [u32],
 ) -> Arranged
-    requires { ⌜ (raw ≤ 1) × (width ≤ maxWidth) ⌝ }
+    requires { ⌜ (raw ≤ 1) × (width ≤ maxSize) ⌝ }
     requires { ⌜ OutRoom (now column) (now x) (now wide) ⌝ }
     ensures { λ r. ⌜ LayoutFound (openChecks true (now (sheet .entry)) line) (now (sheet .entry)) line wrap raw width r
         (now (column .exit)) (now (x .exit)) (now (wide .exit)) ⌝ }

@@ -7,7 +7,7 @@ use Prim.Native.Nat.{ℕ, _*_, _/_, _≤_, _<_}
 use native.Mathlib.Omega.{arith}
 use lib.ListN.{length, getD, take}
 use lib.Seq.{length-take-le}
-use Rattle.lists.specs.Limits.{maxLines, maxPosition, maxWidth}
+use Rattle.lists.specs.Limits.{maxLines, maxPosition, maxSize}
 use Rattle.line.specs.Kinds.{tableKind}
 use Rattle.text.specs.declared.Estimate.{Estimate}
 use Rattle.records.specs.Kept.{entryBy, entriesOf, rowBy, rowsOf, noKept, keptsOf, keptCount}
@@ -90,7 +90,7 @@ same-rooms s r = record {
 -- ---- the sheet
 
 pub read-listable : {s : List ℕ} {wrap width : ℕ} {read : Reading} {lines places figures : List ℕ} → SheetMeasured false s 0 wrap read lines places figures
-    → roomFor s ≤ keptCount lines → roomFor s ≤ length (figuresOf figures) → width ≤ maxWidth
+    → roomFor s ≤ keptCount lines → roomFor s ≤ length (figuresOf figures) → width ≤ maxSize
     → ReadListable read lines (figuresOf figures) width
 read-listable {s} {wrap} {read = read} {figures = figures} w h g small = record {
   front = λ n e. omega (arith, p n e .room);

@@ -3,7 +3,7 @@ use mathlib.Core.Path.{_≡_}
 use mathlib.Core.List.{List}
 use Prim.Native.Nat.{ℕ, _≤_, _<_}
 use lib.ListN.{length, getD}
-use Rattle.lists.specs.Limits.{maxWidth}
+use Rattle.lists.specs.Limits.{maxSize}
 use Rattle.line.specs.Kinds.{tableKind}
 use Rattle.text.specs.declared.Estimate.{Estimate}
 use Rattle.records.specs.Kept.{noKept}
@@ -30,4 +30,4 @@ pub record Listable (ks : List Kept) (figures : List Estimate) (width : ℕ) : T
   pub lined : Lined ks
   pub sound : (t : ℕ) → t < length ks → getD ks t noKept .kind ≡ tableKind → Sound (heldRows ks t)
   pub measured : AllMeasured ks figures
-  pub small : width ≤ maxWidth
+  pub small : width ≤ maxSize

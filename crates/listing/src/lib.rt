@@ -4,7 +4,7 @@ pub mod entries; // entries.rt: the entries of a grid, row by row
 pub mod layouts; // layouts.rt: how each table is laid out
 
 ghost use Prim.Native.Nat.{_≤_};
-ghost use Rattle.lists.specs.Limits.{maxWidth};
+ghost use Rattle.lists.specs.Limits.{maxSize};
 ghost use Rattle.records.specs.Kept.{keptsOf};
 ghost use Rattle.estimates.specs.inner.Figures.{figuresOf};
 ghost use Rattle.listing.specs.Listing.{Place, Listable};
@@ -88,7 +88,7 @@ fn told(
 // has.
 fn opened(out: &mut [u8], at: usize, sheet: &[u8], given: Given) -> usize
     requires { ⌜ Place (now out) at ⌝ }
-    requires { ⌜ given .width ≤ maxWidth ⌝ }
+    requires { ⌜ given .width ≤ maxSize ⌝ }
     ensures { λ r. ⌜ Place (now (out .exit)) r ⌝ }
 {
     let mut kept = [0u32; 6 * MAX_LINES];

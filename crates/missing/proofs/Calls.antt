@@ -8,7 +8,7 @@ use lib.Dec.{ltb}
 use lib.ListN.{length, take}
 use borrow.Author.Tests.{ltb-false}
 use Rattle.lists.specs.Lists.{padded}
-use Rattle.lists.specs.Limits.{maxLines, maxEntries, maxWrap, maxWidth}
+use Rattle.lists.specs.Limits.{maxLines, maxEntries, maxWrap, maxWidth, maxSize}
 use Rattle.lists.specs.Refusals.{Check, first, verdictOf, ifPasses}
 use Rattle.lists.specs.declared.Verdict.{Verdict}
 use Rattle.lists.specs.declared.Verdict.the-variants.{Accepted, Refused as Refuses}
@@ -61,10 +61,10 @@ missing-fit wrap raw width v entry cause judged z =
 
 -- and the width is in its range
 pub in-range : (wrap raw width : ℕ) (v : Verdict) (entries columns : List ℕ) → v ≡ verdictOf (missingArguments wrap raw width entries columns) → v ≡ Accepted
-    → width ≤ maxWidth
+    → width ≤ maxSize
 in-range wrap raw width v entries columns judged z =
     let (p, q) = neither (ltb maxWrap wrap || ltb 1 raw) (ltb maxWidth width) (none-nines _ _ (sym judged ∙ z) .0) in
-    ltb-false maxWidth width q
+    omega (arith, ltb-false maxWidth width q)
 
 -- there is room for what is told
 pub missing-rooms : {s : List ℕ} {line wrap raw width : ℕ} {v : Verdict} {a b : ℕ} {r : Explained} {entry cause : List ℕ}

@@ -6,7 +6,7 @@ use Prim.Native.Nat.{ℕ, _-_, _/_, _≤_}
 use native.Mathlib.Omega.{arith}
 use lib.ListN.{length, take}
 use lib.Seq.{length-take-le}
-use Rattle.lists.specs.Limits.{maxWidth, maxEntries, maxLines, maxPosition}
+use Rattle.lists.specs.Limits.{maxSize, maxEntries, maxLines, maxPosition}
 use Rattle.text.specs.declared.Estimate.{Estimate}
 use Rattle.records.specs.Kept.{entriesOf, rowsOf}
 use Rattle.records.specs.declared.Kept.{Kept}
@@ -64,7 +64,7 @@ module _ (es : List Entry) (figures : List Estimate) (rows : List (List Box)) (e
 
 module _ {ks : List Kept} {line : ℕ} (a : Asked ks line) {figures : List Estimate} (m : AllMeasured ks figures) (entries rows : List ℕ) {counts : Counts}
     (w : TableMade (heldRows ks (line - 1)) counts (entriesOf entries) (rowsOf rows)) (he : maxEntries ≤ length entries / 3) (hr : maxLines ≤ length rows / 2)
-    {width : ℕ} (small : width ≤ maxWidth) {entry₀ cause₀ : List ℕ} (room : ExplainRoom entry₀ cause₀) where
+    {width : ℕ} (small : width ≤ maxSize) {entry₀ cause₀ : List ℕ} (room : ExplainRoom entry₀ cause₀) where
   abbrev es : List Entry
   es = entriesOf entries
 

@@ -7,7 +7,7 @@ ghost use mathlib.Core.Path.{_≡_};
 ghost use mathlib.Core.Bool.{true};
 ghost use mathlib.Core.List.{_∷_};
 ghost use Prim.Native.Nat.{_≤_};
-ghost use Rattle.lists.specs.Limits.{maxWidth};
+ghost use Rattle.lists.specs.Limits.{maxSize};
 ghost use Rattle.lists.specs.declared.Verdict.the-variants.{Accepted};
 ghost use Rattle.opening.specs.Opening.{openChecks};
 ghost use Rattle.tables.specs.inner.Telling.{early};
@@ -32,7 +32,7 @@ fn find_missing(
     entry: &mut [u32],
     cause: &mut [u32],
 ) -> Explained
-    requires { ⌜ (asked ≡ Accepted → (width ≤ maxWidth) × ExplainRoom (now entry) (now cause)) ⌝ }
+    requires { ⌜ (asked ≡ Accepted → (width ≤ maxSize) × ExplainRoom (now entry) (now cause)) ⌝ }
     ensures { λ r. ⌜ MissingFound (early asked ∷ openChecks true (now (sheet .entry)) line) (now (sheet .entry)) line wrap raw width r
         (now (entry .exit)) (now (cause .exit)) ⌝ }
 {

@@ -1,6 +1,6 @@
 // The missing entries and the causes of one table of a measured sheet: its grid is made first.
 ghost use Prim.Native.Nat.{_≤_};
-ghost use Rattle.lists.specs.Limits.{maxWidth};
+ghost use Rattle.lists.specs.Limits.{maxSize};
 ghost use Rattle.records.specs.Kept.{keptsOf};
 ghost use Rattle.estimates.specs.inner.Figures.{figuresOf};
 ghost use Rattle.table.specs.Arranging.{AllMeasured};
@@ -22,7 +22,7 @@ pub fn explain(
 ) -> Explained
     requires { ⌜ Asked (keptsOf (now lines)) line ⌝ }
     requires { ⌜ AllMeasured (keptsOf (now lines)) (figuresOf (now figures)) ⌝ }
-    requires { ⌜ width ≤ maxWidth ⌝ }
+    requires { ⌜ width ≤ maxSize ⌝ }
     requires { ⌜ ExplainRoom (now entry) (now cause) ⌝ }
     ensures { λ r. ⌜ MissingMade (keptsOf (now (lines .entry))) line (figuresOf (now (figures .entry))) raw width r (now (entry .exit)) (now (cause .exit)) ⌝ }
 {

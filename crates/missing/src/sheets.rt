@@ -1,7 +1,7 @@
 // The missing entries and the causes of the table in a line of a sheet, written to the lent buffers.
 ghost use mathlib.Core.Bool.{true};
 ghost use Prim.Native.Nat.{_≤_};
-ghost use Rattle.lists.specs.Limits.{maxWidth};
+ghost use Rattle.lists.specs.Limits.{maxSize};
 ghost use Rattle.estimates.specs.inner.Figures.{figuresOf};
 ghost use Rattle.opening.specs.Opening.{openChecks};
 ghost use Rattle.finding.specs.inner.Made.{AskedIn};
@@ -24,7 +24,7 @@ fn explain_read(
 ) -> Explained
     requires { ⌜ AskedIn read (now lines) line ⌝ }
     requires { ⌜ MeasuredIn read (now lines) (figuresOf (now figures)) ⌝ }
-    requires { ⌜ width ≤ maxWidth ⌝ }
+    requires { ⌜ width ≤ maxSize ⌝ }
     requires { ⌜ ExplainRoom (now entry) (now cause) ⌝ }
     ensures { λ r. ⌜ MissingRead read (now (lines .entry)) line (figuresOf (now (figures .entry))) raw width r (now (entry .exit)) (now (cause .exit)) ⌝ }
 {
@@ -47,7 +47,7 @@ pub fn explain_sheet(
     entry: &mut [u32],
     cause: &mut [u32],
 ) -> Explained
-    requires { ⌜ width ≤ maxWidth ⌝ }
+    requires { ⌜ width ≤ maxSize ⌝ }
     requires { ⌜ ExplainRoom (now entry) (now cause) ⌝ }
     ensures { λ r. ⌜ MissingFound (openChecks true (now (sheet .entry)) line) (now (sheet .entry)) line wrap raw width r (now (entry .exit)) (now (cause .exit)) ⌝ }
 {

@@ -3,7 +3,7 @@ use mathlib.Core.List.{List}
 use Prim.Native.Nat.{ℕ, _-_, _≤_}
 use native.Mathlib.Omega.{arith}
 use lib.ListN.{length}
-use Rattle.lists.specs.Limits.{maxWidth}
+use Rattle.lists.specs.Limits.{maxSize}
 use Rattle.text.specs.declared.Estimate.{Estimate}
 use Rattle.records.specs.declared.Kept.{Kept}
 use Rattle.records.specs.declared.Entry.{Entry}
@@ -20,7 +20,7 @@ module _ {ks : List Kept} {line : ℕ} (a : Asked ks line) where
   abbrev T : List cells.Row
   T = heldRows ks (line - 1)
 
-  pub layout-room : {width : ℕ} {column x wide : List ℕ} → width ≤ maxWidth → OutRoom column x wide → LayoutRoom T width column x wide
+  pub layout-room : {width : ℕ} {column x wide : List ℕ} → width ≤ maxSize → OutRoom column x wide → LayoutRoom T width column x wide
   layout-room h r = record {
     column-room = omega (arith, grid-columns T (a .sound), r .column-room);
     x-room = omega (arith, grid-entries T (a .sound), r .x-room);

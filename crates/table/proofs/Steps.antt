@@ -68,7 +68,7 @@ module _ {es : List Entry} {rs : List Row} {figures : List Estimate} {width : �
     bared = sym (map-map bare (entryBox figures) es)
 
     -- what placing asks for
-    pub places : AllRows (laid .way) es rs column width xs₀ wides₀
+    pub places : AllRows (laid .way) es rs column xs₀ wides₀
     unfolding boxRowsBy
     places =
         record {
@@ -76,9 +76,7 @@ module _ {es : List Entry} {rs : List Row} {figures : List Estimate} {width : �
           wides-length = p .wides-length;
           ascends = p .ascends;
           tiles = rw (count, bared) (tiles-rows-bare n (map endOf rs) bs (p .tiles));
-          columns = omega (arith, count, p .columns);
           side = λ s. omega (arith, laid-final q (below-in entered) s .fits, p .small);
-          down = λ s. p .small;
         }
 
     -- the answer

@@ -7,7 +7,7 @@ use native.Mathlib.Nat.{zero-add}
 use native.Mathlib.Omega.{arith}
 use lib.ListN.{length, getD, drop, length-map}
 use Rattle.lists.specs.Lists.{All}
-use Rattle.lists.specs.Limits.{maxPosition, maxWidth}
+use Rattle.lists.specs.Limits.{maxPosition, maxSize}
 use Rattle.text.specs.declared.Estimate.{Estimate}
 use Rattle.records.specs.Kept.{noEntry}
 use Rattle.records.specs.declared.Entry.{Entry}
@@ -33,7 +33,7 @@ module _ {g : List GridRow} {all : List Done} {es : List Entry} {rs : List Row} 
   entry-count = ap length (p .entries) ∙ length-map (entriesOf g) shown
 
   pub table-layable : (columns : ℕ) → All (RowTiles columns) g → All Fits all → {width : ℕ} {column xs wides : List ℕ} → length column ≡ columns → length xs ≡ length es → length wides ≡ length es →
-      columns ≤ maxPosition → width ≤ maxWidth → LayableTable es rs figures width column xs wides
+      columns ≤ maxPosition → width ≤ maxSize → LayableTable es rs figures width column xs wides
   table-layable columns tiles fits c x w few small =
       record {
         xs-length = x;

@@ -31,7 +31,7 @@ widthsIn columns rows raw width =
 abbrev pub placesIn : ℕ → List (List Box) → ℕ → ℕ → List Placed
 placesIn columns rows raw width = placeRows (wayIn columns rows raw width) (widthsIn columns rows raw width) width rows
 
--- the table laid out: its way and its own width, its final widths, x and width of each entry; and the third demand
+-- the table laid out: its way and its own width, its final widths, x and width of each entry; and the third demand, with what holds down the page
 pub record LaidTable (columns : ℕ) (rows : List (List Box)) (raw width : ℕ) (column xs wides : List ℕ) (r : Laid) : Type 0 where
   pub way-is : r .way ≡ wayIn columns rows raw width
   pub width-is : r .width ≡ tableWidth (wayIn columns rows raw width) (widthsIn columns rows raw width) width

@@ -8,7 +8,7 @@ use lib.Dec.{ltb}
 use lib.ListN.{length, take}
 use borrow.Author.Tests.{ltb-false}
 use Rattle.lists.specs.Lists.{padded}
-use Rattle.lists.specs.Limits.{maxLines, maxEntries, maxWrap, maxWidth}
+use Rattle.lists.specs.Limits.{maxLines, maxEntries, maxWrap, maxWidth, maxSize}
 use Rattle.lists.specs.Refusals.{Check, first, verdictOf, passes, ifPasses}
 use Rattle.lists.specs.declared.Verdict.{Verdict}
 use Rattle.lists.specs.declared.Verdict.the-variants.{Accepted, Refused as Refuses}
@@ -91,11 +91,11 @@ module _ {s : List ℕ} {line wrap raw width : ℕ} {v : Verdict} {a b c : ℕ} 
 
 -- settings that are not refused are in their ranges
 pub in-range : (wrap raw width : ℕ) (v : Verdict) (columns entries : List ℕ) → v ≡ verdictOf (layoutArguments wrap raw width columns entries) → v ≡ Accepted
-    → (raw ≤ 1) × (width ≤ maxWidth)
+    → (raw ≤ 1) × (width ≤ maxSize)
 in-range wrap raw width v columns entries judged z =
     let (p, q) = neither (ltb maxWrap wrap || ltb 1 raw) (ltb maxWidth width) (none-nines _ _ (sym judged ∙ z) .0) in
     let (o, l) = neither (ltb maxWrap wrap) (ltb 1 raw) p in
-    (ltb-false 1 raw l, ltb-false maxWidth width q)
+    (ltb-false 1 raw l, omega (arith, ltb-false maxWidth width q))
 
 module _ {s : List ℕ} {line wrap raw width : ℕ} {v : Verdict} {column₀ x₀ wide₀ : List ℕ} {r : Arranged} {column x wide : List ℕ}
     (judged : v ≡ verdictOf (layoutArguments wrap raw width (length column₀ ∷ []) (length x₀ ∷ length wide₀ ∷ [])))

@@ -82,7 +82,7 @@ forColumns column = length column ∷ []
 abbrev pub forPlaces : (x wide : List ℕ) → List ℕ
 forPlaces x wide = length x ∷ length wide ∷ []
 
--- what the three buffers hold afterwards, and of these figures the third demand
+-- what the three buffers hold afterwards, and of these figures the third demand, with what holds down the page
 pub record LayoutLeft (s : List ℕ) (line wrap raw width : ℕ) (column₀ x₀ wide₀ column x wide : List ℕ) : Type 0 where
   pub widths : column ≡ leaves (layoutChecks s line wrap raw width (forColumns column₀) (forPlaces x₀ wide₀)) column₀ (widthsAt s line wrap raw width)
   pub xs : x ≡ leaves (layoutChecks s line wrap raw width (forColumns column₀) (forPlaces x₀ wide₀)) x₀ (map xOf (placesAt s line wrap raw width))

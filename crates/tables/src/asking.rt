@@ -3,7 +3,7 @@ ghost use mathlib.Core.Path.{_≡_};
 ghost use mathlib.Core.Bool.{true, false};
 ghost use mathlib.Core.List.{_∷_};
 ghost use Prim.Native.Nat.{_≤_};
-ghost use Rattle.lists.specs.Limits.{maxWidth};
+ghost use Rattle.lists.specs.Limits.{maxSize};
 ghost use Rattle.lists.specs.declared.Verdict.the-variants.{Accepted};
 ghost use Rattle.opening.specs.Opening.{openChecks};
 ghost use Rattle.table.specs.inner.Fitting.{GridRoom, OutRoom};
@@ -66,7 +66,7 @@ pub fn find_layout(
     x: &mut [u32],
     wide: &mut [u32],
 ) -> Arranged
-    requires { ⌜ (asked ≡ Accepted → ((raw ≤ 1) × (width ≤ maxWidth)) × OutRoom (now column) (now x) (now wide)) ⌝ }
+    requires { ⌜ (asked ≡ Accepted → ((raw ≤ 1) × (width ≤ maxSize)) × OutRoom (now column) (now x) (now wide)) ⌝ }
     ensures { λ r. ⌜ LayoutFound (early asked ∷ openChecks true (now (sheet .entry)) line) (now (sheet .entry)) line wrap raw width r
         (now (column .exit)) (now (x .exit)) (now (wide .exit)) ⌝ }
 {

@@ -34,7 +34,7 @@ pair =
     ∷ []
 
 -- 6 characters do not hold the seven gaps: the table goes down, and both texts are printed
-pub pair-at-6 : first 2 8 pair 6 ≡ at 0 9 ∷ at 10 9 ∷ []
+pub pair-at-6 : first 2 8 pair 6 ≡ at 0 6 ∷ at 0 6 ∷ []
 unfolding flat upTo largestAt sum wayOf finalWidths share sharesOf cut cutBy cutOnce pick placeRows placeRow placeSide placeDown
 pair-at-6 = refl
 

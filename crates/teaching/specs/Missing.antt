@@ -71,7 +71,7 @@ pub data Inside (ks : List Kept) (c : ℕ) : ℕ → Type 0 where
 
 -- ---- what holds
 
--- the third demand, of every table of an accepted sheet
+-- the third demand, with what holds down the page, of every table of an accepted sheet
 abbrev pub ThirdDemand : Type 0
 ThirdDemand = (s : List ℕ) (line wrap raw width : ℕ) → TableIn s line → Allowed wrap raw width →
     Promised (columnsAt s line) (boxesAt s line wrap) raw width (wayAt s line wrap raw width) (widthsAt s line wrap raw width)

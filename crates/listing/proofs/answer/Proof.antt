@@ -41,7 +41,7 @@ part-opened-end c = search needs
 opened-requires : tie.Need-opened-requires
 opened-requires c κs = (
   (c .before .before .before .before .before .before .before .before) .pre,
-  settings-in-range _ _ (sym ((c .before .before .before .before .before) .settings .ensures) ∙ (c .before .before .before) .settled .given .1) .width,
+  omega (arith, settings-in-range _ _ (sym ((c .before .before .before .before .before) .settings .ensures) ∙ (c .before .before .before) .settled .given .1) .width),
 )
 
 same-length-2 : tie.Need-same-length-2

@@ -2,24 +2,20 @@
 use mathlib.Core.Bool.{cond}
 use mathlib.Core.Path.{_≡_}
 use mathlib.Core.List.{List, [], _∷_, map}
-use Prim.Native.Nat.{ℕ, _+_, _-_, _*_, _≤_}
+use Prim.Native.Nat.{ℕ, _+_, _-_, _≤_}
 use lib.Dec.{eqb}
 use lib.ListN.{length}
 use Rattle.lists.specs.Lists.{sum}
-use Rattle.lists.specs.Limits.{maxPosition, maxWidth, maxSize}
+use Rattle.lists.specs.Limits.{maxSize}
 use Rattle.records.specs.declared.Entry.{Entry}
 use Rattle.records.specs.declared.Row.{Row}
 use Rattle.columns.specs.Boxes.{Box, box, rowsBy, Tiles, TilesAll}
 use Rattle.widths.specs.Cut.{gaps}
 use Rattle.widths.specs.declared.Way.{Way}
-use Rattle.widths.specs.declared.Way.the-variants.{Sideways, Down}
+use Rattle.widths.specs.declared.Way.the-variants.{Sideways}
 use Rattle.placing.specs.Place.{Placed}
 
--- no row reaches further: as many entries as positions, each as wide as a table down, and a gap after each
-abbrev pub maxReach : ℕ
-maxReach = maxPosition * (maxWidth + 1)
-
--- the width of an entry whose columns sum to q, and where the next one starts if it stands at x: one case of placeSide and placeDown
+-- sideways, the width of an entry whose columns sum to q, and where the next one starts if it stands at x: one case of placeSide
 abbrev pub own : ℕ → ℕ → ℕ
 own q span = cond (eqb q 0) 0 (q + span - 1)
 
@@ -44,22 +40,12 @@ pub record SideRow (es : List Entry) (ws xs wides : List ℕ) : Type 0 where
   pub tiles : Tiles (length ws) 0 (bareBoxes es)
   pub small : sum ws + gaps (length ws) ≤ maxSize
 
--- a row down: no more entries, and no more columns under them, than there are positions
-pub record DownRow (es : List Entry) (width : ℕ) (xs wides : List ℕ) : Type 0 where
-  pub xs-length : length xs ≡ length es
-  pub wides-length : length wides ≡ length es
-  pub few : length es ≤ maxPosition
-  pub short : sum (map (λ (b : Box). b .span) (bareBoxes es)) ≤ maxPosition
-  pub small : width ≤ maxWidth
-
--- a row either way
-pub record AnyRow (way : Way) (es : List Entry) (ws : List ℕ) (width : ℕ) (xs wides : List ℕ) : Type 0 where
+-- a row either way; down, a place for each entry is all
+pub record AnyRow (way : Way) (es : List Entry) (ws xs wides : List ℕ) : Type 0 where
   pub xs-length : length xs ≡ length es
   pub wides-length : length wides ≡ length es
   pub tiles : Tiles (length ws) 0 (bareBoxes es)
-  pub columns : length ws ≤ maxPosition
   pub side : way ≡ Sideways → sum ws + gaps (length ws) ≤ maxSize
-  pub down : way ≡ Down → width ≤ maxWidth
 
 -- the row ends ascend from a on, and the last is the number of entries
 unfoldable pub Ascends : ℕ → List ℕ → ℕ → Type 0
@@ -67,14 +53,12 @@ Ascends a [] n = a ≡ n
 Ascends a (e ∷ ends) n = (a ≤ e) × Ascends e ends n
 
 -- all rows of a table
-pub record AllRows (way : Way) (es : List Entry) (rs : List Row) (ws : List ℕ) (width : ℕ) (xs wides : List ℕ) : Type 0 where
+pub record AllRows (way : Way) (es : List Entry) (rs : List Row) (ws xs wides : List ℕ) : Type 0 where
   pub xs-length : length xs ≡ length es
   pub wides-length : length wides ≡ length es
   pub ascends : Ascends 0 (map endOf rs) (length es)
   pub tiles : TilesAll (length ws) (rowsBy 0 (map endOf rs) (bareBoxes es))
-  pub columns : length ws ≤ maxPosition
   pub side : way ≡ Sideways → sum ws + gaps (length ws) ≤ maxSize
-  pub down : way ≡ Down → width ≤ maxWidth
 
 -- x and width of each entry, written to two slices
 pub record Written (ps : List Placed) (xs wides : List ℕ) : Type 0 where

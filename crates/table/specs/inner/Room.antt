@@ -3,7 +3,7 @@ use mathlib.Core.Path.{_≡_}
 use mathlib.Core.List.{List, map}
 use Prim.Native.Nat.{ℕ, _≤_, _<_}
 use lib.ListN.{length, getD, take}
-use Rattle.lists.specs.Limits.{maxPosition, maxWidth}
+use Rattle.lists.specs.Limits.{maxPosition, maxSize}
 use Rattle.text.specs.declared.Estimate.{Estimate}
 use Rattle.records.specs.Kept.{noEntry}
 use Rattle.records.specs.declared.Entry.{Entry}
@@ -22,7 +22,7 @@ pub record LayableTable (es : List Entry) (rs : List Row) (figures : List Estima
   pub ascends : Ascends 0 (map endOf rs) (length es)
   pub tiles : TilesAll (length column) (boxRowsBy rs es figures)
   pub columns : length column ≤ maxPosition
-  pub small : width ≤ maxWidth
+  pub small : width ≤ maxSize
 
 -- a table's records in the front of the slices: so many rows, entries and columns
 pub record FrontLayable (r n c : ℕ) (es : List Entry) (rs : List Row) (figures : List Estimate) (width : ℕ) (column x wide : List ℕ) : Type 0 where
@@ -38,4 +38,4 @@ pub record LayoutRoom (table : List cells.Row) (width : ℕ) (column x wide : Li
   pub column-room : columnsOf table ≤ length column
   pub x-room : length (entriesOf (gridOf table)) ≤ length x
   pub wide-room : length (entriesOf (gridOf table)) ≤ length wide
-  pub small : width ≤ maxWidth
+  pub small : width ≤ maxSize

@@ -1,6 +1,6 @@
 // The layout of one table, written to the lent buffers.
 ghost use Prim.Native.Nat.{_≤_};
-ghost use Rattle.lists.specs.Limits.{maxWidth};
+ghost use Rattle.lists.specs.Limits.{maxSize};
 ghost use Rattle.records.specs.Kept.{keptsOf};
 ghost use Rattle.judge.specs.inner.Keeping.{Sparse};
 ghost use Rattle.estimates.specs.inner.Figures.{figuresOf};
@@ -26,7 +26,7 @@ fn layout_few(
     requires { ⌜ Asked (keptsOf (now lines)) line ⌝ }
     requires { ⌜ AllMeasured (keptsOf (now lines)) (figuresOf (now figures)) ⌝ }
     requires { ⌜ Sparse 512 (keptsOf (now lines)) ⌝ }
-    requires { ⌜ width ≤ maxWidth ⌝ }
+    requires { ⌜ width ≤ maxSize ⌝ }
     requires { ⌜ OutRoom (now column) (now x) (now wide) ⌝ }
     ensures { λ r. ⌜ LayoutMade (keptsOf (now (lines .entry))) line (figuresOf (now (figures .entry))) raw width r
         (now (column .exit)) (now (x .exit)) (now (wide .exit)) ⌝ }
@@ -61,7 +61,7 @@ fn layout_many(
 ) -> Arrangement
     requires { ⌜ Asked (keptsOf (now lines)) line ⌝ }
     requires { ⌜ AllMeasured (keptsOf (now lines)) (figuresOf (now figures)) ⌝ }
-    requires { ⌜ width ≤ maxWidth ⌝ }
+    requires { ⌜ width ≤ maxSize ⌝ }
     requires { ⌜ OutRoom (now column) (now x) (now wide) ⌝ }
     ensures { λ r. ⌜ LayoutMade (keptsOf (now (lines .entry))) line (figuresOf (now (figures .entry))) raw width r
         (now (column .exit)) (now (x .exit)) (now (wide .exit)) ⌝ }
@@ -96,7 +96,7 @@ pub fn layout(
 ) -> Arrangement
     requires { ⌜ Asked (keptsOf (now lines)) line ⌝ }
     requires { ⌜ AllMeasured (keptsOf (now lines)) (figuresOf (now figures)) ⌝ }
-    requires { ⌜ width ≤ maxWidth ⌝ }
+    requires { ⌜ width ≤ maxSize ⌝ }
     requires { ⌜ OutRoom (now column) (now x) (now wide) ⌝ }
     ensures { λ r. ⌜ LayoutMade (keptsOf (now (lines .entry))) line (figuresOf (now (figures .entry))) raw width r
         (now (column .exit)) (now (x .exit)) (now (wide .exit)) ⌝ }
