@@ -16,7 +16,7 @@ use Rattle.text.specs.declared.Estimate.{Estimate}
 use Rattle.columns.specs.Boxes.{Box, flat, Tiles, TilesAll}
 use Rattle.columns.specs.Columns.{sizeOf, leastOf, largestAt, largest}
 use Rattle.columns.proofs.Upto.{length-upTo, at-upTo}
-use Rattle.widths.specs.Cut as cut
+use Rattle.cutting.specs.Cut as cut
 use Rattle.widths.specs.Share.{shares}
 use Rattle.widths.specs.Widths.{wayOf, finalWidths}
 use Rattle.widths.specs.declared.Way.{Way}

@@ -5,7 +5,7 @@ use Prim.Native.Nat.{ℕ, suc}
 use lib.Dec.{ltb, eqb}
 use lib.ListN.{length}
 use Rattle.columns.specs.Columns.{upTo}
-use Rattle.widths.specs.Cut.{at}
+use Rattle.cutting.specs.Cut.{at}
 use Rattle.widths.specs.Share.{shares}
 use Rattle.placing.specs.Place.{Placed}
 use Rattle.causes.specs.declared.Cause.{Cause}

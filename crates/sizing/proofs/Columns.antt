@@ -12,7 +12,7 @@ use Rattle.records.specs.declared.Entry.{Entry}
 use Rattle.columns.specs.Boxes.{Box, Measures}
 use Rattle.columns.specs.Columns.{sizeOf}
 use Rattle.columns.proofs.Largest.{largest-length, largest-least-size}
-use Rattle.widths.specs.Cut.{Below}
+use Rattle.cutting.specs.Cut.{Below}
 use Rattle.widths.specs.inner.Lay.{Layable, LaidOut}
 use Rattle.widths.specs.declared.Laid.{Laid}
 use Rattle.sizing.specs.Sizing.{entryBox, sizesIn, leastsIn}

@@ -7,7 +7,7 @@ use Rattle.columns.specs.Boxes.{Box, box, rowsBy, flat}
 use Rattle.columns.specs.Columns.{largestAt, upTo}
 use Rattle.estimates.specs.Estimates.{estimate}
 use Rattle.gridding.specs.Packed.{entry, row}
-use Rattle.widths.specs.Cut.{pick, cutOnce, cutBy, cut}
+use Rattle.cutting.specs.Cut.{pick, cutOnce, cutBy, cut}
 use Rattle.widths.specs.Share.{share, sharesOf}
 use Rattle.widths.specs.Widths.{wayOf, finalWidths}
 use Rattle.placing.specs.Place.{at, placeSide, placeRow, placeRows}

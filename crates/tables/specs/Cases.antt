@@ -19,7 +19,7 @@ use Rattle.rows.specs.Row.{fillers, later, rowFrom, hangOf, nexts}
 use Rattle.extras.specs.Extras.{leastLeft, extrasIn, extras, entryCount}
 use Rattle.positions.specs.Positions.{originals, hangBelow, endsPast}
 use Rattle.grid.specs.Grid.{entry, endsOf, entriesFrom, longest, gridOf, columnsOf, tableChecks}
-use Rattle.widths.specs.Cut.{pick, cutOnce, cutBy, cut}
+use Rattle.cutting.specs.Cut.{pick, cutOnce, cutBy, cut}
 use Rattle.widths.specs.Share.{share, sharesOf}
 use Rattle.widths.specs.Widths.{wayOf, finalWidths, nonzero, tableWidth}
 use Rattle.widths.specs.declared.Way.the-variants.{Sideways, Down}

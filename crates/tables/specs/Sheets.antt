@@ -26,7 +26,7 @@ use Rattle.extras.specs.Extras.{leastLeft, extrasIn, extras, entryCount}
 use Rattle.positions.specs.Positions.{originals, hangBelow, endsPast}
 use Rattle.grid.specs.Grid.{endsOf, entriesFrom, longest, gridOf, columnsOf, tableChecks, tableRows, tablesChecks}
 use Rattle.estimates.specs.Estimates.{measured, estimateOf, leafOf, holderOf, gather, prefixOf, boxOf, tabled}
-use Rattle.widths.specs.Cut.{pick, cutOnce, cutBy, cut}
+use Rattle.cutting.specs.Cut.{pick, cutOnce, cutBy, cut}
 use Rattle.widths.specs.Share.{share, sharesOf}
 use Rattle.widths.specs.Widths.{wayOf, finalWidths, nonzero, tableWidth}
 use Rattle.placing.specs.Place.{at, placeSide, placeDown, placeRow, placeRows}

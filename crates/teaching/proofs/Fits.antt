@@ -16,7 +16,7 @@ use Rattle.columns.specs.Boxes.{Box, flat, Measures}
 use Rattle.columns.specs.Columns.{sizeOf, leastOf, largestAt, sumAt, sums, largest}
 use Rattle.columns.proofs.Upto.{length-upTo, below-upTo}
 use Rattle.columns.proofs.Largest.{largest-least-size}
-use Rattle.widths.proofs.Sums.{sum-le}
+use Rattle.cutting.proofs.Sums.{sum-le}
 use Rattle.grid.specs.Grid.{Entry, gridOf, columnsOf, entriesOf, tableRows}
 use Rattle.estimates.specs.Estimates.{Done, undone, estimate, none, add, Children, noChildren, withChild, gather, leafOf, prefixOf, prefixed, holderOf, boxOf, boxRows, tabled, estimateOf, measured}
 use Rattle.estimates.proofs.Fillers.{flat-boxes}

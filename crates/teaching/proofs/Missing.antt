@@ -12,7 +12,7 @@ use Rattle.columns.specs.Columns.{sizeOf, largestAt}
 use Rattle.columns.proofs.Upto.{length-upTo}
 use Rattle.columns.proofs.Listed.{measures-flat}
 use Rattle.columns.proofs.Largest.{largest-least-size}
-use Rattle.widths.specs.Cut.{Below}
+use Rattle.cutting.specs.Cut.{Below}
 use Rattle.placing.specs.Place as place
 use Rattle.placing.specs.Promise as promise
 use Rattle.placing.proofs.Promise.{promised}

@@ -11,12 +11,12 @@ use lib.Dec.{eqb, ltb}
 use lib.ListN.{length, replicate, length-replicate, getD-replicate, List·getD-eq-default}
 use borrow.Author.Tests.{ltb-true, ltb-false, eqb-true, eqb-false, lt-ltb, le-ltb, eq-eqb, ne-eqb}
 use Rattle.lists.specs.Lists.{sum}
-use Rattle.widths.specs.Cut.{at, gaps, Below}
+use Rattle.cutting.specs.Cut.{at, gaps, Below}
 use Rattle.widths.specs.Share.{share, shares}
 use Rattle.widths.specs.Widths.{wayOf, finalWidths}
 use Rattle.widths.specs.declared.Way.{Way}
 use Rattle.widths.specs.declared.Way.the-variants.{Sideways, Down}
-use Rattle.widths.proofs.Sums.{at-le-sum}
+use Rattle.cutting.proofs.Sums.{at-le-sum}
 use Rattle.widths.proofs.Share.{Final, final, at-shares}
 use Rattle.widths.proofs.Whole.{side-only}
 use Rattle.placing.specs.Why.{later, Why, empty, little, cut-away}

@@ -9,7 +9,7 @@ use Rattle.text.specs.Bytes.{classOf}
 use Rattle.text.specs.Text.{textSize, trimStart, trimEnd, widths, runs, begins}
 use Rattle.columns.specs.Boxes.{Box, box, flat}
 use Rattle.columns.specs.Columns.{sizeOf, leastOf, largestAt, upTo, largest}
-use Rattle.widths.specs.Cut.{pick, cutOnce, cutBy, cut}
+use Rattle.cutting.specs.Cut.{pick, cutOnce, cutBy, cut}
 use Rattle.widths.specs.Share.{share, sharesOf}
 use Rattle.widths.specs.Widths.{wayOf, finalWidths}
 use Rattle.placing.specs.Place.{Placed, at, placeSide, placeDown, placeRow, placeRows}

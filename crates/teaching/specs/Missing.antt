@@ -17,7 +17,7 @@ use Rattle.columns.specs.Boxes.{Box, box, flat}
 use Rattle.grid.specs.Grid.{shownLine, entriesOf}
 use Rattle.estimates.specs.Estimates.{none, estimates}
 use Rattle.opening.specs.Opening.{keptLines, isTable}
-use Rattle.widths.specs.Cut.{at, gaps}
+use Rattle.cutting.specs.Cut.{at, gaps}
 use Rattle.widths.specs.Share.{shares}
 use Rattle.widths.specs.declared.Way.the-variants.{Sideways}
 use Rattle.placing.specs.Place as place

@@ -6,7 +6,7 @@ use lib.ListN.{length}
 use Rattle.lists.specs.Limits.{maxPosition}
 use Rattle.text.specs.declared.Estimate.{Estimate}
 use Rattle.records.specs.declared.Entry.{Entry}
-use Rattle.widths.specs.Cut.{at}
+use Rattle.cutting.specs.Cut.{at}
 use Rattle.widths.specs.Share as widths
 use Rattle.widths.specs.inner.Lay.{LaidOut}
 use Rattle.widths.specs.declared.Laid.{Laid}

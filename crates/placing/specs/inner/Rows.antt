@@ -10,7 +10,7 @@ use Rattle.lists.specs.Limits.{maxSize}
 use Rattle.records.specs.declared.Entry.{Entry}
 use Rattle.records.specs.declared.Row.{Row}
 use Rattle.columns.specs.Boxes.{Box, box, rowsBy, Tiles, TilesAll}
-use Rattle.widths.specs.Cut.{gaps}
+use Rattle.cutting.specs.Cut.{gaps}
 use Rattle.widths.specs.declared.Way.{Way}
 use Rattle.widths.specs.declared.Way.the-variants.{Sideways}
 use Rattle.placing.specs.Place.{Placed}

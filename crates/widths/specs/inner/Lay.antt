@@ -1,32 +1,21 @@
 -- What is asked for and promised where a table's columns are laid out. These are definitions; nothing is assumed.
 use mathlib.Core.Path.{_≡_}
 use mathlib.Core.List.{List}
-use Prim.Native.Nat.{ℕ, _+_, _*_, _≤_}
+use Prim.Native.Nat.{ℕ, _+_, _≤_}
 use lib.ListN.{length}
 use Rattle.lists.specs.Lists.{sum}
 use Rattle.lists.specs.Limits.{maxLines}
-use Rattle.widths.specs.Cut.{gaps, Below}
+use Rattle.cutting.specs.Cut.{gaps, Below}
 use Rattle.widths.specs.Widths.{wayOf, finalWidths, tableWidth}
 use Rattle.widths.specs.declared.Way.{Way}
 use Rattle.widths.specs.declared.Way.the-variants.{Sideways}
 use Rattle.widths.specs.declared.Laid.{Laid}
-
--- the sum of so few 32 bit figures that it fits 64 bits, and a sum with it
-pub record Summed (figures : List ℕ) (r : ℕ) : Type 0 where
-  pub is : r ≡ sum figures
-  pub small : r ≤ 4294967295 * maxLines
 
 -- columns with a figure in each of three lists
 pub record Columned (sizes leasts wide : List ℕ) : Type 0 where
   pub leasts-length : length leasts ≡ length sizes
   pub wide-length : length wide ≡ length sizes
   pub few : length sizes ≤ maxLines
-
--- widths that can be cut to fit the width: none is below its least, and the leasts with their gaps fit
-pub record Cuttable (leasts wide : List ℕ) (width : ℕ) : Type 0 where
-  pub above : Below leasts wide
-  pub few : length wide ≤ maxLines
-  pub room : sum leasts + gaps (length leasts) ≤ width
 
 -- columns whose final widths are to be written, laid out that way: sideways the leasts with their gaps fit
 pub record Sized (way : Way) (sizes leasts wide : List ℕ) (width : ℕ) : Type 0 where
