@@ -6,6 +6,7 @@ ghost use mathlib.Core.Bool.{true};
 ghost use Prim.Native.Nat.{_-_, _≤_, _<_, max};
 ghost use lib.ListN.{length, take};
 ghost use Rattle.edges.specs.Edges.{isEdge, rowsFrom, RowsFit};
+ghost use Rattle.edges.specs.Lookup.{Counted};
 ghost use Rattle.records.specs.Kept.{keptsOf, entriesOf};
 ghost use Rattle.cells.specs.Listed.{heldRows};
 ghost use Rattle.positions.specs.inner.Slices.{Enough};
@@ -34,12 +35,13 @@ fn longer(a: usize, b: usize) -> usize
 // including row r. The columns of the longest row, or that an entry ends at no edge.
 fn number_rows(
     words: &[u64],
+    counts: &[u32],
     wide: &[u32],
     line: &[u32],
     ends: &[u32],
     entries: &mut [u32],
 ) -> Numbered
-    requires { ⌜ length (now words) ≡ 65 ⌝ }
+    requires { ⌜ Counted (now words) (now counts) ⌝ }
     requires { ⌜ isEdge (now words) 0 ≡ true ⌝ }
     requires { ⌜ RowsFit 0 (now ends) (now wide) ⌝ }
     requires { ⌜ (length (now wide) ≤ length (now line)) × (length (now wide) ≤ length (entriesOf (now entries))) ⌝ }
@@ -50,8 +52,14 @@ fn number_rows(
     let mut r = 0;
     while r < ends.len() {
         let end = ends[r] as usize;
-        let Numbered::Done(n) = edges::renumber(words, &wide[start..end], line, start, entries)
-        else {
+        let Numbered::Done(n) = edges::renumber(
+            words,
+            counts,
+            &wide[start..end],
+            line,
+            start,
+            entries,
+        ) else {
             return Numbered::Missing;
         };
         columns = longer(columns, n);
@@ -78,7 +86,8 @@ fn number_table(
     let start = none.with(0);
     let marked = edges::mark_rows(start, wide, &ends[..originals]);
     let words = marked.words;
-    number_rows(&words, wide, line, ends, entries)
+    let counts = marked.counts;
+    number_rows(&words, &counts, wide, line, ends, entries)
 }
 
 // The grid of rows by positions as records of its entries, or the refusal: 5 and 6 are known from the positions, 7 is that an entry ends at no edge.
