@@ -7,8 +7,8 @@
  *   them: readable where it is const, writable where it is not. What is lent for writing need not be cleared before. (Not null even where the number
  *   is 0: the library as it is compiled does not follow such a pointer, but what is proved is about pointers that are not null.)
  * - A buffer that is lent for writing overlaps neither another buffer of the call nor the sheet, and nothing else touches it during the call.
- * - There is room on the stack. Measured at the most: tables_layout 593,000 bytes, tables_estimates 560,000, tables_grid 511,000, tables_check 510,000,
- *   tables_measure 300, on small and on full sheets alike; TABLES_STACK is enough for any call. Without it a call ends in the system's stack overflow. Nothing is allocated.
+ * - There is room on the stack. Measured at the most: tables_at, tables_within and tables_joining 742,000 bytes, tables_missing 725,000, tables_layout 593,000,
+ *   tables_estimates 560,000, tables_grid 511,000, tables_check 510,000, tables_measure 300; TABLES_STACK is enough for any call. Without it a call ends in the system's stack overflow. Nothing is allocated.
  *
  * There is no state outside the arguments: calls may run in several threads at once, each with buffers of its own, and a sheet may be shared.
  *
@@ -29,9 +29,9 @@
 #define TABLES_MAX_COLUMNS 4096   /* columns of a grid: least places of a buffer with one for each column */
 #define TABLES_MAX_WRAP 1000      /* largest wrap */
 #define TABLES_MAX_WIDTH 65535    /* largest width */
-#define TABLES_STACK 700000       /* bytes of stack that are enough for any call */
+#define TABLES_STACK 800000       /* bytes of stack that are enough for any call */
 
-/* In the order in which they are looked for: 9, 11, 8, 1; then line by line 2, 3, 4; then 4 for no node, an empty table or an empty body; 10; then table by table 5, 6, 7. */
+/* In the order in which they are looked for: 9, 11, 8, 1; then line by line 2, 3, 4; then 4 for no node, an empty table or an empty body; 10; then table by table 5, 6, 7; then 10 for a row. */
 enum tables_refusal {
     TABLES_ACCEPTED = 0,
     TABLES_BAD_HEADING = 1,      /* the first line is not exactly the heading with its line feed; line 0 */
@@ -43,7 +43,7 @@ enum tables_refusal {
     TABLES_NO_EDGE = 7,          /* an entry of an extra row ends at no column edge; the table's line */
     TABLES_TOO_LONG = 8,         /* more than 65,536 bytes, or more than 4,097 line feeds (tables_measure: bytes alone); line 0 */
     TABLES_BAD_SETTING = 9,      /* wrap above 1,000, width above 65,535, or raw above 1; line 0 */
-    TABLES_NO_TABLE = 10,        /* the line given is not a table of the sheet; line 0 */
+    TABLES_NO_TABLE = 10,        /* the line given is not a table of the sheet, or goes down or has no such row where a row of it is asked for; line 0 */
     TABLES_SHORT_BUFFER = 11     /* a lent buffer has fewer than its least places; line 0 */
 };
 
@@ -79,7 +79,28 @@ typedef struct tables_missing_result {
     uint32_t columns; /* so many causes stand in cause */
 } tables_missing_result;
 
+typedef struct tables_at_result {
+    uint32_t number, line;
+    uint32_t what;  /* TABLES_NOTHING, TABLES_GAP or TABLES_CELL */
+    uint32_t entry; /* the cell's number in the grid's order, the first is 0; 0 unless what is TABLES_CELL */
+} tables_at_result;
+
+typedef struct tables_within_result {
+    uint32_t number, line;
+    uint32_t count; /* so many numbers of cells stand in entry */
+} tables_within_result;
+
+typedef struct tables_joining_result {
+    uint32_t number, line;
+    uint32_t joint; /* TABLES_PLAIN, TABLES_UP, TABLES_DOWNWARD or TABLES_BOTH */
+} tables_joining_result;
+
 enum tables_way { TABLES_SIDEWAYS = 0, TABLES_DOWN = 1 };
+
+enum tables_what { TABLES_NOTHING = 0, TABLES_GAP = 1, TABLES_CELL = 2 };
+
+/* A gap stands in the row above, in the row below, in both or in neither. */
+enum tables_joint { TABLES_PLAIN = 0, TABLES_UP = 1, TABLES_DOWNWARD = 2, TABLES_BOTH = 3 };
 
 /* Why a column is 0 wide: the first that holds, where TABLES_PAGE comes before all others. */
 enum tables_cause {
@@ -133,6 +154,23 @@ tables_missing_result tables_missing(
     const uint8_t *sheet, size_t sheet_len, uint32_t line, uint32_t wrap, uint32_t raw, uint32_t width,
     uint32_t *entry, size_t entry_len,
     uint32_t *cause, size_t cause_len);
+
+/* Pointing into a row of a table that goes sideways. row is its number among the grid's rows, the first is 0; character columns count from 0, and may be
+ * any numbers. A gap is the one column between two printed cells; a cell that is left out has no column, and right of the last printed cell is nothing. */
+
+/* What lies at the character column x. */
+tables_at_result tables_at(
+    const uint8_t *sheet, size_t sheet_len, uint32_t line, uint32_t wrap, uint32_t raw, uint32_t width, uint32_t row, uint32_t x);
+
+/* The printed cells that lie wholly from the column from up to, and not with, the column to, left to right. For each: its number in the grid's order,
+ * with at least TABLES_MAX_ENTRIES places. */
+tables_within_result tables_within(
+    const uint8_t *sheet, size_t sheet_len, uint32_t line, uint32_t wrap, uint32_t raw, uint32_t width, uint32_t row, uint32_t from, uint32_t to,
+    uint32_t *entry, size_t entry_len);
+
+/* The joining character at the column x between the row and the next, as gaps stand above and below; below the last row stands none. */
+tables_joining_result tables_joining(
+    const uint8_t *sheet, size_t sheet_len, uint32_t line, uint32_t wrap, uint32_t raw, uint32_t width, uint32_t row, uint32_t x);
 
 #ifdef __cplusplus
 }

@@ -1,4 +1,4 @@
-// A caller in C: takes the name of an input as `layout` reads it, settings and a sheet, and shows what the six calls say of its first table.
+// A caller in C: takes the name of an input as `layout` reads it, settings and a sheet, and shows what the calls say of its first table.
 #include <stdio.h>
 #include <string.h>
 #include "tables.h"
@@ -10,6 +10,9 @@ _Static_assert(sizeof(tables_estimates_result) == 12 && offsetof(tables_estimate
 _Static_assert(sizeof(tables_grid_result) == 20 && offsetof(tables_grid_result, rows) == 8 && offsetof(tables_grid_result, columns) == 16, "tables_grid_result");
 _Static_assert(sizeof(tables_layout_result) == 20 && offsetof(tables_layout_result, way) == 8 && offsetof(tables_layout_result, width) == 16, "tables_layout_result");
 _Static_assert(sizeof(tables_missing_result) == 16 && offsetof(tables_missing_result, count) == 8 && offsetof(tables_missing_result, columns) == 12, "tables_missing_result");
+_Static_assert(sizeof(tables_at_result) == 16 && offsetof(tables_at_result, what) == 8 && offsetof(tables_at_result, entry) == 12, "tables_at_result");
+_Static_assert(sizeof(tables_within_result) == 12 && offsetof(tables_within_result, count) == 8, "tables_within_result");
+_Static_assert(sizeof(tables_joining_result) == 12 && offsetof(tables_joining_result, joint) == 8, "tables_joining_result");
 
 static uint8_t input[TABLES_MAX_BYTES + 100];
 static uint32_t size[TABLES_MAX_LINES], least[TABLES_MAX_LINES], prefix[TABLES_MAX_LINES];
@@ -76,5 +79,13 @@ int main(int argc, char **argv) {
     printf("missing: %u entries\n", k.count);
     for (uint32_t i = 0; i < k.count; i++) printf("entry %u is missing\n", entry[i]);
     for (uint32_t i = 0; i < k.columns; i++) printf("column %u: cause %u\n", i, cause[i]);
+
+    tables_at_result t = tables_at(sheet, len, line, wrap, raw, width, 0, 7);
+    if (refused(t.number, t.line)) return 1;
+    tables_within_result v = tables_within(sheet, len, line, wrap, raw, width, 0, 0, width, PLACES(entry));
+    if (refused(v.number, v.line)) return 1;
+    tables_joining_result j = tables_joining(sheet, len, line, wrap, raw, width, 0, 6);
+    if (refused(j.number, j.line)) return 1;
+    printf("row 0: at 7 %u, entry %u; within 0 to %u %u cells; joining at 6 %u\n", t.what, t.entry, width, v.count, j.joint);
     return 0;
 }

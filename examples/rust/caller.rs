@@ -1,4 +1,4 @@
-// A caller in Rust: takes the name of an input as `layout` reads it, settings and a sheet, and shows what the six calls say of its first table.
+// A caller in Rust: takes the name of an input as `layout` reads it, settings and a sheet, and shows what the calls say of its first table.
 mod tables;
 
 fn show(settings: [u32; 3], sheet: &[u8]) -> Result<(), tables::Refusal> {
@@ -35,6 +35,10 @@ fn show(settings: [u32; 3], sheet: &[u8]) -> Result<(), tables::Refusal> {
     for i in 0..columns as usize {
         println!("column {i}: cause {}", cause[i]);
     }
+    let [what, cell] = tables::at(sheet, line, settings, 0, 7)?;
+    let [cells] = tables::within(sheet, line, settings, 0, [0, settings[2]], &mut entry)?;
+    let [joint] = tables::joining(sheet, line, settings, 0, 6)?;
+    println!("row 0: at 7 {what}, entry {cell}; within 0 to {} {cells} cells; joining at 6 {joint}", settings[2]);
     Ok(())
 }
 

@@ -1,4 +1,4 @@
-//! The six calls of libtables_c.a, safe: a reference is never null and is aligned, and what is lent with `&mut` overlaps nothing, which is all that
+//! The calls of libtables_c.a, safe: a reference is never null and is aligned, and what is lent with `&mut` overlaps nothing, which is all that
 //! they ask beside 1 MB of stack. What they answer, and what the refusals mean, stands in include/tables.h.
 
 /// The least places of a lent buffer with one for each line or row, each entry, each column.
@@ -39,6 +39,9 @@ extern "C" {
     fn tables_grid(s: In, n: usize, line: u32, a: Out, al: usize, b: Out, bl: usize, c: Out, cl: usize, d: Out, dl: usize, e: Out, el: usize) -> Answer<3>;
     fn tables_layout(s: In, n: usize, line: u32, wrap: u32, raw: u32, width: u32, a: Out, al: usize, b: Out, bl: usize, c: Out, cl: usize) -> Answer<3>;
     fn tables_missing(s: In, n: usize, line: u32, wrap: u32, raw: u32, width: u32, a: Out, al: usize, b: Out, bl: usize) -> Answer<2>;
+    fn tables_at(s: In, n: usize, line: u32, wrap: u32, raw: u32, width: u32, row: u32, x: u32) -> Answer<2>;
+    fn tables_within(s: In, n: usize, line: u32, wrap: u32, raw: u32, width: u32, row: u32, from: u32, to: u32, a: Out, al: usize) -> Answer<1>;
+    fn tables_joining(s: In, n: usize, line: u32, wrap: u32, raw: u32, width: u32, row: u32, x: u32) -> Answer<1>;
 }
 
 pub fn check(s: &[u8]) -> Result<[u32; 0], Refusal> {
@@ -72,4 +75,19 @@ pub fn layout(s: &[u8], line: u32, [wrap, raw, width]: [u32; 3], [a, b, c]: [&mu
 /// count, columns; settings: wrap, raw, width; lent: entry, cause
 pub fn missing(s: &[u8], line: u32, [wrap, raw, width]: [u32; 3], [a, b]: [&mut [u32]; 2]) -> Result<[u32; 2], Refusal> {
     unsafe { tables_missing(s.as_ptr(), s.len(), line, wrap, raw, width, a.as_mut_ptr(), a.len(), b.as_mut_ptr(), b.len()) }.result()
+}
+
+/// what (0 nothing, 1 gap, 2 cell), entry; settings: wrap, raw, width
+pub fn at(s: &[u8], line: u32, [wrap, raw, width]: [u32; 3], row: u32, x: u32) -> Result<[u32; 2], Refusal> {
+    unsafe { tables_at(s.as_ptr(), s.len(), line, wrap, raw, width, row, x) }.result()
+}
+
+/// count; settings: wrap, raw, width; stretch: from, to; lent: entry
+pub fn within(s: &[u8], line: u32, [wrap, raw, width]: [u32; 3], row: u32, [from, to]: [u32; 2], a: &mut [u32]) -> Result<[u32; 1], Refusal> {
+    unsafe { tables_within(s.as_ptr(), s.len(), line, wrap, raw, width, row, from, to, a.as_mut_ptr(), a.len()) }.result()
+}
+
+/// joint (0 plain, 1 up, 2 down, 3 both); settings: wrap, raw, width
+pub fn joining(s: &[u8], line: u32, [wrap, raw, width]: [u32; 3], row: u32, x: u32) -> Result<[u32; 1], Refusal> {
+    unsafe { tables_joining(s.as_ptr(), s.len(), line, wrap, raw, width, row, x) }.result()
 }

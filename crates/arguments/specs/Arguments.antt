@@ -32,3 +32,10 @@ layoutArguments wrap raw width columns entries =
 abbrev pub missingArguments : ℕ → ℕ → ℕ → List ℕ → List ℕ → List Check
 missingArguments wrap raw width entries columns =
     settingsCheck wrap raw width ∷ check (anyShorter maxEntries entries || anyShorter maxLines columns) 11 0 ∷ []
+
+-- of the calls that point into a row; only `within` has a buffer
+abbrev pub pointingArguments : ℕ → ℕ → ℕ → List Check
+pointingArguments wrap raw width = settingsCheck wrap raw width ∷ []
+
+abbrev pub withinArguments : ℕ → ℕ → ℕ → List ℕ → List Check
+withinArguments wrap raw width entries = settingsCheck wrap raw width ∷ check (anyShorter maxEntries entries) 11 0 ∷ []

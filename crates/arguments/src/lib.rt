@@ -4,7 +4,7 @@ ghost use mathlib.Core.List.{[], _∷_};
 ghost use mathlib.Core.Bool.{_||_};
 ghost use lib.Dec.{ltb};
 ghost use Rattle.lists.specs.Limits.{maxWrap, maxWidth};
-ghost use Rattle.arguments.specs.Arguments.{anyShorter, estimatesArguments, gridArguments, layoutArguments, missingArguments};
+ghost use Rattle.arguments.specs.Arguments.{anyShorter, estimatesArguments, gridArguments, layoutArguments, missingArguments, pointingArguments, withinArguments};
 ghost use Rattle.lists.specs.Refusals.{verdictOf};
 use lists::Verdict;
 
@@ -118,6 +118,30 @@ pub fn of_missing(wrap: u32, raw: u32, width: u32, entry: usize, cause: usize) -
         };
     }
     if cause < lists::MAX_LINES {
+        return Verdict::Refused {
+            number: 11,
+            line: 0,
+        };
+    }
+    Verdict::Accepted
+}
+
+pub fn of_pointing(wrap: u32, raw: u32, width: u32) -> Verdict
+    ensures { λ r. ⌜ r ≡ verdictOf (pointingArguments wrap raw width) ⌝ }
+{
+    if settings_out(wrap, raw, width) {
+        return Verdict::Refused { number: 9, line: 0 };
+    }
+    Verdict::Accepted
+}
+
+pub fn of_within(wrap: u32, raw: u32, width: u32, listed: usize) -> Verdict
+    ensures { λ r. ⌜ r ≡ verdictOf (withinArguments wrap raw width (listed ∷ [])) ⌝ }
+{
+    if settings_out(wrap, raw, width) {
+        return Verdict::Refused { number: 9, line: 0 };
+    }
+    if listed < lists::MAX_ENTRIES {
         return Verdict::Refused {
             number: 11,
             line: 0,

@@ -1,11 +1,16 @@
--- A layout as it crosses, by its way in numbers. Assumes nothing.
+-- A layout as it crosses, by its way in numbers, and a joining character. Assumes nothing.
 use mathlib.Core.Path.{_≡_, sym, ap, _∙_}
 use Prim.Native.Nat.{ℕ}
 use Rattle.tables.specs.declared.LaidOut.{LaidOut}
 use Rattle.tables.specs.declared.LaidOut.the-variants.{Layout}
 use Rattle.widths.specs.declared.Way.{Way}
-use Rattle.tables_c.specs.Answers.{wayNumber, layoutResult}
+use Rattle.pointing.specs.declared.Joint.{Joint}
+use Rattle.preview.specs.Preview.{jointNumber}
+use Rattle.preview.specs.declared.Joined.{Joined}
+use Rattle.preview.specs.declared.Joined.the-variants.{Character}
+use Rattle.tables_c.specs.Answers.{wayNumber, layoutResult, joiningResult}
 use Rattle.tables_c.specs.declared.LayoutResult.{LayoutResult}
+use Rattle.tables_c.specs.declared.JoiningResult.{JoiningResult}
 
 -- a layout crosses with its way in numbers
 abbrev crossed : ℕ → ℕ → ℕ → LayoutResult
@@ -15,3 +20,11 @@ pub layout-crosses : {n : ℕ} {way : Way} {columns width : ℕ} {r : LaidOut} �
     n ≡ wayNumber way → r ≡ Layout way columns width → crossed n columns width ≡ layoutResult r
 unfolding layoutResult
 layout-crosses {columns = columns} {width = width} e q = ap (λ n. crossed n columns width) e ∙ sym (ap layoutResult q)
+
+-- a joining character crosses as its number
+abbrev joinedAs : ℕ → JoiningResult
+joinedAs n = record { number = 0; line = 0; joint = n }
+
+pub joint-crosses : {n : ℕ} {joint : Joint} {r : Joined} → n ≡ jointNumber joint → r ≡ Character joint → joinedAs n ≡ joiningResult r
+unfolding joiningResult
+joint-crosses e q = ap joinedAs e ∙ sym (ap joiningResult q)

@@ -15,6 +15,13 @@ use Rattle.tables.specs.declared.LaidOut.{LaidOut}
 use Rattle.tables.specs.declared.LaidOut.the-variants as laidOut
 use Rattle.missing.specs.declared.Explained.{Explained}
 use Rattle.missing.specs.declared.Explained.the-variants as explained
+use Rattle.preview.specs.Preview.{whatNumber, jointNumber}
+use Rattle.preview.specs.declared.Pointed.{Pointed}
+use Rattle.preview.specs.declared.Pointed.the-variants as pointed
+use Rattle.preview.specs.declared.Listed.{Listed}
+use Rattle.preview.specs.declared.Listed.the-variants as listed
+use Rattle.preview.specs.declared.Joined.{Joined}
+use Rattle.preview.specs.declared.Joined.the-variants as joined
 use Rattle.widths.specs.declared.Way.{Way}
 use Rattle.widths.specs.declared.Way.the-variants.{Sideways, Down}
 use Rattle.tables_c.specs.declared.CheckResult.{CheckResult}
@@ -23,6 +30,9 @@ use Rattle.tables_c.specs.declared.EstimatesResult.{EstimatesResult}
 use Rattle.tables_c.specs.declared.GridResult.{GridResult}
 use Rattle.tables_c.specs.declared.LayoutResult.{LayoutResult}
 use Rattle.tables_c.specs.declared.MissingResult.{MissingResult}
+use Rattle.tables_c.specs.declared.AtResult.{AtResult}
+use Rattle.tables_c.specs.declared.WithinResult.{WithinResult}
+use Rattle.tables_c.specs.declared.JoiningResult.{JoiningResult}
 
 unfoldable pub checkResult : Verdict → CheckResult
 checkResult verdict.Accepted = record { number = 0; line = 0 }
@@ -56,3 +66,17 @@ layoutResult (laidOut.Refused number line) = record { number = number; line = li
 unfoldable pub missingResult : Explained → MissingResult
 missingResult (explained.Causes count columns) = record { number = 0; line = 0; count = count; columns = columns }
 missingResult (explained.Refused number line) = record { number = number; line = line; count = 0; columns = 0 }
+
+unfoldable pub atResult : Pointed → AtResult
+atResult (pointed.Cell entry) = record { number = 0; line = 0; what = whatNumber (pointed.Cell entry); entry = entry }
+atResult pointed.Gap = record { number = 0; line = 0; what = whatNumber pointed.Gap; entry = 0 }
+atResult pointed.Nothing = record { number = 0; line = 0; what = whatNumber pointed.Nothing; entry = 0 }
+atResult (pointed.Refused number line) = record { number = number; line = line; what = 0; entry = 0 }
+
+unfoldable pub withinResult : Listed → WithinResult
+withinResult (listed.Entries count) = record { number = 0; line = 0; count = count }
+withinResult (listed.Refused number line) = record { number = number; line = line; count = 0 }
+
+unfoldable pub joiningResult : Joined → JoiningResult
+joiningResult (joined.Character joint) = record { number = 0; line = 0; joint = jointNumber joint }
+joiningResult (joined.Refused number line) = record { number = number; line = line; joint = 0 }

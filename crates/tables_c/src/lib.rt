@@ -1,13 +1,18 @@
-// The six calls for C and Rust: numbers, lent slices and `#[repr(C)]` structs of numbers alone. A slice crosses as a pointer and a length.
+// The nine calls for C and Rust: numbers, lent slices and `#[repr(C)]` structs of numbers alone. A slice crosses as a pointer and a length.
 ghost use mathlib.Core.Path.{_≡_};
 ghost use Rattle.lists.specs.Refusals.{verdictOf};
 ghost use Rattle.text.specs.Text.{measureOf};
 ghost use Rattle.tables.specs.Calls.{checkChecks};
 ghost use Rattle.tables.specs.Answers.{estimatedOf, forLines, EstimatesLeft, griddedOf, forEntries, forRows, GridLeft, laidOutOf, forColumns, forPlaces, LayoutLeft};
 ghost use Rattle.missing.specs.Missing.{explainedOf, forOne, MissingLeft};
-ghost use Rattle.tables_c.specs.Answers.{checkResult, asImg, measureResult, estimatesResult, gridResult, wayNumber, layoutResult, missingResult};
+ghost use Rattle.preview.specs.Preview.{pointedOf, listedOf, forOne as forListed, WithinLeft, joinedOf, jointNumber};
+ghost use Rattle.tables_c.specs.Answers.{checkResult, asImg, measureResult, estimatesResult, gridResult, wayNumber, layoutResult, missingResult, atResult, withinResult, joiningResult};
 use lists::Verdict;
 use missing::Explained;
+use pointing::Joint;
+use preview::Joined;
+use preview::Listed;
+use preview::Pointed;
 use tables::Estimated;
 use tables::Gridded;
 use tables::LaidOut;
@@ -62,6 +67,30 @@ pub struct MissingResult {
     pub line: u32,
     pub count: u32,
     pub columns: u32,
+}
+
+// what: 0 nothing, 1 gap, 2 cell; entry is 0 unless it is a cell.
+#[repr(C)]
+pub struct AtResult {
+    pub number: u32,
+    pub line: u32,
+    pub what: u32,
+    pub entry: u32,
+}
+
+#[repr(C)]
+pub struct WithinResult {
+    pub number: u32,
+    pub line: u32,
+    pub count: u32,
+}
+
+// joint: 0 plain, 1 up, 2 down, 3 both.
+#[repr(C)]
+pub struct JoiningResult {
+    pub number: u32,
+    pub line: u32,
+    pub joint: u32,
 }
 
 // Whether a sheet is accepted.
@@ -245,6 +274,116 @@ pub extern "C" fn tables_missing(
             line: at,
             count: 0,
             columns: 0,
+        },
+    }
+}
+
+// What lies at a character column of a row.
+#[no_mangle]
+pub extern "C" fn tables_at(
+    sheet: &[u8],
+    line: u32,
+    wrap: u32,
+    raw: u32,
+    width: u32,
+    row: u32,
+    x: u32,
+) -> AtResult
+    ensures { λ r. ⌜ r ≡ atResult (pointedOf (now (sheet .entry)) line wrap raw width row x) ⌝ }
+{
+    match preview::at(sheet, line, wrap, raw, width, row, x) {
+        Pointed::Cell { entry } => AtResult {
+            number: 0,
+            line: 0,
+            what: 2,
+            entry,
+        },
+        Pointed::Gap => AtResult {
+            number: 0,
+            line: 0,
+            what: 1,
+            entry: 0,
+        },
+        Pointed::Nothing => AtResult {
+            number: 0,
+            line: 0,
+            what: 0,
+            entry: 0,
+        },
+        Pointed::Refused { number, line: at } => AtResult {
+            number,
+            line: at,
+            what: 0,
+            entry: 0,
+        },
+    }
+}
+
+// The printed cells of a row that lie wholly in a stretch of character columns.
+#[no_mangle]
+pub extern "C" fn tables_within(
+    sheet: &[u8],
+    line: u32,
+    wrap: u32,
+    raw: u32,
+    width: u32,
+    row: u32,
+    from: u32,
+    to: u32,
+    entry: &mut [u32],
+) -> WithinResult
+    ensures { λ r. ⌜ r ≡ withinResult (listedOf (now (sheet .entry)) line wrap raw width row from to (forListed (now (entry .entry)))) ⌝ }
+    ensures { λ _. ⌜ WithinLeft (now (sheet .entry)) line wrap raw width row from to (now (entry .entry)) (now (entry .exit)) ⌝ }
+{
+    match preview::within(sheet, line, wrap, raw, width, row, from, to, entry) {
+        Listed::Entries { count } => WithinResult {
+            number: 0,
+            line: 0,
+            count,
+        },
+        Listed::Refused { number, line: at } => WithinResult {
+            number,
+            line: at,
+            count: 0,
+        },
+    }
+}
+
+// A joining character in numbers.
+fn joint_number(joint: Joint) -> u32
+    ensures { λ r. ⌜ r ≡ jointNumber joint ⌝ }
+{
+    match joint {
+        Joint::Plain => 0,
+        Joint::Up => 1,
+        Joint::Down => 2,
+        Joint::Both => 3,
+    }
+}
+
+// The joining character at a character column between a row and the next.
+#[no_mangle]
+pub extern "C" fn tables_joining(
+    sheet: &[u8],
+    line: u32,
+    wrap: u32,
+    raw: u32,
+    width: u32,
+    row: u32,
+    x: u32,
+) -> JoiningResult
+    ensures { λ r. ⌜ r ≡ joiningResult (joinedOf (now (sheet .entry)) line wrap raw width row x) ⌝ }
+{
+    match preview::joining(sheet, line, wrap, raw, width, row, x) {
+        Joined::Character(joint) => JoiningResult {
+            number: 0,
+            line: 0,
+            joint: joint_number(joint),
+        },
+        Joined::Refused { number, line: at } => JoiningResult {
+            number,
+            line: at,
+            joint: 0,
         },
     }
 }

@@ -1,0 +1,3 @@
+-- A row of a table's grid, and where it stands.
+pub mod Rows
+pub mod inner
