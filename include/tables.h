@@ -31,7 +31,7 @@
 #define TABLES_MAX_WIDTH 65535    /* largest width */
 #define TABLES_STACK 800000       /* bytes of stack that are enough for any call */
 
-/* In the order in which they are looked for: 9, 11, 8, 1; then line by line 2, 3, 4; then 4 for no node, an empty table or an empty body; 10; then table by table 5, 6, 7; then 10 for a row. */
+/* In the order in which they are looked for: 9, 11, 8, 1; then line by line 2, 3, 13, 14, 4; then 4 for no node, an empty table or an empty body; 10; then table by table 5, 6, 7; then 10 for a row. */
 enum tables_refusal {
     TABLES_ACCEPTED = 0,
     TABLES_BAD_HEADING = 1,      /* the first line is not exactly the heading with its line feed; line 0 */
@@ -44,7 +44,9 @@ enum tables_refusal {
     TABLES_TOO_LONG = 8,         /* more than 65,536 bytes, or more than 4,097 line feeds (tables_measure: bytes alone); line 0 */
     TABLES_BAD_SETTING = 9,      /* wrap above 1,000, width above 65,535, or raw above 1; line 0 */
     TABLES_NO_TABLE = 10,        /* the line given is not a table of the sheet, or goes down or has no such row where a row of it is asked for; line 0 */
-    TABLES_SHORT_BUFFER = 11     /* a lent buffer has fewer than its least places; line 0 */
+    TABLES_SHORT_BUFFER = 11,    /* a lent buffer has fewer than its least places; line 0 */
+    TABLES_NO_SUM = 13,          /* the text of a calc is not a sum; the line */
+    TABLES_OUT_OF_BOUNDS = 14    /* a divisor of zero, or a step outside plus or minus 1,000,000,000,000; the line */
 };
 
 typedef struct tables_check_result {

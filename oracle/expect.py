@@ -5,7 +5,7 @@
 
 HARNESS is the program that build.sh makes. Each answer stands behind a line
 `case K`, K from 1. A refusal is `refusal line` and `NUMBER LINE`: 9, 8, 1, 2,
-3, 4 from refusals.py, 5, 6, 7 from the harness. An accepted case has the
+3, 13, 14, 4 from refusals.py, 5, 6, 7 from the harness. An accepted case has the
 harness's `--full` text: what `layout` prints, then every line's estimate, then
 every grid. A `text` frame has `size least prefix` and the three figures.
 
@@ -54,12 +54,20 @@ def stacked(answer):
     return TABLE.sub(again, answer)
 
 
+CALC = re.compile(rb"(?m)^(\d+) calc 0 0 0 ([^\n]*)$")
+
+
+def worked_out(data):
+    """A case with every sum's figure as a text, which is what the Rust is handed."""
+    return CALC.sub(lambda found: b"%s text 0 0 0 %d" % (found[1], refusals.worth(found[2])), data)
+
+
 def ask(harness, frames):
     """The harness's answers to frames that refusals.py lets pass, in order."""
     sheets, texts = io.BytesIO(), io.BytesIO()
     for frame in frames:
         if len(frame) == 1:
-            cases.write_frame(sheets, frame[0])
+            cases.write_frame(sheets, worked_out(frame[0]))
         else:
             cases.write_text(texts, *frame)
     harness = os.path.abspath(harness)

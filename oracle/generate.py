@@ -8,6 +8,7 @@ KIND: small     well-formed sheets of a few to about a hundred lines
       damaged   settings and sheets with faults for refusals 9, 8, 1, 2, 3, 4
       texts     sheets of many texts, all text bytes
       measures  single texts for the measure (`text` frames, byte 10 too)
+      totals    small, with sums (kind calc) among the texts
 Case number k (from 1) of a kind depends on KIND, SEED and k alone; FIRST
 (default 1) begins at a later one, so that one case can be made again.
 """
@@ -854,10 +855,47 @@ def damaged(dice, k):
     return parts.join()
 
 
+# ---------------------------------------------------------------------- sums
+
+def some_number(dice):
+    digits = dice.pick([1, 1, 1, 2, 2, 3, 4, 6, 9])
+    return b"".join(b"%d" % dice.below(10) for _ in range(digits))
+
+
+def some_sum(dice, deep):
+    """An expression: mostly one that has a value."""
+    parts = [some_number(dice) if deep == 0 or dice.chance(60) else b"(" + some_sum(dice, deep - 1) + b")"]
+    for _ in range(dice.pick([0, 1, 1, 2, 3])):
+        parts.append(dice.pick([b"+", b"-", b"*", b"/"]))
+        parts.append(some_number(dice) if deep == 0 or dice.chance(70) else b"(" + some_sum(dice, deep - 1) + b")")
+    return b"".join(parts)
+
+
+def broken_sum(dice):
+    text = some_sum(dice, 2)
+    at = dice.below(len(text) + 1)
+    return dice.pick([
+        b"", b" ", b"1 ", b"+1", b"-1", b"1+", b"()", b"(1", b"1)", b"2*-3", b"1.5", b"1/0", b"1/0+", b"0*(1/0)", b"7/(2-2)",
+        b"1234567890", b"0000000001", b"1000000*1000000", b"1000000*1000000+1", b"0-1000000*1000000", b"0-1000000*1000000-1",
+        b"(" * 32 + b"1" + b")" * 32, b"(" * 33 + b"1" + b")" * 33, b"999999999*999999999",
+        text[:at] + dice.pick([b"(", b")", b"+", b"/", b" ", b"x", b"\r", b"0"]) + text[at:], text[:at] + text[at + 1:]])
+
+
+def totals(dice):
+    """A small sheet, some of whose texts are sums."""
+    lines = small(dice).split(b"\n")
+    for i in range(2, len(lines)):
+        parts = lines[i].split(b" ", 5)
+        if len(parts) == 6 and parts[1] in (b"text", b"img", b"svg", b"break", b"frag") and dice.chance(50):
+            text = some_sum(dice, dice.pick([0, 1, 2, 3])) if dice.chance(93) else broken_sum(dice)
+            lines[i] = parts[0] + b" calc 0 0 0 " + text
+    return b"\n".join(lines)
+
+
 # ----------------------------------------------------------------------- main
 
 MAKERS = {"small": lambda dice, k: small(dice), "limits": limits, "damaged": damaged,
-          "texts": lambda dice, k: texts(dice), "measures": lambda dice, k: one_text(dice)}
+          "texts": lambda dice, k: texts(dice), "measures": lambda dice, k: one_text(dice), "totals": lambda dice, k: totals(dice)}
 
 
 def make(kind, seed, k):

@@ -1,4 +1,4 @@
-"""Refusals 9, 8, 1, 2, 3 and 4 as docs/FORMAT.md states them, in its order.
+"""Refusals 9, 8, 1, 2, 3, 13, 14 and 4 as docs/FORMAT.md states them, in its order.
 
     refusals.py < CASE      prints `NUMBER LINE`, or nothing
 
@@ -12,9 +12,10 @@ import re
 import sys
 
 KINDS = ("text img svg container link em strong strike code block head div quote ul ol dl dt dd "
-         "break table body row cell frag item sup").split()
-WITH_TEXT = ("text", "img", "svg")
-WITHOUT_CHILDREN = ("text", "img", "svg", "break", "frag")
+         "break table body row cell frag item sup calc").split()
+WITH_TEXT = ("text", "img", "svg", "calc")
+WITHOUT_CHILDREN = WITH_TEXT + ("break", "frag")
+MOST = 10 ** 12         # of a step of a sum, with either sign
 
 # No leading zero, no plus, a minus only before a nonzero number.
 NUMBER = re.compile(rb"0|-?[1-9][0-9]*")
@@ -71,6 +72,60 @@ def fields(line):
     return (depth, kind, n, cols, rows, text) if sound else None
 
 
+def closing(text, start):
+    """The place of the bracket that closes the one at start, or None."""
+    open_now = 0
+    for i in range(start, len(text)):
+        open_now += (text[i:i + 1] == b"(") - (text[i:i + 1] == b")")
+        if open_now == 0:
+            return i
+    return None
+
+
+def last_outside(text, signs):
+    """The place of the last of the signs that stands outside all brackets, or None."""
+    found, i = None, 0
+    while i < len(text):
+        if text[i:i + 1] == b"(":
+            i = closing(text, i)
+            if i is None:
+                return None
+        elif text[i:i + 1] in signs:
+            found = i
+        i += 1
+    return found
+
+
+def is_sum(text, brackets=32):
+    """True if a text is an expression: split at the last sign that binds least."""
+    for signs in ((b"+", b"-"), (b"*", b"/")):
+        at = last_outside(text, signs)
+        if at is not None:
+            return is_sum(text[:at], brackets) and is_sum(text[at + 1:], brackets)
+    if text[:1] == b"(":
+        return brackets > 0 and closing(text, 0) == len(text) - 1 and is_sum(text[1:-1], brackets - 1)
+    return re.fullmatch(rb"[0-9]{1,9}", text) is not None
+
+
+def worth(text):
+    """The value of an expression, or None if a divisor is 0 or a step is out of bounds."""
+    for signs in ((b"+", b"-"), (b"*", b"/")):
+        at = last_outside(text, signs)
+        if at is not None:
+            left, right = worth(text[:at]), worth(text[at + 1:])
+            if left is None or right is None:
+                return None
+            sign = text[at:at + 1]
+            if sign == b"/":
+                if right == 0:
+                    return None
+                value = abs(left) // abs(right) * (1 if (left < 0) == (right < 0) else -1)
+            else:
+                value = {b"+": left + right, b"-": left - right, b"*": left * right}[sign]
+            return value if -MOST <= value <= MOST else None
+    return worth(text[1:-1]) if text[:1] == b"(" else int(text)
+
+
 def nesting(depth, kind, ancestors):
     """True if a line may stand here. ancestors: the kinds on the way from line 1
     to the previous line, that one included; empty on line 1."""
@@ -106,6 +161,10 @@ def sheet_answer(sheet):
         depth, kind, n, cols, rows, text = found
         if any(byte > 130 for byte in text):
             return (3, k)
+        if kind == "calc" and not is_sum(text):
+            return (13, k)
+        if kind == "calc" and worth(text) is None:
+            return (14, k)
         if not nesting(depth, kind, ancestors):
             return (4, k)
         if depth > 0:

@@ -13,6 +13,7 @@ ghost use Rattle.estimates.specs.Sheet.{lineAt};
 ghost use Rattle.estimates.specs.Meets.{Lent, Measured};
 ghost use Rattle.estimates.specs.inner.Figures.{figuresOf};
 ghost use Rattle.estimates.specs.inner.Cycle.{NodeReady, Plain, Holder, FilledAt, NodeMeets, CellMeets, TableMeets};
+use line::kinds::is_leaf;
 
 // What the lines below a line come to: the line after them, size and least width, and how many children there are.
 pub struct Part {
@@ -36,7 +37,7 @@ fn node(
     ensures { λ r. ⌜ NodeMeets wrap (keptsOf (now (lines .entry))) (figuresOf (now (figures .entry))) (figuresOf (now (figures .exit))) at r ⌝ }
 {
     let line = records::kept_at(lines, at);
-    if single::is_leaf(line.kind) {
+    if is_leaf(line.kind) {
         let e = single::leaf(line, wrap);
         packed::put_estimate(figures, at, e);
         at + 1
@@ -143,7 +144,7 @@ fn cell(
         if line.depth <= top.depth {
             break;
         }
-        if single::is_leaf(line.kind) {
+        if is_leaf(line.kind) {
             // most children are texts, which need no call of `node`
             let e = single::leaf(line, wrap);
             packed::put_estimate(figures, i, e);

@@ -6,7 +6,7 @@ use Prim.Native.Nat.{ℕ, zero, suc}
 use Prim.Native.Char.{code}
 use Prim.Native.String.{String, len, charAt}
 use lib.ListN.{length}
-use Rattle.line.specs.Kinds.{textKind, imgKind, svgKind, linkKind, headKind, quoteKind, ulKind, olKind, ddKind, breakKind, tableKind, bodyKind, rowKind, cellKind, fragKind, kindNames, kindCount, same, place, kindOf}
+use Rattle.line.specs.Kinds.{textKind, imgKind, svgKind, linkKind, headKind, quoteKind, ulKind, olKind, ddKind, breakKind, tableKind, bodyKind, rowKind, cellKind, fragKind, calcKind, kindNames, kindCount, same, place, kindOf}
 use Rattle.line.specs.Lines.{heading, headingBytes, feed}
 
 -- the codes of the first n characters of a text, and of all
@@ -21,15 +21,15 @@ names-are :
     kindNames
     ≡ word "text" ∷ word "img" ∷ word "svg" ∷ word "container" ∷ word "link" ∷ word "em" ∷ word "strong" ∷ word "strike" ∷ word "code" ∷ word "block"
     ∷ word "head" ∷ word "div" ∷ word "quote" ∷ word "ul" ∷ word "ol" ∷ word "dl" ∷ word "dt" ∷ word "dd" ∷ word "break" ∷ word "table" ∷ word "body"
-    ∷ word "row" ∷ word "cell" ∷ word "frag" ∷ word "item" ∷ word "sup" ∷ []
+    ∷ word "row" ∷ word "cell" ∷ word "frag" ∷ word "item" ∷ word "sup" ∷ word "calc" ∷ []
 unfolding firstCodes
 names-are = refl
 
 kinds-are :
     map kindOf
     (word "text" ∷ word "img" ∷ word "svg" ∷ word "link" ∷ word "head" ∷ word "quote" ∷ word "ul" ∷ word "ol" ∷ word "dd" ∷ word "break" ∷ word "table"
-    ∷ word "body" ∷ word "row" ∷ word "cell" ∷ word "frag" ∷ [])
-    ≡ textKind ∷ imgKind ∷ svgKind ∷ linkKind ∷ headKind ∷ quoteKind ∷ ulKind ∷ olKind ∷ ddKind ∷ breakKind ∷ tableKind ∷ bodyKind ∷ rowKind ∷ cellKind ∷ fragKind ∷ []
+    ∷ word "body" ∷ word "row" ∷ word "cell" ∷ word "frag" ∷ word "calc" ∷ [])
+    ≡ textKind ∷ imgKind ∷ svgKind ∷ linkKind ∷ headKind ∷ quoteKind ∷ ulKind ∷ olKind ∷ ddKind ∷ breakKind ∷ tableKind ∷ bodyKind ∷ rowKind ∷ cellKind ∷ fragKind ∷ calcKind ∷ []
 unfolding firstCodes kindOf place same
 kinds-are = refl
 

@@ -13,13 +13,13 @@ use Rattle.lists.specs.Refusals.{first}
 use Rattle.records.specs.Kept.{keptsOf, keptCount}
 use Rattle.records.proofs.Kepts.{length-kepts}
 use Rattle.line.specs.Lines.{Piece, feeds, pieces, headed, nodePieces, headingBytes}
-use Rattle.line.specs.Fields.{Line, noLine, Read, readLine, isUnread, hasBadByte, orNone}
+use Rattle.line.specs.Fields.{Line, noLine, Read, readLine, isUnread, hasBadByte, notExpression, outOfBounds, orNone}
 use Rattle.line.specs.LineAt.{pieceAt, nodeOf, lineIn, lineAt}
 use Rattle.line.proofs.Pieces.{pieces-at, pieces-end, feeds-at}
 use Rattle.line.proofs.Told.{good-line}
 use Rattle.line.specs.declared.Node.{Node}
 use Rattle.line.specs.declared.LineRead.{LineRead}
-use Rattle.line.specs.declared.LineRead.the-variants.{Good, BadFields, BadByte}
+use Rattle.line.specs.declared.LineRead.the-variants.{Good, BadFields, BadByte, NotExpression, OutOfBounds}
 use Rattle.sheet.specs.Nesting.{misplaced}
 use Rattle.sheet.specs.Sheet.{linesChecks, linesOf, sheetLines, sheetChecks}
 use Rattle.sheet.specs.Reading.{readingOf, keptOf}
@@ -73,11 +73,17 @@ pub record NextLine (s : List ℕ) (at n : ℕ) (v : Node) : Type 0 where
 
 -- what the judgement of a line tells
 
+-- the answer for a line, from the tests for 2, 3, 13 and 14
+abbrev answered : Bool → Bool → Bool → Bool → Node → LineRead
+answered u y x z w = cond u BadFields (cond y BadByte (cond x NotExpression (cond z OutOfBounds (Good w))))
+
 module _ (chain : List ℕ) (n previous : ℕ) where
   told-good : (r : LineRead) (v : Node) → judgementOf chain n previous r ≡ Sound v → (r ≡ Good v) × (breaksNesting chain n previous (v .depth) (v .kind) ≡ false)
   unfolding judgementOf
   told-good BadFields v e = let z : _≡_ {A = ℕ} 0 1 = cc in absurd (omega arith)
   told-good BadByte v e = let z : _≡_ {A = ℕ} 0 1 = cc in absurd (omega arith)
+  told-good NotExpression v e = let z : _≡_ {A = ℕ} 0 1 = cc in absurd (omega arith)
+  told-good OutOfBounds v e = let z : _≡_ {A = ℕ} 0 1 = cc in absurd (omega arith)
   told-good (Good w) v e = at (breaksNesting chain n previous (w .depth) (w .kind)) refl e
     where
       at : (m : Bool) → breaksNesting chain n previous (w .depth) (w .kind) ≡ m → cond m (Faulty 4) (Sound w) ≡ Sound v
@@ -85,27 +91,38 @@ module _ (chain : List ℕ) (n previous : ℕ) where
       at true q e = let z : _≡_ {A = ℕ} 0 1 = cc in absurd (omega arith)
       at false q e = let f : w ≡ v = cc in (ap Good f, rw f at q)
 
-  told-faulty : (u y m : Bool) (w : Node) (x : Reading) (k line : ℕ) → breaksNesting chain n previous (w .depth) (w .kind) ≡ m
-      → judgementOf chain n previous (cond u BadFields (cond y BadByte (Good w))) ≡ Faulty k
-      → cond u (Refused 2 line) (cond y (Refused 3 line) (cond m (Refused 4 line) x)) ≡ Refused k line
+  told-faulty : (u y x z m : Bool) (w : Node) (r : Reading) (k line : ℕ) → breaksNesting chain n previous (w .depth) (w .kind) ≡ m
+      → judgementOf chain n previous (answered u y x z w) ≡ Faulty k
+      → cond u (Refused 2 line) (cond y (Refused 3 line) (cond x (Refused 13 line) (cond z (Refused 14 line) (cond m (Refused 4 line) r)))) ≡ Refused k line
   unfolding judgementOf
-  told-faulty true y m w x k line q e = let f : 2 ≡ k = cc in rw f
-  told-faulty false true m w x k line q e = let f : 3 ≡ k = cc in rw f
-  told-faulty false false true w x k line q e =
+  told-faulty true y x z m w r k line q e = let f : 2 ≡ k = cc in rw f
+  told-faulty false true x z m w r k line q e = let f : 3 ≡ k = cc in rw f
+  told-faulty false false true z m w r k line q e = let f : 13 ≡ k = cc in rw f
+  told-faulty false false false true m w r k line q e = let f : 14 ≡ k = cc in rw f
+  told-faulty false false false false true w r k line q e =
       let g : cond (breaksNesting chain n previous (w .depth) (w .kind)) (Faulty 4) (Sound w) ≡ Faulty k = e in
       let g′ : Faulty 4 ≡ Faulty k = rw q at g in
       let f : 4 ≡ k = cc in
       rw f
-  told-faulty false false false w x k line q e =
+  told-faulty false false false false false w r k line q e =
       let g : cond (breaksNesting chain n previous (w .depth) (w .kind)) (Faulty 4) (Sound w) ≡ Faulty k = e in
       let g′ : Sound w ≡ Faulty k = rw q at g in
       let z : _≡_ {A = ℕ} 0 1 = cc in
       absurd (omega arith)
 
-told-line : (u y : Bool) (w v : Node) → cond u BadFields (cond y BadByte (Good w)) ≡ Good v → (u ≡ false) × (y ≡ false) × (w ≡ v)
-told-line true y w v e = let z : _≡_ {A = ℕ} 0 1 = cc in absurd (omega arith)
-told-line false true w v e = let z : _≡_ {A = ℕ} 0 1 = cc in absurd (omega arith)
-told-line false false w v e = (refl, refl, cc)
+record Fair (u y x z : Bool) (w v : Node) : Type 0 where
+  fields : u ≡ false
+  bytes : y ≡ false
+  sum : x ≡ false
+  bounds : z ≡ false
+  same : w ≡ v
+
+told-line : (u y x z : Bool) (w v : Node) → answered u y x z w ≡ Good v → Fair u y x z w v
+told-line true y x z w v e = let z : _≡_ {A = ℕ} 0 1 = cc in absurd (omega arith)
+told-line false true x z w v e = let z : _≡_ {A = ℕ} 0 1 = cc in absurd (omega arith)
+told-line false false true z w v e = let z : _≡_ {A = ℕ} 0 1 = cc in absurd (omega arith)
+told-line false false false true w v e = let z : _≡_ {A = ℕ} 0 1 = cc in absurd (omega arith)
+told-line false false false false w v e = record { fields = refl; bytes = refl; sum = refl; bounds = refl; same = cc }
 
 module _ {s a b chain : List ℕ} {previous at n : ℕ} (t : ReadingLoop s a b chain previous at n) (h : at < length s) where
   here : Line
@@ -125,8 +142,10 @@ module _ {s a b chain : List ℕ} {previous at n : ℕ} (t : ReadingLoop s a b c
   asked : readingOf s ≡
       cond (isUnread (readLine (pieceAt s at))) (Refused 2 (suc n))
       (cond (hasBadByte (readLine (pieceAt s at))) (Refused 3 (suc n))
+      (cond (notExpression (readLine (pieceAt s at))) (Refused 13 (suc n))
+      (cond (outOfBounds (readLine (pieceAt s at))) (Refused 14 (suc n))
       (cond (misplaced (earlier n (sheetLines s)) here) (Refused 4 (suc n))
-      (first Refused (Lines (length (sheetLines s))) (linesChecks (suc (suc n)) (here ∷ earlier n (sheetLines s)) after ++ endChecks (sheetLines s)))))
+      (first Refused (Lines (length (sheetLines s))) (linesChecks (suc (suc n)) (here ∷ earlier n (sheetLines s)) after ++ endChecks (sheetLines s)))))))
   unfolding here linesChecks first
   asked = t .answer ∙ rw rest
 
@@ -139,9 +158,16 @@ module _ {s a b chain : List ℕ} {previous at n : ℕ} (t : ReadingLoop s a b c
   turns-refuse k e =
       sym
       (asked
-      ∙ told-faulty chain n previous (isUnread (readLine (pieceAt s at))) (hasBadByte (readLine (pieceAt s at))) (misplaced (earlier n (sheetLines s)) here)
+      ∙ told-faulty chain n previous (isUnread (readLine (pieceAt s at))) (hasBadByte (readLine (pieceAt s at)))
+      (notExpression (readLine (pieceAt s at))) (outOfBounds (readLine (pieceAt s at))) (misplaced (earlier n (sheetLines s)) here)
       (nodeOf at (pieceAt s at) here) _ k (suc n) broken e
       ∙ ap (λ (i : ℕ). Refused k i) (sym (add-one n)))
+
+  read-fair : (v : Node) → lineAt s at ≡ Good v
+      → Fair (isUnread (readLine (pieceAt s at))) (hasBadByte (readLine (pieceAt s at))) (notExpression (readLine (pieceAt s at)))
+      (outOfBounds (readLine (pieceAt s at))) (nodeOf at (pieceAt s at) here) v
+  unfolding here lineAt lineIn
+  read-fair v g = told-line _ _ _ _ (nodeOf at (pieceAt s at) here) v g
 
   earlier-here : earlier (n + 1) (sheetLines s) ≡ here ∷ earlier n (sheetLines s)
   unfolding earlier
@@ -153,14 +179,14 @@ module _ {s a b chain : List ℕ} {previous at n : ℕ} (t : ReadingLoop s a b c
     unfolding here after lineAt lineIn
     more =
         let g = good-line s at (nodeOf at (pieceAt s at) here) good in
-        let (u, y, q) = told-line (isUnread (readLine (pieceAt s at))) (hasBadByte (readLine (pieceAt s at))) (nodeOf at (pieceAt s at) here) (nodeOf at (pieceAt s at) here) good in
+        let f = read-fair (nodeOf at (pieceAt s at) here) good in
         record {
           within = g .inside;
           place = sym (drop-here (pieceAt s at) (nodePieces s) n (pieceAt s at) after rest .2) ∙ ap (λ (m : ℕ). drop m (nodePieces s)) (sym (add-one n));
           count = omega (arith, line-here .0);
           few = omega (arith, feeds-at s at (g .ended), t .few);
           linked = rw earlier-here (linked-more (t .linked) here (piece-ranged (pieceAt s at) .0 .deep));
-          answer = asked ∙ rw (u, y, sym broken ∙ fits, earlier-here, ← drop-here (pieceAt s at) (nodePieces s) n (pieceAt s at) after rest .2, add-one n);
+          answer = asked ∙ rw (f .fields, f .bytes, f .sum, f .bounds, sym broken ∙ fits, earlier-here, ← drop-here (pieceAt s at) (nodePieces s) n (pieceAt s at) after rest .2, add-one n);
           stored =
               stored-more (sheetLines s) n (keptOf here) (keptsOf b) (keptsOf c) (t .stored) (line-here .0) (omega (arith, length-kepts b, t .same)) p (ap keptOf (sym (line-here .1)));
           same = same ∙ t .same;
@@ -173,7 +199,7 @@ module _ {s a b chain : List ℕ} {previous at n : ℕ} (t : ReadingLoop s a b c
   unfolding here lineAt lineIn
   as-read v G e k =
       let (g, f) = told-good chain n previous (lineAt s at) v e in
-      let (u, y, q) = told-line (isUnread (readLine (pieceAt s at))) (hasBadByte (readLine (pieceAt s at))) (nodeOf at (pieceAt s at) here) v g in
+      let q = read-fair v g .same in
       subst G q (k (rw (sym q) at g) (rw (sym q) at f))
 
   pub turns-next : (v : Node) → judgementOf chain n previous (lineAt s at) ≡ Sound v → NextLine s at n v

@@ -16,7 +16,7 @@ use Rattle.line.specs.Lines.{feeds, headed}
 use Rattle.line.specs.Fields.{Line}
 use Rattle.line.specs.declared.Node.{Node}
 use Rattle.line.specs.declared.LineRead.{LineRead}
-use Rattle.line.specs.declared.LineRead.the-variants.{Good, BadFields, BadByte}
+use Rattle.line.specs.declared.LineRead.the-variants.{Good, BadFields, BadByte, NotExpression, OutOfBounds}
 use Rattle.sheet.specs.Sheet.{isEmpty, emptyChecks}
 use Rattle.sheet.specs.declared.Reading.{Reading}
 use Rattle.sheet.specs.declared.Reading.the-variants.{Lines, Refused}
@@ -35,10 +35,12 @@ breaksNesting chain lines previous depth kind =
     cond (eqb lines 0) (not (eqb depth 0 && not (isFrame kind)))
     (not ((leb 1 depth && leb depth (previous + 1)) && mayHold (getD chain (depth - 1) 0) kind))
 
--- 2, 3 or 4, or the line
+-- 2, 3, 13, 14 or 4, or the line
 unfoldable pub judgementOf : List ℕ → ℕ → ℕ → LineRead → Judgement
 judgementOf chain lines previous BadFields = Faulty 2
 judgementOf chain lines previous BadByte = Faulty 3
+judgementOf chain lines previous NotExpression = Faulty 13
+judgementOf chain lines previous OutOfBounds = Faulty 14
 judgementOf chain lines previous (Good n) = cond (breaksNesting chain lines previous (n .depth) (n .kind)) (Faulty 4) (Sound n)
 
 -- the figures that are kept of a line that was read

@@ -27,7 +27,7 @@ pub enum Judgement {
     Faulty(u32),
 }
 
-// The line that starts at a place, judged after the lines before it: 2, 3, 4.
+// The line that starts at a place, judged after the lines before it: 2, 3, 13, 14, 4.
 fn judge(
     classes: &[u8],
     bytes: &[u8],
@@ -43,6 +43,8 @@ fn judge(
     match cursor::line_from(classes, bytes, at) {
         LineRead::BadFields => Judgement::Faulty(2),
         LineRead::BadByte => Judgement::Faulty(3),
+        LineRead::NotExpression => Judgement::Faulty(13),
+        LineRead::OutOfBounds => Judgement::Faulty(14),
         LineRead::Good(node) => {
             if nesting::misplaced(chain, lines, previous, node.depth, node.kind) {
                 return Judgement::Faulty(4);

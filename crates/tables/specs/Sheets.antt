@@ -9,6 +9,11 @@ use Rattle.text.specs.Bytes.{classOf}
 use Rattle.text.specs.Text.{textSize, readable, trimStart, trimEnd, widths, runs, begins}
 use Rattle.text.specs.Decimal.{shifted, writing, digits, digitsIn}
 use Rattle.text.specs.Prefix.{lastNumber, olPrefix}
+use Rattle.sums.specs.Tree.{result, both}
+use Rattle.sums.specs.Grammar.{digit}
+use Rattle.sums.specs.Machine.{total, wanted, operator, inner, opened, closed, step, finish, run}
+use Rattle.sums.specs.Answers.{answerBy, answerOf}
+use Rattle.calc.specs.Measures.{written, measureBy, measureOf}
 use Rattle.line.specs.Kinds.{same, place, kindOf, mayHold}
 use Rattle.line.specs.Lines.{feed, feeds, pieces, headed}
 use Rattle.line.specs.Names.{word, firstCodes}
@@ -25,13 +30,14 @@ use Rattle.rows.specs.Row.{fillers, later, rowFrom, hangOf, nexts}
 use Rattle.extras.specs.Extras.{leastLeft, extrasIn, extras, entryCount}
 use Rattle.positions.specs.Positions.{originals, hangBelow, endsPast}
 use Rattle.grid.specs.Grid.{endsOf, entriesFrom, longest, gridOf, columnsOf, tableChecks, tableRows, tablesChecks}
-use Rattle.estimates.specs.Estimates.{measured, estimateOf, leafOf, holderOf, gather, prefixOf, boxOf, tabled}
+use Rattle.estimates.specs.Estimates.{estimate, estimates, measured, estimateOf, leafOf, holderOf, gather, prefixOf, boxOf, tabled}
 use Rattle.cutting.specs.Cut.{pick, cutOnce, cutBy, cut}
 use Rattle.widths.specs.Share.{share, sharesOf}
 use Rattle.widths.specs.Widths.{wayOf, finalWidths, nonzero, tableWidth}
 use Rattle.placing.specs.Place.{at, placeSide, placeDown, placeRow, placeRows}
 use Rattle.lists.specs.declared.Verdict.the-variants.{Accepted, Refused}
 use Rattle.widths.specs.declared.Way.the-variants.{Sideways, Down}
+use Rattle.opening.specs.Opening.{keptLines}
 use Rattle.finding.specs.Figures.{columnsAt, wayAt, widthsAt, widthAt, placesAt}
 use Rattle.tables.specs.Calls.{checkChecks}
 
@@ -75,7 +81,11 @@ survey =
     ++ line "4 link 0 0 0 "
     ++ line "5 text 0 0 0 see"
 
--- what holds of the example at wrap 3 and width 9, and of the survey at wrap 3 and several widths
+-- a sum by itself
+abbrev pub reckoned : String → List ℕ
+reckoned text = line "depth kind n cols rows text" ++ word "0 calc 0 0 0 " ++ line text
+
+-- what holds of the example at wrap 3 and width 9, of the survey at wrap 3 and several widths, and of sums
 pub record Traced : Type 0 where
   -- it is accepted
   pub example-accepted : verdictOf (checkChecks example) ≡ Accepted
@@ -99,9 +109,16 @@ pub record Traced : Type 0 where
   pub survey-down-at-12 : wayAt survey 1 3 0 12 ≡ Down
   -- every entry at width 23, extra row and fillers included
   pub survey-places : placesAt survey 1 3 0 23 ≡ at 0 3 ∷ at 4 16 ∷ at 0 3 ∷ at 4 8 ∷ at 13 10 ∷ at 0 3 ∷ at 4 16 ∷ at 0 12 ∷ []
+  -- a sum worth 420: size 3, and at wrap 2 least 2
+  pub sum-accepted : verdictOf (checkChecks (reckoned "(3+4)*120/2")) ≡ Accepted
+  pub sum-measured : estimates 2 (keptLines (reckoned "(3+4)*120/2")) ≡ estimate 3 2 0 ∷ []
+  -- cut off, though a divisor in it is 0
+  pub sum-cut-off : verdictOf (checkChecks (reckoned "1/0+")) ≡ Refused 13 1
+  -- a divisor of 0
+  pub sum-over-zero : verdictOf (checkChecks (reckoned "1/0")) ≡ Refused 14 1
 
 pub traced : Traced
-unfolding firstCodes sum mem verdictOf first passes classOf textSize readable trimStart trimEnd widths runs begins shifted writing digits digitsIn lastNumber olPrefix same place kindOf mayHold feeds pieces headed allDigits valueFrom isNatural naturalOf negativeOf numberOf untilBlank thenNumber thenKind parse nFits spansFit textFits fits readParsed readLine ownSize nearest depthFits placeFits childless sheetChecks linesChecks linesOf emptyChecks sheetLines flat upTo sumAt largestAt countBelow endsFrom frame rowSum widest resolveRow resolveBody resolved heldRows fillers later rowFrom hangOf nexts originals hangBelow leastLeft extrasIn extras endsOf entriesFrom longest gridOf columnsOf endsPast entryCount allAt tableChecks tableRows tablesChecks measured estimateOf leafOf holderOf gather prefixOf boxOf tabled pick cutOnce cutBy cut share sharesOf wayOf finalWidths nonzero tableWidth placeSide placeDown placeRow placeRows
+unfolding firstCodes sum mem verdictOf first passes classOf textSize readable trimStart trimEnd widths runs begins shifted writing digits digitsIn lastNumber olPrefix same place kindOf mayHold feeds pieces headed allDigits valueFrom isNatural naturalOf negativeOf numberOf untilBlank thenNumber thenKind parse nFits spansFit textFits fits readParsed readLine ownSize nearest depthFits placeFits childless sheetChecks linesChecks linesOf emptyChecks sheetLines flat upTo sumAt largestAt countBelow endsFrom frame rowSum widest resolveRow resolveBody resolved heldRows fillers later rowFrom hangOf nexts originals hangBelow leastLeft extrasIn extras endsOf entriesFrom longest gridOf columnsOf endsPast entryCount allAt tableChecks tableRows tablesChecks measured estimateOf leafOf holderOf gather prefixOf boxOf tabled pick cutOnce cutBy cut share sharesOf wayOf finalWidths nonzero tableWidth placeSide placeDown placeRow placeRows result both digit total wanted operator inner opened closed step finish run answerBy answerOf written measureBy measureOf
 traced =
     record {
       example-accepted = refl;
@@ -115,4 +132,8 @@ traced =
       survey-at-13 = refl;
       survey-down-at-12 = refl;
       survey-places = refl;
+      sum-accepted = refl;
+      sum-measured = refl;
+      sum-cut-off = refl;
+      sum-over-zero = refl;
     }

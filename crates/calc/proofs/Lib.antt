@@ -1,0 +1,4 @@
+pub mod Turns
+pub mod Sofar
+pub mod Lengths
+pub mod Cases

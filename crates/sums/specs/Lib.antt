@@ -1,0 +1,5 @@
+pub mod Tree
+pub mod Grammar
+pub mod Machine
+pub mod Answers
+pub mod inner
