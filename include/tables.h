@@ -31,7 +31,7 @@
 #define TABLES_MAX_WIDTH 65535    /* largest width */
 #define TABLES_STACK 800000       /* bytes of stack that are enough for any call */
 
-/* In the order in which they are looked for: 9, 11, 8, 1; then line by line 2, 3, 13, 14, 4; then 4 for no node, an empty table or an empty body; 10; then table by table 5, 6, 7; then 10 for a row. */
+/* In the order in which they are looked for: 9, 11, 8, 1; then line by line 2, 3, 13, 14, 4; then 4 for no node, an empty table or an empty body; 10; then table by table 5, 6; then 10 for a row. */
 enum tables_refusal {
     TABLES_ACCEPTED = 0,
     TABLES_BAD_HEADING = 1,      /* the first line is not exactly the heading with its line feed; line 0 */
@@ -39,8 +39,7 @@ enum tables_refusal {
     TABLES_BAD_BYTE = 3,         /* a byte 131 to 255 in a text; the line, and 0 in tables_measure */
     TABLES_BAD_NESTING = 4,      /* the depth or the place of a line breaks the nesting, or a table or a body is empty: the line; no node: 0 */
     TABLES_ROW_TOO_LONG = 5,     /* a row of a table ends past position 4,096; the table's line */
-    TABLES_TOO_MANY_ENTRIES = 6, /* a table has more than 8,192 entries, extra rows counted; the table's line */
-    TABLES_NO_EDGE = 7,          /* an entry of an extra row ends at no column edge; the table's line */
+    TABLES_TOO_MANY_ENTRIES = 6, /* a table has more than 8,192 entries; the table's line */
     TABLES_TOO_LONG = 8,         /* more than 65,536 bytes, or more than 4,097 line feeds (tables_measure: bytes alone); line 0 */
     TABLES_BAD_SETTING = 9,      /* wrap above 1,000, width above 65,535, or raw above 1; line 0 */
     TABLES_NO_TABLE = 10,        /* the line given is not a table of the sheet, or goes down or has no such row where a row of it is asked for; line 0 */
@@ -65,7 +64,7 @@ typedef struct tables_estimates_result {
 
 typedef struct tables_grid_result {
     uint32_t number, line;
-    uint32_t rows, entries, columns; /* extra rows, and fillers, are counted */
+    uint32_t rows, entries, columns; /* fillers are counted */
 } tables_grid_result;
 
 typedef struct tables_layout_result {
@@ -131,7 +130,7 @@ tables_estimates_result tables_estimates(
     uint32_t *prefix, size_t prefix_len);
 
 /* The grid of the table in a line. For each entry, row after row: the line of its cell (0: a filler), its first column and its span, with at least
- * TABLES_MAX_ENTRIES places each. For each row: its line (0: an extra row), and the number of entries up to and with it, with at least
+ * TABLES_MAX_ENTRIES places each. For each row: its line, and the number of entries up to and with it, with at least
  * TABLES_MAX_LINES places each. */
 tables_grid_result tables_grid(
     const uint8_t *sheet, size_t sheet_len, uint32_t line,

@@ -62,12 +62,42 @@ def worked_out(data):
     return CALC.sub(lambda found: b"%s text 0 0 0 %d" % (found[1], refusals.worth(found[2])), data)
 
 
+def spans_cut(data):
+    """A case with every cell's rows cut to those that its body has left, and 0 as all of these: what the Rust is handed, since its spans leave their body."""
+    top, figures, rest = data.split(b"\n", 2)
+    lines = rest.split(b"\n")
+    parts = [line.split(b" ", 5) for line in lines]
+    bodies, rows = {}, {}           # the rows of each body so far; each row's body and place in it
+    path = []                       # the lines of the ancestors
+    cells = []
+    for k in range(1, len(lines)):
+        if len(parts[k]) != 6:
+            continue
+        depth, kind = int(parts[k][0]), parts[k][1]
+        path[depth:] = [k]
+        if kind == b"body":
+            bodies[k] = 0
+        elif kind == b"row":
+            body = path[depth - 1]
+            rows[k] = (body, bodies[body])
+            bodies[body] += 1
+        elif kind == b"cell":
+            cells.append((k, path[depth - 1]))
+    for k, row in cells:
+        body, place = rows[row]
+        left = bodies[body] - place
+        asked = int(parts[k][4])
+        parts[k][4] = b"%d" % (min(asked, left) if asked else left)
+        lines[k] = b" ".join(parts[k])
+    return b"\n".join([top, figures] + lines)
+
+
 def ask(harness, frames):
     """The harness's answers to frames that refusals.py lets pass, in order."""
     sheets, texts = io.BytesIO(), io.BytesIO()
     for frame in frames:
         if len(frame) == 1:
-            cases.write_frame(sheets, worked_out(frame[0]))
+            cases.write_frame(sheets, worked_out(spans_cut(frame[0])))
         else:
             cases.write_text(texts, *frame)
     harness = os.path.abspath(harness)

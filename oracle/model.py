@@ -14,6 +14,7 @@ import re
 import sys
 
 import cases
+import refusals
 
 NUMBER = r"(0|-?[1-9][0-9]*)"
 LINE = re.compile((NUMBER + r" ([a-z]+) " + (NUMBER + " ") * 3 + r"(.*)").encode(), re.S)
@@ -57,10 +58,12 @@ def read_node(line, k):
     node = Node(k, figure(depth), kind.decode(), figure(n), figure(cols), figure(rows), text)
     low, high = {"head": (1, 6), "ol": (-10 ** 9, 10 ** 9)}.get(node.kind, (0, 0))
     most_cols, most_rows = (1000, 65534) if node.kind == "cell" else (0, 0)
-    refuse_if(node.kind not in cases.KINDS or not 0 <= node.depth <= 63 or not low <= node.n <= high
+    refuse_if(node.kind not in cases.KINDS + ["calc"] or not 0 <= node.depth <= 63 or not low <= node.n <= high
               or not 0 <= node.cols <= most_cols or not 0 <= node.rows <= most_rows
-              or (text and node.kind not in cases.TEXT_KINDS), 2, k)
+              or (text and node.kind not in cases.TEXT_KINDS + ["calc"]), 2, k)
     refuse_if(text and max(text) > 130, 3, k)
+    refuse_if(node.kind == "calc" and not refusals.is_sum(text), 13, k)
+    refuse_if(node.kind == "calc" and refusals.worth(text) is None, 14, k)
     return node
 
 
@@ -82,7 +85,7 @@ def read_sheet(data):
             refuse_if(node.depth > nodes[-1].depth + 1, 4, k)
             parent = last[node.depth - 1]
             wanted = {"table": "body", "body": "row", "row": "cell"}.get(parent.kind)
-            refuse_if(parent.kind in cases.LEAF_KINDS or wanted not in (None, node.kind), 4, k)
+            refuse_if(parent.kind in cases.LEAF_KINDS + ["calc"] or wanted not in (None, node.kind), 4, k)
             node.parent = parent
             parent.children.append(node)
         refuse_if(node.kind in PARENT and (not node.parent or node.parent.kind != PARENT[node.kind]), 4, k)
@@ -110,21 +113,15 @@ class Grid:
     def __init__(self, table):
         self.table, self.rows, hanging = table, [], []
         for body in table.children:
-            for row, spans in zip(body.children, resolve(body)):
-                hanging = self.add_row(row, spans, hanging)
-        self.written = len(self.rows)
-        while hanging:
-            step = min(left for left, _, _ in hanging)
-            ends = [sum(span for _, _, span in hanging[:i + 1]) for i in range(len(hanging))]
-            self.rows.append((0, [(None, end - h[2], h[2]) for end, h in zip(ends, hanging)]))
-            hanging = [(left - step, at, span) for left, at, span in hanging if left > step]
-        ends = [at + span for _, row in self.rows[:self.written] for _, at, span in row]
+            for i, (row, spans) in enumerate(zip(body.children, resolve(body))):
+                hanging = self.add_row(row, spans, hanging, len(body.children) - 1 - i)
+        ends = [at + span for _, row in self.rows for _, at, span in row]
         refuse_if(max(ends, default=0) > 4096, 5, table.line)
         refuse_if(sum(len(row) for _, row in self.rows) > 8192, 6, table.line)
         self.edges = sorted({0, *ends})
         self.number_columns()
 
-    def add_row(self, row, spans, hanging):
+    def add_row(self, row, spans, hanging, left_in_body):
         entries, after, col = [], [], 0
         waiting = list(reversed(hanging))
 
@@ -139,8 +136,9 @@ class Grid:
         for c, span in zip(row.children, spans):
             while waiting and waiting[-1][1] <= col:
                 filler()
-            if c.rows > 1:
-                after.append((c.rows - 1, col, span))
+            hangs = min(c.rows - 1, left_in_body) if c.rows else left_in_body
+            if hangs > 0:
+                after.append((hangs, col, span))
             entries.append((c, col, span))
             col += span
         while waiting:
@@ -150,7 +148,6 @@ class Grid:
 
     def number_columns(self):
         rank = {edge: i for i, edge in enumerate(self.edges)}
-        refuse_if(any(at + span not in rank for _, row in self.rows for _, at, span in row), 7, self.table.line)
         self.positions = self.rows
         self.rows = [(line, [(c, rank[at], rank[at + span] - rank[at]) for c, at, span in row])
                      for line, row in self.rows]
@@ -173,6 +170,9 @@ def estimate(node, wrap, grids, done):
     size, least, prefix = sum(c[0] for c in children), max((c[1] for c in children), default=0), 0
     if node.kind in cases.TEXT_KINDS:
         size = text_size(node.text) + (2 if node.kind == "img" else 0)
+        least = min(size, wrap)
+    elif node.kind == "calc":
+        size = len(str(refusals.worth(node.text)))
         least = min(size, wrap)
     elif node.kind == "link":
         size, least = size + 5, max(least, 5)

@@ -245,14 +245,14 @@ def grids():
     yield "a filler's span differs from its owner's", one_body([[(1, 1), (2, 2)], [(3, 1)], [(1, 1)] * 3])
     yield "hanging ones in the order of the row", one_body([[(1, 1), (2, 3)], [(1, 2)], []])
     yield "a span crosses bodies", case(sheet(table([[[(1, 2)]], [[(1, 1)]]])))
-    yield "extra rows coalesce", one_body([[(1, 65534), (1, 3)]])
+    yield "spans below the last row", one_body([[(1, 65534), (1, 3)]])
     yield "an edge from an earlier row", one_body([[(1, 1), (1, 1)], [(2, 1), (1, 2)]])
     yield "two colspans 0 in a row", one_body([[(0, 1), (0, 1)], [(6, 1)]])
     yield "the maximum is per body", case(sheet(table([[[(0, 1)]], [[(5, 1)]]])))
     yield "fillers do not count for colspan 0", one_body([[(2, 2)], [(0, 1)]])
     yield "colspan 0 with an empty row", one_body([[], [(0, 1)]])
     yield "colspan 0 hanging", one_body([[(0, 2), (1, 1)], [(4, 1)], [(0, 1)]])
-    yield "rows 0 counts as 1", one_body([[(1, 0), (1, 1)], [(1, 0)]])
+    yield "rows 0 runs to the last row", one_body([[(1, 0), (1, 1)], [(1, 0)]])
     yield "empty rows under a hanging cell", one_body([[(1, 3), (2, 2)], [], []])
     yield "empty rows before and between", one_body([[], [(1, 1)], [], [(1, 2)], []])
     yield "only empty rows", case(sheet(table([[[], []], [[]]])))
@@ -262,9 +262,9 @@ def grids():
     yield "a cell jumps over a hanging position", one_body([[(1, 1), (1, 2)], [(3, 1), (1, 1)]])
     yield "two hanging ones before one cell", one_body([[(1, 2), (1, 2), (1, 1)], [(1, 1)]])
     yield "a cell hangs from behind a filler", one_body([[(1, 2), (1, 1)], [(1, 2)], [(1, 1)]])
-    yield "three extra rows", one_body([[(1, 4), (1, 2), (1, 3)]])
-    yield "an extra row fails in its second entry", one_body([[(1, 2), (3, 1), (2, 2)]])
-    yield "a later extra row fails", one_body([[(3, 2), (2, 3)]])
+    yield "three spans below the last row", one_body([[(1, 4), (1, 2), (1, 3)]])
+    yield "a span of two below the last row", one_body([[(1, 2), (3, 1), (2, 2)]])
+    yield "two spans below the last row", one_body([[(3, 2), (2, 3)]])
     yield "the outer table is judged first", one_body([[(2, 1, table([[[(1000, 1)] * 5]], 4)), (1, 2)]])
     yield "the inner table is too long", one_body([[(1, 1, table([[[(1000, 1)] * 5]], 4)), (1, 2)]])
     yield "the second of two tables fails", case(sheet([node(0, "div")] + table([[[(1, 1)]]], 1) + table([[[(2, 1), (1, 2)]]], 1)))
@@ -278,12 +278,9 @@ def grids():
     many = [[(1, 65534)] * 100] + [[] for _ in range(90)]
     yield "too many entries", one_body(many)
     yield "a late row that is too long beats too many entries", one_body(many + [thousands])
-    yield "127 extra rows", one_body([[(1, r) for r in range(2, 129)]])
+    yield "127 spans below the last row", one_body([[(1, r) for r in range(2, 129)]])
     yield "8,193 entries", one_body([[(1, 64)] * 128] + [[] for _ in range(62)] + [[(1, 1)]])
-    failing = [[(3, 80)] + [(2, 65534)] * 99] + [[] for _ in range(77)]
-    yield "8,192 entries, the last extra row at no edge", one_body(failing + [[(2, 1)] * 93])
-    yield "8,193 entries, the last extra row at no edge", one_body(failing + [[(2, 1)] * 94])
-    yield "128 cells through 64 rows and one extra row", one_body([[(1, 65)] * 128] + [[] for _ in range(63)], width=200)
+    yield "128 cells of rows 0 through 65 rows", one_body([[(1, 0)] * 128] + [[] for _ in range(64)])
 
 
 # ------------------------------------------------- shares, cutting, placement
@@ -305,7 +302,7 @@ def widths():
     for width in (4, 0):
         yield "down, spans 1 and 2, at %d" % width, one_body([[(1, 1, b"abcdef"), (2, 1)], [(1, 1)] * 3], raw=1, width=width)
     yield "down, spans 2 and 1", one_body([[(2, 1, b"abcdef"), (1, 1)], [(1, 1)] * 3], raw=1, width=4)
-    yield "down, fillers and an extra row", one_body([[(1, 3), (2, 1)], [(1, 1)]], raw=1, width=7)
+    yield "down, fillers", one_body([[(1, 3), (2, 1)], [(1, 1)]], raw=1, width=7)
     yield "down because the leasts do not fit", one_body([[(1, 1, letters(9))] * 4], width=14)
     yield "sideways because the leasts just fit", one_body([[(1, 1, letters(9))] * 4], width=15)
     capped = [[(1, 1, letters(20)), (1, 1, under("link")), (1, 1, under("link"))]]
@@ -319,7 +316,7 @@ def widths():
     for width in (17, 20, 29, 44):
         yield "four kinds of least at %d" % width, one_body(mixed, width=width)
     yield "a filler has no size", one_body([[(1, 2, letters(5)), (1, 1, letters(5))], [(1, 1, letters(9))]], width=18)
-    yield "an extra row is placed", one_body([[(1, 1, b"ab"), (1, 1, b"cd"), (1, 2, b"ef")]], width=30)
+    yield "a span below the only row", one_body([[(1, 1, b"ab"), (1, 1, b"cd"), (1, 2, b"ef")]], width=30)
     yield "wrap 1000", one_body([[(1, 1, letters(12)), (1, 1, letters(7))]], wrap=1000, width=20)
     yield "wrap 0", one_body([[(1, 1, letters(12)), (1, 1, letters(7))]], wrap=0, width=1)
     two = table([[[(1, 1, b"one"), (1, 1, b"two")]]], 1)
@@ -347,7 +344,7 @@ def limits():
     shifted = [[(64, 1)] + [(64, 64)] * 63] + [[(i, 1)] for i in range(1, 64)]
     yield "4,096 columns from 193 lines", one_body(shifted, width=5000)
     yield "8,192 entries", one_body([[(1, 64)] * 128] + [[] for _ in range(63)], width=200)
-    yield "20 extra rows", one_body([[(1, r) for r in range(2, 22)]], width=19)
+    yield "20 spans below the only row", one_body([[(1, r) for r in range(2, 22)]], width=19)
 
 
 def generated(total, already):

@@ -1,22 +1,23 @@
 -- What holds of the resolved rows of every table: where their lines stand, how large their cols are, how many there are. Each by induction
 -- over the table's lines: what holds of the frame of the lines after a line holds of that line's frame. Assumes nothing.
-use mathlib.Core.Path.{_≡_, ap}
+use mathlib.Core.Path.{_≡_, refl, ap, ap₂}
 use mathlib.Core.Bool.{Bool, true, false, cond}
 use mathlib.Core.List.{List, [], _∷_, _++_, map}
-use Prim.Native.Nat.{ℕ, zero, suc, _+_, _*_, _-_, _≤_, _<_}
+use Prim.{tt}
+use Prim.Native.Nat.{ℕ, zero, suc, _+_, _*_, _-_, _≤_, _<_, min}
 use native.Mathlib.Nat.{not-suc-le-zero, le-of-suc-le-suc}
 use native.Mathlib.Decide.{ℕ-discrete}
 use native.Mathlib.Omega.{arith}
 use lib.Dec.{leb, eqb}
 use lib.ListN.{length, getD, length-append, length-map, List·getD-append}
 use borrow.Author.Tests.{eq-eqb, ne-eqb}
-use Rattle.lists.specs.Limits.{maxCols, maxRows}
+use Rattle.lists.specs.Limits.{maxCols}
 use Rattle.lists.specs.Lists.{over, sum}
 use Rattle.records.specs.declared.Kept.{Kept}
-use Rattle.cells.specs.Cells.{Cell, Row, Frame, cell, row, noFrame, openBody, openRow, openCell, frame, bodiesOf, rowSum, widest, resolveCell, resolveRow, resolveBody, resolved}
+use Rattle.cells.specs.Cells.{Cell, Row, Frame, cell, row, noFrame, openBody, openRow, openCell, frame, bodiesOf, rowSum, widest, resolveCell, resolveRow, taken, cutCell, cutRow, fillBody, cutBody, resolveBody, resolved}
 use Rattle.cells.specs.Listed.{allCells}
-use Rattle.cells.specs.Facts.{Every, none, and, LineFits, CellFits, RowFits}
-use Rattle.cells.proofs.Rows.{cells-append, cells-resolved}
+use Rattle.cells.specs.Facts.{Every, none, and, LineFits, CellFits, RowFits, Ending}
+use Rattle.cells.proofs.Rows.{cells-append, cells-body, length-body}
 
 -- ---- Every
 
@@ -92,15 +93,15 @@ sizes [] = 0
 sizes (b ∷ bs) = size b + sizes bs
 
 size-resolved : (bs : List (List Row)) → size (resolved bs) ≡ sizes bs
-unfolding resolved resolveBody allCells
+unfolding resolved allCells
 size-resolved [] = omega arith
 size-resolved (b ∷ bs) =
     omega (
       arith,
       size-resolved bs,
       length-append (resolveBody b) (resolved bs),
-      length-map b (resolveRow (widest b)),
-      cells-resolved (widest b) b,
+      length-body b,
+      cells-body b,
       ap length (cells-append (resolveBody b) (resolved bs)),
       length-append (allCells (resolveBody b)) (allCells (resolved bs)),
     )
@@ -134,7 +135,6 @@ record CellIn (k n : ℕ) (c : Cell) : Type 0 where
   pub after : k ≤ c .line
   pub within : c .line < k + n
   pub narrow : c .cols ≤ maxCols
-  pub short : c .rows ≤ maxRows
 
 record RowIn (k n : ℕ) (r : Row) : Type 0 where
   pub after : k ≤ r .line
@@ -149,7 +149,7 @@ record FrameIn (k n : ℕ) (f : Frame) : Type 0 where
   pub bodies : Every (Every (RowIn k n)) (f .bodies)
 
 cell-in : (k n : ℕ) (c : Cell) → CellIn (suc k) n c → CellIn k (suc n) c
-cell-in k n c h = record { after = omega (arith, h .after); within = omega (arith, h .within); narrow = h .narrow; short = h .short }
+cell-in k n c h = record { after = omega (arith, h .after); within = omega (arith, h .within); narrow = h .narrow }
 
 row-in : (k n : ℕ) (r : Row) → RowIn (suc k) n r → RowIn k (suc n) r
 row-in k n r h = record { after = omega (arith, h .after); within = omega (arith, h .within); few = omega (arith, h .few); cells = every-weaken (cell-in k n) (h .cells) }
@@ -175,7 +175,7 @@ frame-turn k l ls f e h =
       },
       record {
         few = omega (arith, h .few);
-        cells = and {x = cell k (l .cols) (l .rows)} (record { after = omega arith; within = omega arith; narrow = e .narrow; short = e .short }) (m .cells);
+        cells = and {x = cell k (l .cols) (l .rows)} (record { after = omega arith; within = omega arith; narrow = e .narrow }) (m .cells);
         rows = m .rows;
         bodies = m .bodies;
       },
@@ -211,34 +211,53 @@ filled-fits x n most a b c = by (ℕ-discrete n 0)
     by (yes e) = rw (eq-eqb n 0 e) (a, b)
     by (no e) = rw (ne-eqb n 0 e) (omega arith)
 
-cell-fits : (t n x : ℕ) → 1 ≤ x → x ≤ n * maxCols + 1 → (c : Cell) → CellIn (suc t) n c → CellFits t n (resolveCell x c)
-cell-fits t n x a b c h =
-    let q = filled-fits x (c .cols) (n * maxCols + 1) a b (omega (arith, h .narrow, h .after, h .within)) in
-    record { after = omega (arith, h .after); within = omega (arith, h .within); wide = q .0; narrow = q .1; short = h .short }
+-- no cell takes more rows than are left
+taken-fits : (left rows : ℕ) → (1 ≤ taken left rows) × (taken left rows ≤ suc left)
+taken-fits left rows = by (eqb rows 0)
+  where
+    by : (b : Bool) → (1 ≤ suc (cond b left (min (rows - 1) left))) × (suc (cond b left (min (rows - 1) left)) ≤ suc left)
+    by true = omega arith
+    by false = omega arith
 
-row-fits : (t n m : ℕ) → m ≤ n * maxCols → (r : Row) → RowIn (suc t) n r → RowFits t n (resolveRow m r)
-unfolding resolveRow
-row-fits t n m s r h = record {
+cell-fits : (t n x left : ℕ) → 1 ≤ x → x ≤ n * maxCols + 1 → left < n → (c : Cell) → CellIn (suc t) n c → CellFits t n (cutCell left (resolveCell x c))
+cell-fits t n x left a b l c h =
+    let q = filled-fits x (c .cols) (n * maxCols + 1) a b (omega (arith, h .narrow, h .after, h .within)) in
+    let s = taken-fits left (c .rows) in
+    record { after = omega (arith, h .after); within = omega (arith, h .within); wide = q .0; narrow = q .1; tall = s .0; short = omega (arith, s .1) }
+
+row-fits : (t n m left : ℕ) → m ≤ n * maxCols → left < n → (r : Row) → RowIn (suc t) n r → RowFits t n (cutRow left (resolveRow m r))
+unfolding resolveRow cutRow
+row-fits t n m left s l r h = record {
   after = omega (arith, h .after);
   within = omega (arith, h .within);
-  cells = every-map (resolveCell (m - rowSum (r .cells) + 1)) (cell-fits t n (m - rowSum (r .cells) + 1) (omega arith) (omega arith)) (h .cells);
+  cells = every-map (cutCell left) (λ c p. p) (every-map {Q = λ c. CellFits t n (cutCell left c)} (resolveCell (m - rowSum (r .cells) + 1)) (cell-fits t n (m - rowSum (r .cells) + 1) left (omega arith) (omega arith) l) (h .cells));
 }
 
-bodies-fit : (t n : ℕ) {bs : List (List Row)} → Every (Every (RowIn (suc t) n)) bs → Every (RowFits t n) (resolved bs)
-unfolding resolved resolveBody
-bodies-fit t n none = none
-bodies-fit t n (and {x = b} p ps) = every-append (every-map (resolveRow (widest b)) (row-fits t n (widest b) (body-small p)) p) (bodies-fit t n ps)
+body-fits : (t n m : ℕ) → m ≤ n * maxCols → (rs : List Row) → length rs ≤ n → Every (RowIn (suc t) n) rs → Every (RowFits t n) (cutBody (map (resolveRow m) rs))
+unfolding cutBody
+body-fits t n m s [] l none = none
+body-fits t n m s (r ∷ rs) l (and p ps) =
+    and (row-fits t n m (length (map (resolveRow m) rs)) s (omega (arith, length-map rs (resolveRow m))) r p) (body-fits t n m s rs (omega arith) ps)
+
+bodies-fit : (t n : ℕ) (bs : List (List Row)) → sizes bs ≤ n → Every (Every (RowIn (suc t) n)) bs → Every (RowFits t n) (resolved bs)
+unfolding resolved resolveBody fillBody
+bodies-fit t n [] l none = none
+bodies-fit t n (b ∷ bs) l (and p ps) = every-append (body-fits t n (widest b) (body-small p) b (omega arith) p) (bodies-fit t n bs (omega arith) ps)
 
 -- the rows of the table of depth d whose line is line t, where the lines ls follow
 pub rows-fit : (d t : ℕ) (ls : List Kept) → Every LineFits ls → Every (RowFits t (length ls)) (resolved (bodiesOf d t ls))
-rows-fit d t ls e = bodies-fit t (length ls) (frame-in d (suc t) ls e .bodies)
+rows-fit d t ls e = bodies-fit t (length ls) (bodiesOf d t ls) (omega (arith, frame-few d (suc t) ls)) (frame-in d (suc t) ls e .bodies)
 
 -- every resolved cols is at least 1, whatever the rows are
 pub resolved-wide : (bs : List (List Row)) → Every (λ r. Every (λ c. 1 ≤ c .cols) (r .cells)) (resolved bs)
-unfolding resolved resolveBody resolveRow
+unfolding resolved resolveBody fillBody resolveRow cutBody cutRow
 resolved-wide [] = none
-resolved-wide (b ∷ bs) = every-append (wide-rows (widest b) b) (resolved-wide bs)
+resolved-wide (b ∷ bs) = every-append (wide-cut (wide-rows (widest b) b)) (resolved-wide bs)
   where
+    wide-cut : {rs : List Row} → Every (λ r. Every (λ c. 1 ≤ c .cols) (r .cells)) rs → Every (λ r. Every (λ c. 1 ≤ c .cols) (r .cells)) (cutBody rs)
+    wide-cut none = none
+    wide-cut (and {xs = xs} p ps) = and (every-map (cutCell (length xs)) (λ c w. w) p) (wide-cut ps)
+
     wide-cells : (x : ℕ) → 1 ≤ x → (cs : List Cell) → Every (λ c. 1 ≤ c .cols) (map (resolveCell x) cs)
     wide-cells x h [] = none
     wide-cells x h (c ∷ cs) = and (filled-fits x (c .cols) (x + c .cols) h (omega arith) (omega arith) .0) (wide-cells x h cs)
@@ -246,3 +265,59 @@ resolved-wide (b ∷ bs) = every-append (wide-rows (widest b) b) (resolved-wide 
     wide-rows : (m : ℕ) (rs : List Row) → Every (λ r. Every (λ c. 1 ≤ c .cols) (r .cells)) (map (resolveRow m) rs)
     wide-rows m [] = none
     wide-rows m (r ∷ rs) = and (wide-cells (m - rowSum (r .cells) + 1) (omega arith) (r .cells)) (wide-rows m rs)
+
+-- ---- no cell of a resolved body takes more rows than its own and those after it in the body
+
+cut-ends : (rs : List Row) → Ending (cutBody rs)
+unfolding cutBody cutRow
+cut-ends [] = tt
+cut-ends (r ∷ rs) = and-rows (r .cells) (cut-ends rs)
+  where
+    length-cut : (ss : List Row) → length (cutBody ss) ≡ length ss
+    length-cut [] = refl
+    length-cut (q ∷ ss) = ap suc (length-cut ss)
+
+    takes : (n : ℕ) → n ≡ length rs → (cs : List Cell) → Every (λ c. (1 ≤ c .rows) × (c .rows ≤ suc n)) (map (cutCell (length rs)) cs)
+    takes n e [] = none
+    takes n e (c ∷ cs) = and (let s = taken-fits (length rs) (c .rows) in (s .0, omega (arith, s .1, e))) (takes n e cs)
+
+    and-rows : (cs : List Cell) → Ending (cutBody rs) → Ending (row (r .line) (map (cutCell (length rs)) cs) ∷ cutBody rs)
+    and-rows cs q = (takes (length (cutBody rs)) (length-cut rs) cs, q)
+
+pub body-ends : (rs : List Row) → Ending (resolveBody rs)
+unfolding resolveBody
+body-ends rs = cut-ends (fillBody rs)
+
+-- ---- a body without rows 0 in which no span leaves it is resolved as it was before: cols alone change
+
+cut-same : (rs : List Row) → Ending rs → cutBody rs ≡ rs
+unfolding cutBody cutRow
+cut-same [] e = refl
+cut-same (r ∷ rs) e = ap₂ (λ (x : List Cell) (y : List Row). row (r .line) x ∷ y) (same (r .cells) (e .0)) (cut-same rs (e .1))
+  where
+    figure : (left rows : ℕ) → 1 ≤ rows → rows ≤ suc left → taken left rows ≡ rows
+    figure left rows a b = rw (ne-eqb rows 0 (λ e. omega (arith, e))) (omega arith)
+
+    same : (cs : List Cell) → Every (λ c. (1 ≤ c .rows) × (c .rows ≤ suc (length rs))) cs → map (cutCell (length rs)) cs ≡ cs
+    same [] none = refl
+    same (c ∷ cs) (and p ps) = ap₂ (λ (x : ℕ) (y : List Cell). cell (c .line) (c .cols) x ∷ y) (figure (length rs) (c .rows) (p .0) (p .1)) (same cs ps)
+
+fill-ends : (m : ℕ) (rs : List Row) → Ending rs → Ending (map (resolveRow m) rs)
+unfolding resolveRow
+fill-ends m [] e = e
+fill-ends m (r ∷ rs) e =
+    (every-map (resolveCell (m - rowSum (r .cells) + 1)) (λ c p. (p .0, omega (arith, p .1, length-map rs (resolveRow m)))) (e .0), fill-ends m rs (e .1))
+
+pub body-same : (rs : List Row) → Ending rs → resolveBody rs ≡ fillBody rs
+unfolding resolveBody fillBody
+body-same rs e = cut-same (fillBody rs) (fill-ends (widest rs) rs e)
+
+-- the rows of all bodies, their cols alone resolved
+unfoldable pub filledRows : List (List Row) → List Row
+filledRows [] = []
+filledRows (b ∷ bs) = fillBody b ++ filledRows bs
+
+pub resolved-same : (bs : List (List Row)) → Every Ending bs → resolved bs ≡ filledRows bs
+unfolding resolved filledRows
+resolved-same [] none = refl
+resolved-same (b ∷ bs) (and p ps) = ap₂ (λ (x y : List Row). x ++ y) (body-same b p) (resolved-same bs ps)

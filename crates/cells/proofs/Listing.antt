@@ -6,17 +6,17 @@ use Prim.Native.Nat.{ℕ, _+_, _-_, _≤_, _<_}
 use native.Mathlib.Decide.{decLt, ℕ-discrete}
 use native.Mathlib.Numerals.{add-one}
 use native.Mathlib.Omega.{arith}
-use lib.ListN.{length, getD, set, drop, length-append, length-map, length-set, List·getD-eq-default}
+use lib.ListN.{length, getD, set, drop, length-append, length-set, List·getD-eq-default}
 use lib.Seq.{getD-set-same, getD-set-other}
 use Rattle.lists.specs.Limits.{maxLines, maxDepth, maxCols}
 use Rattle.lists.proofs.Over.{over-none}
 use Rattle.records.specs.Kept.{noKept}
 use Rattle.records.specs.declared.Kept.{Kept}
-use Rattle.cells.specs.Cells.{Cell, Row, Frame, cell, row, noFrame, openBody, openRow, frame, widest, resolveRow, resolveBody, resolved}
+use Rattle.cells.specs.Cells.{Cell, Row, Frame, cell, row, noFrame, openBody, openRow, frame, fillBody, cutBody, resolveBody, resolved}
 use Rattle.cells.specs.Listed.{allCells, cellEnds, ListsRows, heldRows, ListingReady, TableListed}
-use Rattle.cells.specs.Spans.{part, rowsAt, BodyHeld, WrittenBack}
-use Rattle.cells.proofs.Rows.{cells-append, extend, extend-none, extend-extend, extend-append, length-extend, cells-extend}
-use Rattle.cells.proofs.Written.{written-row, written-cell, last-held, last-resolved, same-cells}
+use Rattle.cells.specs.Spans.{part, BodyHeld, RowsHeld, BodyDone}
+use Rattle.cells.proofs.Rows.{cells-append, extend, extend-none, extend-extend, extend-append, length-extend, cells-extend, length-body}
+use Rattle.cells.proofs.Written.{written-row, written-cell, last-held, last-rows-held, last-resolved, same-cells}
 use Rattle.cells.proofs.Lines.{framed, after, frame-stop, frame-body, frame-row, frame-cell, frame-deeper, frame-first, inside}
 
 -- ---- what the rows of the last body become, with what the lines still to come hold
@@ -95,7 +95,7 @@ module _ {ks : List Kept} {at : ℕ} {line₀ span₀ rows₀ row₀ end₀ : Li
   d = getD ks at noKept .depth
 
   pub list-start : Listing ks at line₀ span₀ rows₀ row₀ end₀ line₀ span₀ rows₀ row₀ end₀ 0 0 0 0 (at + 1)
-  unfolding allCells cellEnds heldRows resolveBody
+  unfolding allCells cellEnds heldRows resolveBody fillBody cutBody
   list-start = record {
     done = [];
     last = [];
@@ -134,10 +134,18 @@ module _ {ks : List Kept} {at : ℕ} {line₀ span₀ rows₀ row₀ end₀ : Li
         (omega (arith, z .cells-are, z .few, z .within, t .span-room, z .same-span))
         (λ k a b. z .narrow k (omega (arith, z .first-cell-is)) (omega (arith, z .cells-are))))
 
-    body-done : (span′ : List ℕ) → WrittenBack (resolveBody (rowsAt fc (part fr r end) span)) fc (part fr r end) span span′
-        → ListsRows (z .done ++ resolveBody (z .last)) line₀ span₀ rows₀ row₀ end₀ line span′ rows row′ end
-    body-done span′ b =
-        last-resolved (z .done) (z .last) (z .written) span′
+    pub body-rows : RowsHeld fc (part fr r end) rows
+    body-rows =
+        rw (z .first-cell-is, z .first-row-is, z .rows-are)
+        (last-rows-held (z .done) (z .last) (z .written)
+        (omega (arith, z .rows-are, z .few, z .within, t .short))
+        (omega (arith, z .cells-are, z .few, z .within, t .short))
+        (omega (arith, z .cells-are, z .few, z .within, t .rows-room, z .same-rows)))
+
+    body-done : (span′ rows′ : List ℕ) → BodyDone fc (part fr r end) span rows span′ rows′
+        → ListsRows (z .done ++ resolveBody (z .last)) line₀ span₀ rows₀ row₀ end₀ line span′ rows′ row′ end
+    body-done span′ rows′ b =
+        last-resolved (z .done) (z .last) (z .written) span′ rows′
         (rw (z .first-cell-is, z .first-row-is, z .rows-are) at b)
 
     cells-done : n ≡ length (allCells (z .done ++ resolveBody (z .last)))
@@ -146,18 +154,17 @@ module _ {ks : List Kept} {at : ℕ} {line₀ span₀ rows₀ row₀ end₀ : Li
         ∙ sym (same-cells (z .done) (z .last) (z .written))
 
     rows-done : r ≡ length (z .done ++ resolveBody (z .last))
-    unfolding resolveBody
     rows-done =
         z .rows-are ∙ length-append (z .done) (z .last)
-        ∙ sym (length-append (z .done) (resolveBody (z .last)) ∙ ap (λ (k : ℕ). length (z .done) + k) (length-map (z .last) (resolveRow (widest (z .last)))))
+        ∙ sym (length-append (z .done) (resolveBody (z .last)) ∙ ap (λ (k : ℕ). length (z .done) + k) (length-body (z .last)))
 
-    pub list-stop : getD ks i noKept .depth ≤ d → (span′ : List ℕ) → WrittenBack (resolveBody (rowsAt fc (part fr r end) span)) fc (part fr r end) span span′
-        → TableListed (heldRows ks at) line₀ span₀ rows₀ row₀ end₀ line span′ rows row′ end n r
-    list-stop h span′ b =
+    pub list-stop : getD ks i noKept .depth ≤ d → (span′ rows′ : List ℕ) → BodyDone fc (part fr r end) span rows span′ rows′
+        → TableListed (heldRows ks at) line₀ span₀ rows₀ row₀ end₀ line span′ rows′ row′ end n r
+    list-stop h span′ rows′ b =
         let e : z .done ++ resolveBody (z .last) ≡ heldRows ks at =
         ap (λ (l : List Row). z .done ++ l) (sym (rest-stop (z .last))) ∙ ap (λ (f : Frame). z .done ++ rest (z .last) f) (sym (frame-stop ks d i h)) ∙ z .whole in
         record {
-          written = subst (λ (l : List Row). ListsRows l line₀ span₀ rows₀ row₀ end₀ line span′ rows row′ end) e (body-done span′ b);
+          written = subst (λ (l : List Row). ListsRows l line₀ span₀ rows₀ row₀ end₀ line span′ rows′ row′ end) e (body-done span′ rows′ b);
           cells-are = cells-done ∙ ap (λ (l : List Row). length (allCells l)) e;
           rows-are = rows-done ∙ ap length e;
         }
@@ -180,10 +187,10 @@ module _ {ks : List Kept} {at : ℕ} {line₀ span₀ rows₀ row₀ end₀ : Li
         end-room = omega (arith, t .end-room, z .same-end);
       }
 
-      pub list-body : getD ks i noKept .depth ≡ d + 1 → (span′ : List ℕ) → length span′ ≡ length span
-          → WrittenBack (resolveBody (rowsAt fc (part fr r end) span)) fc (part fr r end) span span′
-          → Listing ks at line₀ span₀ rows₀ row₀ end₀ line span′ rows row′ end n r n r (i + 1)
-      list-body e span′ s b =
+      pub list-body : getD ks i noKept .depth ≡ d + 1 → (span′ rows′ : List ℕ) → length span′ ≡ length span → length rows′ ≡ length rows
+          → BodyDone fc (part fr r end) span rows span′ rows′
+          → Listing ks at line₀ span₀ rows₀ row₀ end₀ line span′ rows′ row′ end n r n r (i + 1)
+      list-body e span′ rows′ s s₂ b =
           let D = z .done ++ resolveBody (z .last) in
           let a : D ++ [] ≡ D = append-nil D in
           record {
@@ -193,7 +200,7 @@ module _ {ks : List Kept} {at : ℕ} {line₀ span₀ rows₀ row₀ end₀ : Li
                 append-assoc (z .done) (resolveBody (z .last)) (rest [] (after ks d i))
                 ∙ ap (λ (l : List Row). z .done ++ l) (sym (ap (rest (z .last)) (frame-body ks d i h e) ∙ rest-body (z .last) (after ks d i)))
                 ∙ z .whole;
-            written = subst (λ (l : List Row). ListsRows l line₀ span₀ rows₀ row₀ end₀ line span′ rows row′ end) (sym a) (body-done span′ b);
+            written = subst (λ (l : List Row). ListsRows l line₀ span₀ rows₀ row₀ end₀ line span′ rows′ row′ end) (sym a) (body-done span′ rows′ b);
             cells-are = cells-done ∙ ap (λ (l : List Row). length (allCells l)) (sym a);
             rows-are = rows-done ∙ ap length (sym a);
             first-cell-is = cells-done;
@@ -205,7 +212,7 @@ module _ {ks : List Kept} {at : ℕ} {line₀ span₀ rows₀ row₀ end₀ : Li
             narrow = λ k p q. absurd (omega arith);
             same-line = z .same-line;
             same-span = s ∙ z .same-span;
-            same-rows = z .same-rows;
+            same-rows = s₂ ∙ z .same-rows;
             same-row = z .same-row;
             same-end = z .same-end;
           }

@@ -1,13 +1,15 @@
-// The cells of a table as they are written, row by row and body by body, and what a colspan of 0 becomes.
+// The cells of a table as they are written, row by row and body by body, what a colspan of 0 becomes, and where a rowspan ends.
 ghost use mathlib.Core.Path.{_≡_};
 ghost use mathlib.Core.Bool.{cond};
 ghost use mathlib.Core.List.{map};
 ghost use lib.ListN.{getD};
 ghost use lib.Dec.{ltb, eqb};
+ghost use Prim.Native.Nat.{_<_};
+ghost use Rattle.lists.specs.Limits.{maxLines};
 ghost use Rattle.records.specs.Kept.{keptsOf, noKept};
-ghost use Rattle.cells.specs.Cells.{rowSum, resolveCell, resolveBody};
+ghost use Rattle.cells.specs.Cells.{rowSum, resolveCell, fillBody, taken};
 ghost use Rattle.cells.specs.Listed.{cellCols, heldRows, ListingReady, TableListed};
-ghost use Rattle.cells.specs.Spans.{bare, rowsAt, Narrow, BodyHeld, LargestSum, WrittenBack};
+ghost use Rattle.cells.specs.Spans.{bare, rowsAt, Narrow, BodyHeld, LargestSum, WrittenBack, RowsHeld, CutBack, BodyDone};
 
 // How many cells and rows a table has.
 pub struct Listed {
@@ -69,7 +71,7 @@ fn widest_row(spans: &[u32], ends: &[u32], first: usize) -> u32
 fn fill_rows(spans: &mut [u32], ends: &[u32], first: usize, most: u32)
     requires { ⌜ BodyHeld first (now ends) (now spans) ⌝ }
     requires { ⌜ LargestSum (rowsAt first (now ends) (now spans)) most ⌝ }
-    ensures { λ _. ⌜ WrittenBack (resolveBody (rowsAt first (now (ends .entry)) (now (spans .entry)))) first (now (ends .entry)) (now (spans .entry)) (now (spans .exit)) ⌝ }
+    ensures { λ _. ⌜ WrittenBack (fillBody (rowsAt first (now (ends .entry)) (now (spans .entry)))) first (now (ends .entry)) (now (spans .entry)) (now (spans .exit)) ⌝ }
 {
     let mut from = first;
     let mut j = 0;
@@ -82,13 +84,54 @@ fn fill_rows(spans: &mut [u32], ends: &[u32], first: usize, most: u32)
     }
 }
 
-// Resolves the cols of a body's cells in place, as `tbody_to_render_tree` does.
-fn resolve_body(spans: &mut [u32], ends: &[u32], first: usize)
+// How many rows a cell takes where `left` rows follow its own in the body: a rowspan never leaves its body, and rows 0 runs to the last row.
+fn rows_within(rows: u32, left: u32) -> u32
+    requires { ⌜ left < maxLines ⌝ }
+    ensures { λ r. ⌜ r ≡ taken left rows ⌝ }
+{
+    if rows == 0 {
+        return left + 1;
+    }
+    if left < rows { left + 1 } else { rows }
+}
+
+// Cuts the rows of a row's cells to the rows that are left.
+fn cut_row(rows: &mut [u32], left: u32)
+    requires { ⌜ left < maxLines ⌝ }
+    ensures { λ _. ⌜ now (rows .exit) ≡ map (taken left) (now (rows .entry)) ⌝ }
+{
+    let mut i = 0;
+    while i < rows.len() {
+        rows[i] = rows_within(rows[i], left);
+        i += 1;
+    }
+}
+
+// Ends each rowspan of a body with the body. The first row's cells begin at `first`, and each row's cells end at its place in `ends`.
+fn cut_rows(rows: &mut [u32], ends: &[u32], first: usize)
+    requires { ⌜ RowsHeld first (now ends) (now rows) ⌝ }
+    ensures { λ _. ⌜ CutBack first (now (ends .entry)) (now (rows .entry)) (now (rows .exit)) ⌝ }
+{
+    let mut from = first;
+    let mut j = 0;
+    while j < ends.len() {
+        let to = ends[j] as usize;
+        let left = (ends.len() - j - 1) as u32;
+        cut_row(&mut rows[from..to], left);
+        from = to;
+        j += 1;
+    }
+}
+
+// Resolves the cols of a body's cells in place, as `tbody_to_render_tree` does, and then their rows.
+fn resolve_body(spans: &mut [u32], rows: &mut [u32], ends: &[u32], first: usize)
     requires { ⌜ BodyHeld first (now ends) (now spans) ⌝ }
-    ensures { λ _. ⌜ WrittenBack (resolveBody (rowsAt first (now (ends .entry)) (now (spans .entry)))) first (now (ends .entry)) (now (spans .entry)) (now (spans .exit)) ⌝ }
+    requires { ⌜ RowsHeld first (now ends) (now rows) ⌝ }
+    ensures { λ _. ⌜ BodyDone first (now (ends .entry)) (now (spans .entry)) (now (rows .entry)) (now (spans .exit)) (now (rows .exit)) ⌝ }
 {
     let most = widest_row(spans, ends, first);
     fill_rows(spans, ends, first, most);
+    cut_rows(rows, ends, first);
 }
 
 // Whether there is a line at the place i that is deeper than d.
@@ -103,7 +146,7 @@ pub fn below(lines: &[u32], i: usize, d: u32) -> bool
 }
 
 // Lists the rows and the cells of the table at the place `at`, resolved: what `tr_to_render_tree` and `tbody_to_render_tree` gather. A body
-// is resolved where the next one begins, since only then its largest sum is known, and the last one where the table ends.
+// is resolved where the next one begins, since only then its largest sum and its last row are known, and the last one where the table ends.
 pub fn list_rows(
     lines: &[u32],
     at: usize,
@@ -130,7 +173,7 @@ pub fn list_rows(
         let line = records::kept_at(lines, i);
         let e = line.depth;
         if e == d + 1 {
-            resolve_body(cell_span, &row_end[first_row..r], first_cell);
+            resolve_body(cell_span, cell_rows, &row_end[first_row..r], first_cell);
             first_cell = n;
             first_row = r;
             i += 1;
@@ -150,6 +193,6 @@ pub fn list_rows(
             i += 1;
         }
     }
-    resolve_body(cell_span, &row_end[first_row..r], first_cell);
+    resolve_body(cell_span, cell_rows, &row_end[first_row..r], first_cell);
     Listed { cells: n, rows: r }
 }

@@ -9,7 +9,8 @@ use lib.ListN.{length, getD}
 use borrow.Author.Tests.{le-leb, lt-leb, eq-eqb, ne-eqb}
 use Rattle.records.specs.Kept.{noKept}
 use Rattle.records.specs.declared.Kept.{Kept}
-use Rattle.cells.specs.Cells.{Cell, Row, Frame, frame, row, widest, resolveCell, resolveRow, resolveBody, resolved, rowSum}
+use Rattle.cells.specs.Cells.{Cell, Row, Frame, frame, row, resolveBody, resolved}
+use Rattle.cells.proofs.Rows.{kept-body}
 use Rattle.cells.specs.Listed.{cellLine, allCells}
 use Rattle.estimates.specs.inner.Walk.{cellPlaces}
 
@@ -29,24 +30,13 @@ unfolding allCells
 cells-append [] ys = refl
 cells-append (r ∷ xs) ys = rw (cells-append xs ys) (sym (append-assoc (r .cells) (allCells xs) (allCells ys)))
 
-same-lines : (i : ℕ) (cs : List Cell) → map cellLine (map (resolveCell i) cs) ≡ map cellLine cs
-same-lines i [] = refl
-same-lines i (c ∷ cs) = ap (λ (l : List ℕ). c .line ∷ l) (same-lines i cs)
-
-rows-lines : (m : ℕ) (rs : List Row) → map cellLine (allCells (map (resolveRow m) rs)) ≡ map cellLine (allCells rs)
-unfolding allCells resolveRow
-rows-lines m [] = refl
-rows-lines m (r ∷ rs) =
-    map-append cellLine (map (resolveCell (m - rowSum (r .cells) + 1)) (r .cells)) (allCells (map (resolveRow m) rs))
-    ∙ rw (same-lines (m - rowSum (r .cells) + 1) (r .cells), rows-lines m rs) (sym (map-append cellLine (r .cells) (allCells rs)))
-
 resolved-lines : (bs : List (List Row)) → map cellLine (allCells (resolved bs)) ≡ map cellLine (allBodies bs)
-unfolding allCells allBodies resolved resolveBody
+unfolding allCells allBodies resolved
 resolved-lines [] = refl
 resolved-lines (b ∷ bs) =
-    ap (map cellLine) (cells-append (map (resolveRow (widest b)) b) (resolved bs))
-    ∙ map-append cellLine (allCells (map (resolveRow (widest b)) b)) (allCells (resolved bs))
-    ∙ rw (rows-lines (widest b) b, resolved-lines bs) (sym (map-append cellLine (allCells b) (allBodies bs)))
+    ap (map cellLine) (cells-append (resolveBody b) (resolved bs))
+    ∙ map-append cellLine (allCells (resolveBody b)) (allCells (resolved bs))
+    ∙ rw (kept-body cellLine (λ x c. refl) (λ x c. refl) b, resolved-lines bs) (sym (map-append cellLine (allCells b) (allBodies bs)))
 
 -- the first line, if there is one, is at most so deep
 abbrev pub Head : ℕ → List Kept → Type 0

@@ -9,10 +9,9 @@ use Rattle.records.specs.declared.Kept.{Kept}
 use Rattle.columns.specs.Boxes.{flat}
 use Rattle.columns.specs.Columns.{upTo, sumAt, largestAt}
 use Rattle.edges.specs.Edges.{countBelow, endsFrom}
-use Rattle.cells.specs.Cells.{frame, rowSum, widest, resolveRow, resolveBody, resolved}
+use Rattle.cells.specs.Cells.{frame, rowSum, widest, resolveRow, fillBody, cutRow, cutBody, resolveBody, resolved}
 use Rattle.rows.specs.Row.{fillers, later, rowFrom, hangOf, nexts}
-use Rattle.extras.specs.Extras.{leastLeft, extrasIn, extras}
-use Rattle.positions.specs.Positions.{originals, hangBelow}
+use Rattle.positions.specs.Positions.{originals}
 use Rattle.grid.specs.Grid.{endsOf, entriesFrom, longest, gridOf, columnsOf, tableRows}
 use Rattle.estimates.specs.Estimates.{estimate, estimates, measured, estimateOf, leafOf, holderOf, gather, prefixOf, boxOf, tabled}
 
@@ -21,7 +20,7 @@ ln depth kind number cols rows own = record { depth = depth; kind = kind; number
 
 -- lines with their estimates
 pub record Traced : Type 0 where
-  -- two bodies, a span over both, a colspan of 0, an extra row, a list and a link
+  -- two bodies, a span that ends with the first, a colspan of 0, a list and a link
   pub traced :
       estimates 3 (ln 0 19 1000000000 0 0 0 ∷ ln 1 20 1000000000 0 0 0 ∷ ln 2 21 1000000000 0 0 0 ∷ ln 3 22 1000000000 1 3 0 ∷ ln 4 0 1000000000 0 0 4 ∷ ln 3 22 1000000000 0 1 0 ∷ ln 4 0 1000000000 0 0 16 ∷ ln 2 21 1000000000 0 0 0 ∷ ln 3 22 1000000000 1 1 0 ∷ ln 4 0 1000000000 0 0 10 ∷ ln 3 22 1000000000 2 1 0 ∷ ln 4 13 1000000000 0 0 0 ∷ ln 5 24 1000000000 0 0 0 ∷ ln 6 0 1000000000 0 0 4 ∷ ln 1 20 1000000000 0 0 0 ∷ ln 2 21 1000000000 0 0 0 ∷ ln 3 22 1000000000 2 2 0 ∷ ln 4 4 1000000000 0 0 0 ∷ ln 5 0 1000000000 0 0 3 ∷ [])
       ≡ estimate 47 13 0 ∷ estimate 0 0 0 ∷ estimate 0 0 0 ∷ estimate 4 3 0 ∷ estimate 4 3 0 ∷ estimate 16 3 0 ∷ estimate 16 3 0 ∷ estimate 0 0 0 ∷ estimate 10 3 0 ∷ estimate 10 3 0 ∷ estimate 6 5 0 ∷ estimate 6 5 2 ∷ estimate 4 3 0 ∷ estimate 4 3 0 ∷ estimate 0 0 0 ∷ estimate 0 0 0 ∷ estimate 8 5 0 ∷ estimate 8 5 0 ∷ estimate 3 3 0 ∷ []
@@ -51,7 +50,7 @@ pub record Traced : Type 0 where
       ≡ estimate 1 1 0 ∷ estimate 0 0 0 ∷ estimate 0 0 0 ∷ estimate 1 1 0 ∷ estimate 1 1 0 ∷ estimate 0 0 0 ∷ estimate 0 0 0 ∷ estimate 0 0 0 ∷ []
 
 traced : Traced
-unfolding measured estimateOf leafOf holderOf gather prefixOf boxOf tabled sum upTo sumAt largestAt flat gridOf columnsOf longest originals hangBelow extras extrasIn leastLeft entriesFrom endsOf endsFrom countBelow mem rowFrom fillers later nexts hangOf tableRows frame rowSum widest resolveRow resolveBody resolved olPrefix writing lastNumber digits digitsIn
+unfolding measured estimateOf leafOf holderOf gather prefixOf boxOf tabled sum upTo sumAt largestAt flat gridOf columnsOf longest originals entriesFrom endsOf endsFrom countBelow mem rowFrom fillers later nexts hangOf tableRows frame rowSum widest resolveRow resolveBody fillBody cutBody cutRow resolved olPrefix writing lastNumber digits digitsIn
 traced =
     record {
       traced = refl;

@@ -16,7 +16,7 @@ use Rattle.sheet.proofs.First.{first-passes, first-carries}
 use Rattle.opening.specs.Opening.{keptLines, openChecks, openedOf}
 use Rattle.opening.specs.inner.Opened.{Opened}
 use Rattle.opening.proofs.Answers.{Apt, table-apt}
-use Rattle.opening.proofs.Ready.{kept-lined}
+use Rattle.opening.proofs.Ready.{kept-lined, kept-nests}
 use Rattle.opening.proofs.Opens.{opened-asked}
 use Rattle.opening.proofs.Passing.{Passed, passed}
 use Rattle.table.specs.inner.Fitting.{Asked}
@@ -77,7 +77,14 @@ module _ {s : List ℕ} {line : ℕ} {r : Reading} {lines : List ℕ} (w : Opene
     asked = λ n e.
         let t = opened-apt n e in
         rw (w .holds n e)
-        (record { from-one = t .from-one; within = omega (arith, t .from-one, t .within); lined = kept-lined s n (opened-passed n e .reading); sound = w .sound n e });
+        (record {
+          from-one = t .from-one;
+          within = omega (arith, t .from-one, t .within);
+          kind = t .kind;
+          lined = kept-lined s n (opened-passed n e .reading);
+          nests = kept-nests s n (opened-passed n e .reading);
+          sound = w .sound n e;
+        });
   }
 
 -- the same of the lines that stand in the first places

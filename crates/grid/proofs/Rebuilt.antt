@@ -15,14 +15,13 @@ use Rattle.cells.specs.Cells.{Row}
 use Rattle.cells.specs.Listed.{cellLine, cellCols, cellRows, allCells, cellEnds, heldRows, ListingReady, TableListed}
 use Rattle.cells.proofs.Rows.{length-ends}
 use Rattle.cells.proofs.Facts.{rows-few}
-use Rattle.positions.specs.inner.Slices.{tableOf, Rising, Enough}
+use Rattle.positions.specs.inner.Slices.{tableOf, Rising}
 use Rattle.hanging.specs.Placeable.{Placeable}
 use Rattle.grid.specs.Judging.{Lined}
 use Rattle.positions.proofs.TableSlices.{table-listed, listed-rises}
 
 -- room for the positions of a table with n rows and cells: as many rows, and `room` entries
-pub record Positioning (n room : ℕ) (rl l s e : List ℕ) : Type 0 where
-  pub row-line-room : n ≤ length rl
+pub record Positioning (n room : ℕ) (l s e : List ℕ) : Type 0 where
   pub row-fits : n ≤ room
   pub line-room : room ≤ length l
   pub span-room : room ≤ length s
@@ -59,9 +58,9 @@ module _ {rs : List Row} {line₀ span₀ rows₀ row₀ end₀ line span rows r
   -- its positions can be made
   pub listed-ready : {m : ℕ} → length rs + length (allCells rs) ≤ m → m ≤ maxLines
       → cells ≤ length line → cells ≤ length span → cells ≤ length rows → count ≤ length end
-      → {room : ℕ} {l s e : List ℕ} → Positioning m room row l s e → Enough room rs
-      → Placeable room (take cells line) (take cells span) (take cells rows) (take count end) row l s e
-  listed-ready few short a b d f {room} z g =
+      → {room : ℕ} {l s e : List ℕ} → Positioning m room l s e
+      → Placeable room (take cells line) (take cells span) (take cells rows) (take count end) l s e
+  listed-ready few short a b d f z =
       let u = length-take-le count end f in
       let v = length-take-le cells line a in
       let x = w .cells-are in
@@ -75,8 +74,6 @@ module _ {rs : List Row} {line₀ span₀ rows₀ row₀ end₀ line span rows r
         line-room = z .line-room;
         span-room = z .span-room;
         row-end-room = omega (arith, z .row-end-room);
-        row-line-room = omega (arith, z .row-line-room);
-        enough = subst (λ (t : List Row). Enough room t) (sym rebuilt) g;
       }
 
 -- ---- how many

@@ -8,13 +8,12 @@ use Rattle.records.specs.Kept.{noKept}
 use Rattle.records.specs.declared.Kept.{Kept}
 use Rattle.records.specs.declared.Entry as packed
 use Rattle.cells.specs.Cells as cells
-use Rattle.extras.specs.Extras.{entryCount}
-use Rattle.positions.specs.Positions.{allRows}
+use Rattle.positions.specs.Positions.{entryCount, allRows}
 use Rattle.grid.specs.declared.Judged.{Judged}
 use Rattle.grid.specs.declared.Judged.the-variants.{Grid, Refused}
 use Rattle.grid.specs.Grid.{Entry, shownLine, columnsOf, tableChecks}
 
--- the grid's counts of rows, entries and columns; or the first of the refusals 5, 6 and 7 that applies
+-- the grid's counts of rows, entries and columns; or the first of the refusals 5 and 6 that applies
 unfoldable pub judgedOf : List cells.Row → Judged
 judgedOf table =
     first (λ number line. Refused number) (Grid (length (allRows table)) (entryCount (allRows table)) (columnsOf table)) (tableChecks 0 table)

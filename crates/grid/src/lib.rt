@@ -4,7 +4,7 @@ use positions::Positions;
 ghost use mathlib.Core.Path.{_≡_};
 ghost use mathlib.Core.Bool.{true};
 ghost use Prim.Native.Nat.{_-_, _≤_, _<_, max};
-ghost use lib.ListN.{length, take};
+ghost use lib.ListN.{length};
 ghost use Rattle.edges.specs.Edges.{isEdge, rowsFrom, RowsFit};
 ghost use Rattle.edges.specs.Lookup.{Counted};
 ghost use Rattle.records.specs.Kept.{keptsOf, entriesOf};
@@ -69,28 +69,22 @@ fn number_rows(
     Numbered::Done(columns)
 }
 
-// The same by the edges of the first `originals` rows: rows below the last one add no edge.
-fn number_table(
-    wide: &[u32],
-    line: &[u32],
-    ends: &[u32],
-    originals: usize,
-    entries: &mut [u32],
-) -> Numbered
+// The same by the edges of these rows.
+fn number_table(wide: &[u32], line: &[u32], ends: &[u32], entries: &mut [u32]) -> Numbered
     requires { ⌜ RowsFit 0 (now ends) (now wide) ⌝ }
-    requires { ⌜ originals ≤ length (now ends) ⌝ }
     requires { ⌜ (length (now wide) ≤ length (now line)) × (length (now wide) ≤ length (entriesOf (now entries))) ⌝ }
-    ensures { λ r. ⌜ RowsNumbered (edgeOfRows (rowsFrom 0 (take originals (now (ends .entry))) (now (wide .entry)))) (rowsFrom 0 (now (ends .entry)) (now (wide .entry))) (now (line .entry)) r (entriesOf (now (entries .exit))) ⌝ }
+    ensures { λ r. ⌜ RowsNumbered (edgeOfRows (rowsFrom 0 (now (ends .entry)) (now (wide .entry)))) (rowsFrom 0 (now (ends .entry)) (now (wide .entry))) (now (line .entry)) r (entriesOf (now (entries .exit))) ⌝ }
 {
     let none = edges::Edges::new();
     let start = none.with(0);
-    let marked = edges::mark_rows(start, wide, &ends[..originals]);
+    let marked = edges::mark_rows(start, wide, ends);
     let words = marked.words;
     let counts = marked.counts;
     number_rows(&words, &counts, wide, line, ends, entries)
 }
 
-// The grid of rows by positions as records of its entries, or the refusal: 5 and 6 are known from the positions, 7 is that an entry ends at no edge.
+// The grid of rows by positions as records of its entries, or the refusal 5 or 6, which the positions tell. Refusal 7, that an entry ends at no edge,
+// is never given: the edges are those of all rows.
 pub fn placed_grid(
     placed: Positions,
     wide: &[u32],
@@ -104,16 +98,11 @@ pub fn placed_grid(
     match placed {
         Positions::Past => Judged::Refused(5),
         Positions::Many => Judged::Refused(6),
-        Positions::Rows {
-            originals,
-            rows,
-            entries: n,
-        } => {
+        Positions::Rows { rows, entries: n } => {
             let Numbered::Done(columns) = number_table(
                 &wide[..n],
                 &line[..n],
                 &row_end[..rows],
-                originals,
                 entries,
             ) else {
                 return Judged::Refused(7);
@@ -165,7 +154,6 @@ pub fn place_table(
         &cell_span[..n],
         &cell_rows[..n],
         &cell_end[..r],
-        row_line,
         line,
         wide,
         row_end,

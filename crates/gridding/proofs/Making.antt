@@ -1,10 +1,14 @@
 -- The grid of a table is made: the room is large enough for it, and what is packed are its entries and rows. Assumes nothing.
 use mathlib.Core.Path.{_≡_, sym, ap, _∙_}
-use mathlib.Core.List.{List}
+use mathlib.Core.List.{List, [], _∷_}
+use Prim.{tt}
 use Prim.Native.Nat.{ℕ, _+_, _-_, _/_, _≤_}
 use native.Mathlib.Omega.{arith}
-use lib.ListN.{length, take, drop, length-drop}
+use lib.Dec.{eqb}
+use lib.ListN.{length, getD, take, drop}
+use borrow.Author.Tests.{eq-eqb}
 use Rattle.records.specs.Kept as packed
+use Rattle.records.specs.Kept.{noKept}
 use Rattle.records.specs.declared.Kept.{Kept}
 use Rattle.records.specs.declared.Entry.{Entry}
 use Rattle.records.specs.declared.Row.{Row}
@@ -13,9 +17,8 @@ use Rattle.lists.specs.Limits.{maxLines, maxEntries}
 use Rattle.cells.specs.Cells as cells
 use Rattle.cells.specs.Listed.{heldRows}
 use Rattle.positions.specs.declared.Positions.{Positions}
-use Rattle.positions.proofs.TableFacts.{rows-count}
 use Rattle.positions.proofs.AllRows.{positions-rows}
-use Rattle.positions.proofs.Asked.{held-after}
+use Rattle.positions.proofs.Asked.{askedBy, AtCells, held-asked}
 use Rattle.grid.specs.declared.Judged.{Judged}
 use Rattle.grid.specs.declared.Judged.the-variants.{Grid, Refused}
 use Rattle.grid.specs.Grid.{gridOf, entriesOf, columnsOf}
@@ -27,7 +30,7 @@ use Rattle.grid.proofs.GridFacts.{grid-rows}
 use Rattle.grid.proofs.Judging.{placed-ready, judged}
 use Rattle.gridding.specs.declared.Counts.{Counts}
 use Rattle.gridding.specs.Packed.{GridReady, GridMade, TableReady, TableMade}
-use Rattle.gridding.specs.inner.Making.{rowsIn, Fits, FinishReady, Finished}
+use Rattle.gridding.specs.inner.Making.{asks, rowsBelow, askedAfter, Fits, FinishReady, Finished}
 use Rattle.gridding.proofs.Packing.{rows-are}
 
 -- ---- room
@@ -40,13 +43,21 @@ ready-still z e = record { within = z .within; lined = z .lined; enough = z .eno
 pub rows-room : {n : ℕ} (rows : List ℕ) → n ≤ length (packed.rowsOf rows) → n ≤ length rows
 rows-room rows h = omega (arith, length-of 2 packed.rowBy rows)
 
+-- the lines three deeper than a table ask for the rows of cells
+asks-cells : (d : ℕ) (ls : List Kept) → AtCells (λ l. askedBy (l .rows) ≤ rowsBelow d l) d ls
+asks-cells d [] = tt
+asks-cells d (l ∷ ls) = λ h. ((λ e. here (l .depth - d) (omega (arith, e))), asks-cells d ls)
+  where
+    here : (n : ℕ) → n ≡ 3 → askedBy (l .rows) ≤ asks (eqb n 3) (l .rows)
+    here n e = rw (eq-eqb n 3 e) (omega arith)
+
 -- few lines that ask for few rows
-pub fits-sparse : (ks : List Kept) (at asked most : ℕ) → asked ≡ rowsIn (drop (at + 1) ks) → length ks - at ≤ most → asked ≤ most
+pub fits-sparse : (ks : List Kept) (at asked most : ℕ) → Lined ks → asked ≡ askedAfter ks at → length ks - at ≤ most → asked ≤ most
     → {entries : ℕ} → most + most ≤ entries → Fits most entries ks at
-fits-sparse ks at asked most q a b h = record {
+fits-sparse ks at asked most z q a b h = record {
   few = a;
   more = omega arith;
-  enough = λ _. omega (arith, held-after ks at, length-drop (at + 1) ks);
+  enough = λ _. omega (arith, held-asked (rowsBelow (getD ks at noKept .depth)) ks at (z .short) (asks-cells (getD ks at noKept .depth) (drop (at + 1) ks)));
 }
 
 -- the largest room does for every table
@@ -86,9 +97,8 @@ module _ {lines entries : ℕ} {ks : List Kept} {at : ℕ} (f : Fits lines entri
         let w = z .row-room in
         record {
           ready = placed-ready p (omega arith) (f .enough) (omega arith) (omega arith) (z .enough);
-          rows-in = λ o r n q.
-              let x = positions-rows T (sym (p .answer) ∙ q) .3 in
-              let y = rows-count T in
+          rows-in = λ r n q.
+              let x = positions-rows T (sym (p .answer) ∙ q) .2 in
               (omega arith, omega arith);
         }
 

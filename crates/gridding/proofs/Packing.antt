@@ -16,7 +16,7 @@ use Rattle.positions.specs.declared.Positions.the-variants.{Rows, Past, Many}
 use Rattle.grid.specs.declared.Judged.{Judged}
 use Rattle.grid.specs.declared.Judged.the-variants.{Grid, Refused}
 use Rattle.grid.specs.Grid.{GridRow, rowEnds}
-use Rattle.grid.specs.inner.Placing.{gridLine, withColumns, PlacedJudged}
+use Rattle.grid.specs.inner.Placing.{gridLine, PlacedJudged}
 use Rattle.gridding.specs.Packed.{row, endedRows}
 use Rattle.gridding.specs.inner.Making.{RowsPacked, FinishReady, Finished}
 
@@ -81,17 +81,14 @@ module _ {placed : Positions} {wide line row-line row-end : List ℕ} {es : List
       → ((r ≤ length row-line) × (r ≤ length row-end)) × (r ≤ length rs₀)
   rows-within {es₀} {rs₀} f r n c q = go placed refl
     where
-      by : (r′ n′ : ℕ) (m : Numbered) → judged ≡ withColumns r′ n′ m → r′ ≡ r
-      by r′ n′ (Done k) e = cc
-      by r′ n′ Missing e = absurd (let z : _≡_ {A = ℕ} 0 1 = cc in omega arith)
-
       go : (p : Positions) → placed ≡ p → ((r ≤ length row-line) × (r ≤ length row-end)) × (r ≤ length rs₀)
       go Past e = absurd (let b = g .past e in let z : _≡_ {A = ℕ} 0 1 = cc in omega arith)
       go Many e = absurd (let b = g .many e in let z : _≡_ {A = ℕ} 0 1 = cc in omega arith)
-      go (Rows o r′ n′) e =
-          let k = by r′ n′ (g .rows o r′ n′ e .numbered) (g .rows o r′ n′ e .answer) in
-          let w = f .rows-in o r′ n′ e in
-          let v = f .ready .ready o r′ n′ e .ends-in in
+      go (Rows r′ n′) e =
+          let b = g .rows r′ n′ e .answer in
+          let k : r′ ≡ r = cc in
+          let w = f .rows-in r′ n′ e in
+          let v = f .ready .ready r′ n′ e .ends-in in
           ((omega arith, omega arith), omega arith)
 
   pub finished-none : (k : ℕ) → judged ≡ Refused k → {rs : List Row} → Finished placed wide line row-line row-end (Refused k) es rs

@@ -8,8 +8,7 @@ use Rattle.records.specs.declared.Entry.{Entry}
 use Rattle.records.specs.declared.Row.{Row}
 use Rattle.cells.specs.Cells as cells
 use Rattle.cells.specs.Listed.{heldRows}
-use Rattle.extras.specs.Extras.{entryCount}
-use Rattle.positions.specs.Positions.{allRows}
+use Rattle.positions.specs.Positions.{entryCount, allRows}
 use Rattle.positions.specs.inner.Slices.{Enough}
 use Rattle.grid.specs.declared.Judged.{Judged}
 use Rattle.grid.specs.declared.Judged.the-variants.{Grid}

@@ -8,15 +8,15 @@ use positions::Positions;
 use records::Row;
 ghost use mathlib.Core.Path.{_≡_};
 ghost use Prim.Native.Nat.{_+_, _≤_, _<_};
-ghost use lib.ListN.{length, drop};
+ghost use lib.ListN.{length};
 ghost use Rattle.lists.specs.Limits.{maxLines};
 ghost use Rattle.records.specs.Kept.{keptsOf, entriesOf, rowsOf};
 ghost use Rattle.cells.specs.Listed.{heldRows};
 ghost use Rattle.gridding.specs.Packed.{GridReady, GridMade, TableReady, TableMade};
-ghost use Rattle.gridding.specs.inner.Making.{rowsIn, Ended, Fits, RowsPacked, FinishReady, Finished};
+ghost use Rattle.gridding.specs.inner.Making.{asks, askedAfter, Ended, Fits, RowsPacked, FinishReady, Finished};
 
-// Lines of a table for which short arrays do, and how many entries it has at the most: one for each line after its own, and one for each row that
-// they ask for. The sizes are for speed alone.
+// Lines of a table for which short arrays do, and room for its entries, of which there are no more than its cells ask for rows. The sizes are for speed
+// alone.
 const LEAST_LINES: usize = 16;
 
 const LEAST_ENTRIES: usize = 32;
@@ -42,7 +42,20 @@ struct Extent {
     asked: u64,
 }
 
-// The lines of the table at the place `at`: they end at the first that is no deeper than the table.
+// How many rows a line asks for: a cell with rows 0, which runs to its body's last row, for as many as there can be.
+pub fn rows_asked(cell: bool, rows: u32) -> u32
+    ensures { λ r. ⌜ r ≡ asks cell rows ⌝ }
+{
+    if rows > 0 {
+        return rows;
+    }
+    if cell {
+        return MAX_LINES as u32;
+    }
+    0
+}
+
+// The lines of the table at the place `at`: they end at the first that is no deeper than the table. Its cells are three deeper.
 fn extent_of(lines: &[u32], at: usize) -> Extent
     requires { ⌜ at < length (keptsOf (now lines)) ⌝ }
     requires { ⌜ length (keptsOf (now lines)) ≤ maxLines ⌝ }
@@ -54,7 +67,8 @@ fn extent_of(lines: &[u32], at: usize) -> Extent
     let mut end = at + 1;
     while cells::below(lines, end, d) {
         let here = records::kept_at(lines, end);
-        asked += here.rows as u64;
+        let cell = here.depth - d == 3;
+        asked += rows_asked(cell, here.rows) as u64;
         end += 1;
     }
     Extent { end, asked }
@@ -259,7 +273,7 @@ fn make_within(
     rows: &mut [u32],
 ) -> Judged
     requires { ⌜ GridReady (keptsOf (now lines)) at (entriesOf (now entries)) (rowsOf (now rows)) ⌝ }
-    requires { ⌜ asked ≡ rowsIn (drop (at + 1) (keptsOf (now lines))) ⌝ }
+    requires { ⌜ asked ≡ askedAfter (keptsOf (now lines)) at ⌝ }
     ensures { λ r. ⌜ GridMade (heldRows (keptsOf (now (lines .entry))) at) r (entriesOf (now (entries .exit))) (rowsOf (now (rows .exit))) ⌝ }
 {
     if most > SOME_LINES {
@@ -278,8 +292,8 @@ fn make_within(
     make_within(next(most), lines, at, asked, entries, rows)
 }
 
-// The grid of the table at the place `at`: a record for each entry and for each row, and how many there are; or the first of the refusals 5, 6
-// and 7 that applies.
+// The grid of the table at the place `at`: a record for each entry and for each row, and how many there are; or the first of the refusals 5
+// and 6 that applies.
 pub fn make(lines: &[u32], at: usize, entries: &mut [u32], rows: &mut [u32]) -> Judged
     requires { ⌜ GridReady (keptsOf (now lines)) at (entriesOf (now entries)) (rowsOf (now rows)) ⌝ }
     ensures { λ r. ⌜ GridMade (heldRows (keptsOf (now (lines .entry))) at) r (entriesOf (now (entries .exit))) (rowsOf (now (rows .exit))) ⌝ }

@@ -3,31 +3,27 @@ use mathlib.Core.List.{List}
 use Prim.Native.Nat.{ℕ, _+_, _≤_}
 use native.Mathlib.Omega.{arith}
 use lib.ListN.{length}
-use Rattle.positions.specs.inner.Slices.{PositionsReady}
+use Rattle.positions.specs.inner.Slices.{Ready}
 use Rattle.hanging.specs.Placeable.{Placeable}
 
 -- with six more slices that have a place for each row and cell the positions can be made
-pub ready-with : {room : ℕ} {lines spans rows ends rl l s e left at wide nl na nw : List ℕ} → Placeable room lines spans rows ends rl l s e → {m : ℕ} → length ends + length lines ≤ m
+pub ready-with : {room : ℕ} {lines spans rows ends l s e left at wide nl na nw : List ℕ} → Placeable room lines spans rows ends l s e → {m : ℕ} → length ends + length lines ≤ m
     → m ≤ length left → m ≤ length at → m ≤ length wide → m ≤ length nl → m ≤ length na → m ≤ length nw
-    → PositionsReady room lines spans rows ends rl l s e left at wide nl na nw
+    → Ready room lines spans rows ends l s e left at wide nl na nw
 ready-with p h a b c d e f =
     record {
-      originals = record {
-        rising = p .rising;
-        spans-length = p .spans-length;
-        rows-length = p .rows-length;
-        few = p .few;
-        row-fits = p .row-fits;
-        line-room = p .line-room;
-        span-room = p .span-room;
-        row-end-room = p .row-end-room;
-        left-room = omega arith;
-        at-room = omega arith;
-        wide-room = omega arith;
-        next-left-room = omega arith;
-        next-at-room = omega arith;
-        next-wide-room = omega arith;
-      };
-      row-line-room = p .row-line-room;
-      enough = p .enough;
+      rising = p .rising;
+      spans-length = p .spans-length;
+      rows-length = p .rows-length;
+      few = p .few;
+      row-fits = p .row-fits;
+      line-room = p .line-room;
+      span-room = p .span-room;
+      row-end-room = p .row-end-room;
+      left-room = omega arith;
+      at-room = omega arith;
+      wide-room = omega arith;
+      next-left-room = omega arith;
+      next-at-room = omega arith;
+      next-wide-room = omega arith;
     }

@@ -1,13 +1,14 @@
--- What the positions of a table take where the room for what hangs is the callee's own. These are definitions; nothing is assumed.
+-- What the positions of a table take and give where the room for what hangs is the callee's own. These are definitions; nothing is assumed.
 use mathlib.Core.Path.{_≡_}
 use mathlib.Core.List.{List}
 use Prim.Native.Nat.{ℕ, _+_, _≤_}
 use lib.ListN.{length}
 use Rattle.lists.specs.Limits.{maxLines}
-use Rattle.positions.specs.inner.Slices.{Rising, Enough, tableOf}
+use Rattle.positions.specs.declared.Positions.{Positions}
+use Rattle.positions.specs.inner.Slices.{Rising, tableOf, PositionsDone}
 
--- what the positions of a table take: as `PositionsReady`, with no room for what hangs
-pub record Placeable (room : ℕ) (lines spans rows ends rl l s e : List ℕ) : Type 0 where
+-- what the positions of a table take: as `Ready`, with no room for what hangs
+pub record Placeable (room : ℕ) (lines spans rows ends l s e : List ℕ) : Type 0 where
   pub rising : Rising 0 ends (length lines)
   pub spans-length : length spans ≡ length lines
   pub rows-length : length rows ≡ length lines
@@ -15,6 +16,9 @@ pub record Placeable (room : ℕ) (lines spans rows ends rl l s e : List ℕ) : 
   pub row-fits : length ends + length lines ≤ room
   pub line-room : room ≤ length l
   pub span-room : room ≤ length s
-  pub row-end-room : length ends + length lines ≤ length e
-  pub row-line-room : length ends + length lines ≤ length rl
-  pub enough : Enough room (tableOf lines spans rows rl 0 ends)
+  pub row-end-room : length ends ≤ length e
+
+-- what they give, whichever the lines of the rows are
+abbrev pub Positioned : ℕ → List ℕ → List ℕ → List ℕ → List ℕ → Positions → List ℕ → List ℕ → List ℕ → List ℕ → List ℕ → List ℕ → Type 0
+Positioned room lines spans rows ends r l₀ s₀ e₀ l s e =
+    (rowLines : List ℕ) → PositionsDone room (tableOf lines spans rows rowLines 0 ends) r l₀ s₀ e₀ l s e

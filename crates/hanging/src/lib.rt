@@ -2,8 +2,7 @@
 // table a short one does. The sizes are for speed alone.
 ghost use Prim.Native.Nat.{_+_, _≤_, _<_};
 ghost use lib.ListN.{length};
-ghost use Rattle.positions.specs.inner.Slices.{tableOf, PositionsDone};
-ghost use Rattle.hanging.specs.Placeable.{Placeable};
+ghost use Rattle.hanging.specs.Placeable.{Placeable, Positioned};
 use lists::MAX_LINES;
 use positions::Positions;
 
@@ -27,17 +26,14 @@ fn position_least(
     cell_span: &[u32],
     cell_rows: &[u32],
     cell_end: &[u32],
-    row_line: &mut [u32],
     out_line: &mut [u32],
     out_wide: &mut [u32],
     row_end: &mut [u32],
 ) -> Positions
-    requires { ⌜ Placeable room (now «cell_line») (now «cell_span») (now «cell_rows») (now «cell_end») (now «row_line») (now «out_line») (now «out_wide») (now «row_end») ⌝ }
+    requires { ⌜ Placeable room (now «cell_line») (now «cell_span») (now «cell_rows») (now «cell_end») (now «out_line») (now «out_wide») (now «row_end») ⌝ }
     requires { ⌜ length (now «cell_end») + length (now «cell_line») ≤ 16 ⌝ }
-    ensures { λ r. ⌜ PositionsDone
-        (tableOf (now («cell_line» .entry)) (now («cell_span» .entry)) (now («cell_rows» .entry)) (now («row_line» .entry)) 0 (now («cell_end» .entry))) r
-        (now («row_line» .entry)) (now («out_line» .entry)) (now («out_wide» .entry)) (now («row_end» .entry))
-        (now («row_line» .exit)) (now («out_line» .exit)) (now («out_wide» .exit)) (now («row_end» .exit)) ⌝ }
+    ensures { λ r. ⌜ Positioned room (now («cell_line» .entry)) (now («cell_span» .entry)) (now («cell_rows» .entry)) (now («cell_end» .entry)) r
+        (now («out_line» .entry)) (now («out_wide» .entry)) (now («row_end» .entry)) (now («out_line» .exit)) (now («out_wide» .exit)) (now («row_end» .exit)) ⌝ }
 {
     let mut left = [0u32; LEAST];
     let mut at = [0u32; LEAST];
@@ -51,7 +47,6 @@ fn position_least(
         cell_span,
         cell_rows,
         cell_end,
-        row_line,
         out_line,
         out_wide,
         row_end,
@@ -71,17 +66,14 @@ fn position_few(
     cell_span: &[u32],
     cell_rows: &[u32],
     cell_end: &[u32],
-    row_line: &mut [u32],
     out_line: &mut [u32],
     out_wide: &mut [u32],
     row_end: &mut [u32],
 ) -> Positions
-    requires { ⌜ Placeable room (now «cell_line») (now «cell_span») (now «cell_rows») (now «cell_end») (now «row_line») (now «out_line») (now «out_wide») (now «row_end») ⌝ }
+    requires { ⌜ Placeable room (now «cell_line») (now «cell_span») (now «cell_rows») (now «cell_end») (now «out_line») (now «out_wide») (now «row_end») ⌝ }
     requires { ⌜ length (now «cell_end») + length (now «cell_line») ≤ 128 ⌝ }
-    ensures { λ r. ⌜ PositionsDone
-        (tableOf (now («cell_line» .entry)) (now («cell_span» .entry)) (now («cell_rows» .entry)) (now («row_line» .entry)) 0 (now («cell_end» .entry))) r
-        (now («row_line» .entry)) (now («out_line» .entry)) (now («out_wide» .entry)) (now («row_end» .entry))
-        (now («row_line» .exit)) (now («out_line» .exit)) (now («out_wide» .exit)) (now («row_end» .exit)) ⌝ }
+    ensures { λ r. ⌜ Positioned room (now («cell_line» .entry)) (now («cell_span» .entry)) (now («cell_rows» .entry)) (now («cell_end» .entry)) r
+        (now («out_line» .entry)) (now («out_wide» .entry)) (now («row_end» .entry)) (now («out_line» .exit)) (now («out_wide» .exit)) (now («row_end» .exit)) ⌝ }
 {
     let mut left = [0u32; FEW];
     let mut at = [0u32; FEW];
@@ -95,7 +87,6 @@ fn position_few(
         cell_span,
         cell_rows,
         cell_end,
-        row_line,
         out_line,
         out_wide,
         row_end,
@@ -115,17 +106,14 @@ fn position_some(
     cell_span: &[u32],
     cell_rows: &[u32],
     cell_end: &[u32],
-    row_line: &mut [u32],
     out_line: &mut [u32],
     out_wide: &mut [u32],
     row_end: &mut [u32],
 ) -> Positions
-    requires { ⌜ Placeable room (now «cell_line») (now «cell_span») (now «cell_rows») (now «cell_end») (now «row_line») (now «out_line») (now «out_wide») (now «row_end») ⌝ }
+    requires { ⌜ Placeable room (now «cell_line») (now «cell_span») (now «cell_rows») (now «cell_end») (now «out_line») (now «out_wide») (now «row_end») ⌝ }
     requires { ⌜ length (now «cell_end») + length (now «cell_line») ≤ 512 ⌝ }
-    ensures { λ r. ⌜ PositionsDone
-        (tableOf (now («cell_line» .entry)) (now («cell_span» .entry)) (now («cell_rows» .entry)) (now («row_line» .entry)) 0 (now («cell_end» .entry))) r
-        (now («row_line» .entry)) (now («out_line» .entry)) (now («out_wide» .entry)) (now («row_end» .entry))
-        (now («row_line» .exit)) (now («out_line» .exit)) (now («out_wide» .exit)) (now («row_end» .exit)) ⌝ }
+    ensures { λ r. ⌜ Positioned room (now («cell_line» .entry)) (now («cell_span» .entry)) (now («cell_rows» .entry)) (now («cell_end» .entry)) r
+        (now («out_line» .entry)) (now («out_wide» .entry)) (now («row_end» .entry)) (now («out_line» .exit)) (now («out_wide» .exit)) (now («row_end» .exit)) ⌝ }
 {
     let mut left = [0u32; SOME];
     let mut at = [0u32; SOME];
@@ -139,7 +127,6 @@ fn position_some(
         cell_span,
         cell_rows,
         cell_end,
-        row_line,
         out_line,
         out_wide,
         row_end,
@@ -159,16 +146,13 @@ fn position_many(
     cell_span: &[u32],
     cell_rows: &[u32],
     cell_end: &[u32],
-    row_line: &mut [u32],
     out_line: &mut [u32],
     out_wide: &mut [u32],
     row_end: &mut [u32],
 ) -> Positions
-    requires { ⌜ Placeable room (now «cell_line») (now «cell_span») (now «cell_rows») (now «cell_end») (now «row_line») (now «out_line») (now «out_wide») (now «row_end») ⌝ }
-    ensures { λ r. ⌜ PositionsDone
-        (tableOf (now («cell_line» .entry)) (now («cell_span» .entry)) (now («cell_rows» .entry)) (now («row_line» .entry)) 0 (now («cell_end» .entry))) r
-        (now («row_line» .entry)) (now («out_line» .entry)) (now («out_wide» .entry)) (now («row_end» .entry))
-        (now («row_line» .exit)) (now («out_line» .exit)) (now («out_wide» .exit)) (now («row_end» .exit)) ⌝ }
+    requires { ⌜ Placeable room (now «cell_line») (now «cell_span») (now «cell_rows») (now «cell_end») (now «out_line») (now «out_wide») (now «row_end») ⌝ }
+    ensures { λ r. ⌜ Positioned room (now («cell_line» .entry)) (now («cell_span» .entry)) (now («cell_rows» .entry)) (now («cell_end» .entry)) r
+        (now («out_line» .entry)) (now («out_wide» .entry)) (now («row_end» .entry)) (now («out_line» .exit)) (now («out_wide» .exit)) (now («row_end» .exit)) ⌝ }
 {
     let mut left = [0u32; MAX_LINES];
     let mut at = [0u32; MAX_LINES];
@@ -182,7 +166,6 @@ fn position_many(
         cell_span,
         cell_rows,
         cell_end,
-        row_line,
         out_line,
         out_wide,
         row_end,
@@ -228,16 +211,13 @@ fn position_within(
     cell_span: &[u32],
     cell_rows: &[u32],
     cell_end: &[u32],
-    row_line: &mut [u32],
     out_line: &mut [u32],
     out_wide: &mut [u32],
     row_end: &mut [u32],
 ) -> Positions
-    requires { ⌜ Placeable room (now «cell_line») (now «cell_span») (now «cell_rows») (now «cell_end») (now «row_line») (now «out_line») (now «out_wide») (now «row_end») ⌝ }
-    ensures { λ r. ⌜ PositionsDone
-        (tableOf (now («cell_line» .entry)) (now («cell_span» .entry)) (now («cell_rows» .entry)) (now («row_line» .entry)) 0 (now («cell_end» .entry))) r
-        (now («row_line» .entry)) (now («out_line» .entry)) (now («out_wide» .entry)) (now («row_end» .entry))
-        (now («row_line» .exit)) (now («out_line» .exit)) (now («out_wide» .exit)) (now («row_end» .exit)) ⌝ }
+    requires { ⌜ Placeable room (now «cell_line») (now «cell_span») (now «cell_rows») (now «cell_end») (now «out_line») (now «out_wide») (now «row_end») ⌝ }
+    ensures { λ r. ⌜ Positioned room (now («cell_line» .entry)) (now («cell_span» .entry)) (now («cell_rows» .entry)) (now («cell_end» .entry)) r
+        (now («out_line» .entry)) (now («out_wide» .entry)) (now («row_end» .entry)) (now («out_line» .exit)) (now («out_wide» .exit)) (now («row_end» .exit)) ⌝ }
 {
     if most > SOME_EACH {
         return position_many(
@@ -246,7 +226,6 @@ fn position_within(
             cell_span,
             cell_rows,
             cell_end,
-            row_line,
             out_line,
             out_wide,
             row_end,
@@ -260,7 +239,6 @@ fn position_within(
                 cell_span,
                 cell_rows,
                 cell_end,
-                row_line,
                 out_line,
                 out_wide,
                 row_end,
@@ -273,7 +251,6 @@ fn position_within(
                 cell_span,
                 cell_rows,
                 cell_end,
-                row_line,
                 out_line,
                 out_wide,
                 row_end,
@@ -285,7 +262,6 @@ fn position_within(
             cell_span,
             cell_rows,
             cell_end,
-            row_line,
             out_line,
             out_wide,
             row_end,
@@ -298,7 +274,6 @@ fn position_within(
         cell_span,
         cell_rows,
         cell_end,
-        row_line,
         out_line,
         out_wide,
         row_end,
@@ -312,16 +287,13 @@ pub fn position(
     cell_span: &[u32],
     cell_rows: &[u32],
     cell_end: &[u32],
-    row_line: &mut [u32],
     out_line: &mut [u32],
     out_wide: &mut [u32],
     row_end: &mut [u32],
 ) -> Positions
-    requires { ⌜ Placeable room (now «cell_line») (now «cell_span») (now «cell_rows») (now «cell_end») (now «row_line») (now «out_line») (now «out_wide») (now «row_end») ⌝ }
-    ensures { λ r. ⌜ PositionsDone
-        (tableOf (now («cell_line» .entry)) (now («cell_span» .entry)) (now («cell_rows» .entry)) (now («row_line» .entry)) 0 (now («cell_end» .entry))) r
-        (now («row_line» .entry)) (now («out_line» .entry)) (now («out_wide» .entry)) (now («row_end» .entry))
-        (now («row_line» .exit)) (now («out_line» .exit)) (now («out_wide» .exit)) (now («row_end» .exit)) ⌝ }
+    requires { ⌜ Placeable room (now «cell_line») (now «cell_span») (now «cell_rows») (now «cell_end») (now «out_line») (now «out_wide») (now «row_end») ⌝ }
+    ensures { λ r. ⌜ Positioned room (now («cell_line» .entry)) (now («cell_span» .entry)) (now («cell_rows» .entry)) (now («cell_end» .entry)) r
+        (now («out_line» .entry)) (now («out_wide» .entry)) (now («row_end» .entry)) (now («out_line» .exit)) (now («out_wide» .exit)) (now («row_end» .exit)) ⌝ }
 {
     position_within(
         LEAST_EACH,
@@ -330,7 +302,6 @@ pub fn position(
         cell_span,
         cell_rows,
         cell_end,
-        row_line,
         out_line,
         out_wide,
         row_end,

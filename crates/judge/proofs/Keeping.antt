@@ -8,6 +8,8 @@ use lib.ListN.{length, getD, take, set, length-map, length-take}
 use lib.Seq.{getD-take}
 use Rattle.lists.specs.Limits.{maxLines, maxPosition}
 use Rattle.records.specs.Kept.{noEntry, tablePlace}
+use Rattle.line.specs.Kinds.{tableKind}
+use Rattle.records.specs.Kept.{noKept}
 use Rattle.records.specs.Kept as kept
 use Rattle.records.specs.declared.Entry as packed
 use Rattle.records.specs.declared.Row as packed-row
@@ -84,8 +86,9 @@ module _ {ks : List Kept} (z : Lined ks) {at : ℕ} (h : at < length ks) where
 
 -- ---- room
 
-pub roomy-ready : {ks : List Kept} {rs : List packed-row.Row} {qs : List packed.Entry} {places : ℕ} → Lined ks → {at : ℕ} → at < length ks → Roomy ks (length qs) (length rs) places → GridReady ks at qs rs
-roomy-ready l {at} h r = record { within = h; lined = l; enough = r .enough .at at h; row-room = r .row-room }
+pub roomy-ready : {ks : List Kept} {rs : List packed-row.Row} {qs : List packed.Entry} {places : ℕ} → Lined ks → {at : ℕ} → at < length ks → getD ks at noKept .kind ≡ tableKind
+    → Roomy ks (length qs) (length rs) places → GridReady ks at qs rs
+roomy-ready l {at} h e r = record { within = h; lined = l; enough = r .enough .at at h e; row-room = r .row-room }
 
 -- slices that are as long as they were are as roomy
 pub roomy-still : {ks : List Kept} (es es₀ rs rs₀ ps ps₀ : List ℕ) → length es ≡ length es₀ → length rs ≡ length rs₀ → length ps ≡ length ps₀

@@ -8,15 +8,16 @@ use records::Place;
 ghost use mathlib.Core.Path.{_≡_};
 ghost use mathlib.Core.Bool.{true};
 ghost use Prim.Native.Nat.{_≤_, _<_};
-ghost use lib.ListN.{length, take};
-ghost use Rattle.records.specs.Kept.{keptsOf, entriesOf, rowsOf, placesOf};
+ghost use lib.ListN.{length, getD, take};
+ghost use Rattle.line.specs.Kinds.{tableKind};
+ghost use Rattle.records.specs.Kept.{noKept, keptsOf, entriesOf, rowsOf, placesOf};
 ghost use Rattle.cells.specs.Listed.{heldRows};
 ghost use Rattle.grid.specs.Judging.{Lined};
 ghost use Rattle.judge.specs.Places.{Nests, TablesJudged};
 ghost use Rattle.judge.specs.inner.Keeping.{storedIn, EntriesFit, JudgedFits, JudgedStored, TableKept, Roomy, Sparse};
 
-// Lines of a sheet for which short arrays do: 128 and 512. Its tables have no more entries than twice as many, one for each line, and one for
-// each row that a cell asks for. A row takes two numbers, an entry three. The sizes are for speed alone.
+// Lines of a sheet for which short arrays do: 128 and 512. Its tables have no more entries than its cells ask for rows; there is room for twice as many
+// as lines. A row takes two numbers, an entry three. The sizes are for speed alone.
 const FEW_LINES: u32 = 128;
 
 const FEW_ROWS: usize = 2 * 128;
@@ -86,6 +87,7 @@ fn keep_table(
     places: &mut [u32],
 ) -> Judged
     requires { ⌜ at < length (keptsOf (now lines)) ⌝ }
+    requires { ⌜ getD (keptsOf (now lines)) at noKept .kind ≡ tableKind ⌝ }
     requires { ⌜ Lined (keptsOf (now lines)) ⌝ }
     requires { ⌜ Roomy (keptsOf (now lines)) (length (entriesOf (now entries))) (length (rowsOf (now rows))) (length (placesOf (now places))) ⌝ }
     ensures { λ r. ⌜ TableKept (heldRows (keptsOf (now (lines .entry))) at) at r (placesOf (now (places .entry))) (placesOf (now (places .exit))) ⌝ }
@@ -142,10 +144,11 @@ pub fn is_sparse(lines: &[u32], most: u32) -> bool
     let mut i = 0;
     while i < n {
         let here = records::kept_at(lines, i);
-        if here.rows > left {
+        let asked = gridding::rows_asked(here.kind == line::kinds::CELL, here.rows);
+        if asked > left {
             return false;
         }
-        left -= here.rows;
+        left -= asked;
         i += 1;
     }
     true

@@ -13,7 +13,7 @@ use Rattle.records.specs.declared.Entry.{Entry}
 use Rattle.records.specs.declared.Row.{Row}
 use Rattle.cells.specs.Cells as cells
 use Rattle.cells.specs.Listed.{heldRows}
-use Rattle.positions.specs.Positions.{originalRows, allRows}
+use Rattle.positions.specs.Positions.{allRows}
 use Rattle.grid.specs.Grid.{GridRow, shownLine, gridOf, entriesOf, rowEnds, firstOf, spanOf, rowLine}
 use Rattle.grid.proofs.GridLists.{grid-count}
 use Rattle.grid.proofs.GridFacts.{grid-rows, grid-entries, grid-columns}
@@ -74,7 +74,7 @@ module _ {ks : List Kept} {line : ℕ} (a : Asked ks line) where
     unfolding gridOf
     grid-fits z r h g =
         let n = grid-entries T (a .sound) in
-        let k = grid-count (originalRows T) (allRows T) in
+        let k = grid-count (allRows T) (allRows T) in
         let u = z .entries-most in
         let v = z .lines-most in
         let o = rows-few in

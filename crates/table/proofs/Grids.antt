@@ -17,7 +17,7 @@ use Rattle.cells.specs.Cells as cells
 use Rattle.cells.specs.Facts.{Every, none, and}
 use Rattle.cells.specs.Listed.{heldRows}
 use Rattle.grid.specs.Grid.{Entry, GridRow, gridOf, columnsOf, entriesOf}
-use Rattle.positions.specs.Positions.{originalRows, allRows}
+use Rattle.positions.specs.Positions.{allRows}
 use Rattle.grid.proofs.GridLists.{grid-count}
 use Rattle.grid.proofs.GridCells.{entries-cells}
 use Rattle.grid.proofs.Rebuilt.{held-few}
@@ -81,7 +81,7 @@ module _ {ks : List Kept} {at : ℕ} {es₀ : List packed.Entry} {rs₀ : List R
 
   room : length (entriesOf g) ≤ length es₀
   unfolding gridOf
-  room = omega (arith, grid-count (originalRows table) (allRows table), a .entry-room)
+  room = omega (arith, grid-count (allRows table) (allRows table), a .entry-room)
 
   rows-few : length g ≤ length ks
   rows-few = omega (arith, grid-rows table (a .sound), held-few ks at)

@@ -12,10 +12,9 @@ use Rattle.records.specs.declared.Kept.{Kept}
 use Rattle.records.proofs.Records.{length-of}
 use Rattle.records.proofs.Numbers.{length-numbers, numbers-are}
 use Rattle.cells.specs.Listed.{heldRows}
-use Rattle.extras.specs.Extras.{entryCount}
-use Rattle.positions.specs.Positions.{allRows}
+use Rattle.positions.specs.Positions.{allRows, entryCount}
 use Rattle.judge.specs.inner.Keeping.{Sparse}
-use Rattle.positions.proofs.Asked.{held-entries}
+use Rattle.judge.proofs.Sparsing.{held-sparse}
 use Rattle.gridding.specs.Packed.{TableReady}
 use Rattle.table.specs.inner.Fitting.{Asked}
 
@@ -26,7 +25,7 @@ pub record Most (entries rows : ℕ) (ks : List Kept) (line : ℕ) : Type 0 wher
 
 -- few in a sheet whose lines are few and ask for few rows
 pub few-most : {ks : List Kept} {line : ℕ} → Asked ks line → Sparse 512 ks → Most 1024 512 ks line
-few-most {ks} {line} a z = record { entries-most = omega (arith, held-entries ks (line - 1), z .few, z .short); lines-most = z .few }
+few-most {ks} {line} a z = record { entries-most = omega (arith, held-sparse (a .lined) (a .nests) z (line - 1) (a .within) (a .kind)); lines-most = z .few }
 
 pub any-most : {ks : List Kept} {line : ℕ} → Asked ks line → Most 8192 4096 ks line
 any-most a = record { entries-most = a .sound .few; lines-most = a .lined .short }

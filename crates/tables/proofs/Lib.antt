@@ -4,3 +4,4 @@ pub mod Checking
 pub mod Measuring
 pub mod Gridding
 pub mod Laying
+pub mod Never

@@ -7,7 +7,7 @@ use Rattle.grid.specs.Grid.{tablesChecks}
 use Rattle.arguments.specs.Arguments.{estimatesArguments, gridArguments, layoutArguments}
 use Rattle.opening.specs.Opening.{keptLines, lineCheck}
 
--- each table of the sheet in turn: 5, 6, 7
+-- each table of the sheet in turn: 5, 6
 abbrev pub everyTable : List ℕ → List Check
 everyTable s = tablesChecks 1 (keptLines s)
 

@@ -5,19 +5,18 @@ use mathlib.Core.List.{List, [], _∷_, map}
 use Prim.Native.Nat.{ℕ}
 use Rattle.lists.specs.Lists.{sum, mem}
 use Rattle.lists.specs.Refusals.{verdictOf, first}
-use Rattle.lists.specs.declared.Verdict.the-variants.{Accepted, Refused}
+use Rattle.lists.specs.declared.Verdict.the-variants.{Accepted}
 use Rattle.text.specs.Bytes.{classOf}
 use Rattle.text.specs.Text.{measureOf, textSize, readable, trimStart, trimEnd, widths, runs, begins}
 use Rattle.text.specs.Decimal.{digitsIn, digits, writing, plain}
 use Rattle.text.specs.Prefix.{lastNumber, olPrefix}
 use Rattle.text.specs.declared.Measured.the-variants.{Figures}
 use Rattle.line.specs.Names.{word, firstCodes}
-use Rattle.edges.specs.Edges.{countBelow, endsFrom, allAt}
+use Rattle.edges.specs.Edges.{countBelow, endsFrom}
 use Rattle.cells.specs.Cells as cells
-use Rattle.cells.specs.Cells.{cell, rowSum, widest, resolveRow, resolveBody}
+use Rattle.cells.specs.Cells.{cell, rowSum, widest, resolveRow, fillBody, cutRow, cutBody, resolveBody, resolved}
 use Rattle.rows.specs.Row.{fillers, later, rowFrom, hangOf, nexts}
-use Rattle.extras.specs.Extras.{leastLeft, extrasIn, extras, entryCount}
-use Rattle.positions.specs.Positions.{originals, hangBelow, endsPast}
+use Rattle.positions.specs.Positions.{entryCount, originals, endsPast}
 use Rattle.grid.specs.Grid.{entry, endsOf, entriesFrom, longest, gridOf, columnsOf, tableChecks}
 use Rattle.cutting.specs.Cut.{pick, cutOnce, cutBy, cut}
 use Rattle.widths.specs.Share.{share, sharesOf}
@@ -47,26 +46,40 @@ ol-childless = refl
 -- body sums 4 (cols 1,0,2) and 6: 0 becomes 3
 pub zero-resolved : resolveBody (cells.row 3 (cell 4 1 1 ∷ cell 5 0 1 ∷ cell 6 2 1 ∷ []) ∷ cells.row 7 (cell 8 6 1 ∷ []) ∷ [])
     ≡ cells.row 3 (cell 4 1 1 ∷ cell 5 3 1 ∷ cell 6 2 1 ∷ []) ∷ cells.row 7 (cell 8 6 1 ∷ []) ∷ []
-unfolding resolveBody resolveRow widest rowSum sum
+unfolding resolveBody fillBody cutBody cutRow resolveRow widest rowSum sum
 zero-resolved = refl
 
--- one row, cols 2 then cols 1 rows 2: refusal 7
-pub hangs-at-no-edge : verdictOf (tableChecks 1 (cells.row 3 (cell 4 2 1 ∷ cell 5 1 2 ∷ []) ∷ [])) ≡ Refused 7 1
-unfolding verdictOf first tableChecks endsPast entryCount allAt originals hangBelow extras extrasIn leastLeft endsOf endsFrom sum mem rowFrom fillers later nexts hangOf
-hangs-at-no-edge = refl
+-- one row, cols 2 then cols 1 rows 2, and with cols 1 first: accepted, one row of two columns, no extra row
+abbrev last-hangs : List (List cells.Row)
+last-hangs = (cells.row 3 (cell 4 2 1 ∷ cell 5 1 2 ∷ []) ∷ []) ∷ []
 
--- with cols 1 first: accepted; extra row, filler at column 0
-abbrev hangs-first : List cells.Row
-hangs-first = cells.row 3 (cell 4 1 2 ∷ cell 5 2 1 ∷ []) ∷ []
+abbrev first-hangs : List (List cells.Row)
+first-hangs = (cells.row 3 (cell 4 1 2 ∷ cell 5 2 1 ∷ []) ∷ []) ∷ []
 
-pub hangs-at-an-edge : verdictOf (tableChecks 1 hangs-first) ≡ Accepted
-unfolding verdictOf first tableChecks endsPast entryCount allAt originals hangBelow extras extrasIn leastLeft endsOf endsFrom sum mem rowFrom fillers later nexts hangOf
-hangs-at-an-edge = refl
+pub last-accepted : verdictOf (tableChecks 1 (resolved last-hangs)) ≡ Accepted
+unfolding verdictOf first tableChecks endsPast entryCount originals sum rowFrom fillers later nexts hangOf resolved resolveBody fillBody resolveRow cutBody cutRow widest rowSum
+last-accepted = refl
 
-pub extra-row : gridOf hangs-first
-    ≡ record { line = 3; entries = entry 4 false 0 1 ∷ entry 5 false 1 1 ∷ [] } ∷ record { line = 0; entries = entry 4 true 0 1 ∷ [] } ∷ []
-unfolding gridOf originals hangBelow extras extrasIn leastLeft entriesFrom endsOf endsFrom countBelow sum mem rowFrom fillers later nexts hangOf
-extra-row = refl
+pub last-ends : gridOf (resolved last-hangs) ≡ record { line = 3; entries = entry 4 false 0 1 ∷ entry 5 false 1 1 ∷ [] } ∷ []
+unfolding gridOf originals entriesFrom endsOf endsFrom countBelow sum mem rowFrom fillers later nexts hangOf resolved resolveBody fillBody resolveRow cutBody cutRow widest rowSum
+last-ends = refl
+
+pub first-accepted : verdictOf (tableChecks 1 (resolved first-hangs)) ≡ Accepted
+unfolding verdictOf first tableChecks endsPast entryCount originals sum rowFrom fillers later nexts hangOf resolved resolveBody fillBody resolveRow cutBody cutRow widest rowSum
+first-accepted = refl
+
+pub first-ends : gridOf (resolved first-hangs) ≡ record { line = 3; entries = entry 4 false 0 1 ∷ entry 5 false 1 1 ∷ [] } ∷ []
+unfolding gridOf originals entriesFrom endsOf endsFrom countBelow sum mem rowFrom fillers later nexts hangOf resolved resolveBody fillBody resolveRow cutBody cutRow widest rowSum
+first-ends = refl
+
+-- rows 0 runs to its body's last row: a filler below, none in the next body
+pub rows-zero : gridOf (resolved ((cells.row 3 (cell 4 1 0 ∷ []) ∷ cells.row 5 (cell 6 1 1 ∷ []) ∷ []) ∷ (cells.row 8 (cell 9 1 1 ∷ []) ∷ []) ∷ []))
+    ≡ record { line = 3; entries = entry 4 false 0 1 ∷ [] }
+    ∷ record { line = 5; entries = entry 4 true 0 1 ∷ entry 6 false 1 1 ∷ [] }
+    ∷ record { line = 8; entries = entry 9 false 0 1 ∷ [] }
+    ∷ []
+unfolding gridOf originals entriesFrom endsOf endsFrom countBelow sum mem rowFrom fillers later nexts hangOf resolved resolveBody fillBody resolveRow cutBody cutRow widest rowSum
+rows-zero = refl
 
 -- row cols 3, row cols 1 and 2: 2 columns
 pub two-columns : columnsOf (cells.row 3 (cell 4 3 1 ∷ []) ∷ cells.row 5 (cell 6 1 1 ∷ cell 7 2 1 ∷ []) ∷ []) ≡ 2

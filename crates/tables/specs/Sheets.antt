@@ -23,12 +23,11 @@ use Rattle.sheet.specs.Nesting.{nearest, depthFits, placeFits, childless}
 use Rattle.sheet.specs.Sheet.{sheetChecks, linesChecks, linesOf, emptyChecks, sheetLines}
 use Rattle.columns.specs.Boxes.{flat}
 use Rattle.columns.specs.Columns.{upTo, sumAt, largestAt}
-use Rattle.edges.specs.Edges.{countBelow, endsFrom, allAt}
-use Rattle.cells.specs.Cells.{frame, rowSum, widest, resolveRow, resolveBody, resolved}
+use Rattle.edges.specs.Edges.{countBelow, endsFrom}
+use Rattle.cells.specs.Cells.{frame, rowSum, widest, resolveRow, fillBody, cutRow, cutBody, resolveBody, resolved}
 use Rattle.cells.specs.Listed.{heldRows}
 use Rattle.rows.specs.Row.{fillers, later, rowFrom, hangOf, nexts}
-use Rattle.extras.specs.Extras.{leastLeft, extrasIn, extras, entryCount}
-use Rattle.positions.specs.Positions.{originals, hangBelow, endsPast}
+use Rattle.positions.specs.Positions.{entryCount, originals, endsPast}
 use Rattle.grid.specs.Grid.{endsOf, entriesFrom, longest, gridOf, columnsOf, tableChecks, tableRows, tablesChecks}
 use Rattle.estimates.specs.Estimates.{estimate, estimates, measured, estimateOf, leafOf, holderOf, gather, prefixOf, boxOf, tabled}
 use Rattle.cutting.specs.Cut.{pick, cutOnce, cutBy, cut}
@@ -57,7 +56,7 @@ example =
     ++ line "3 cell 0 1 1 "
     ++ line "4 text 0 0 0 ab"
 
--- two bodies, a span over both, a colspan of 0, an extra row, a list and a link
+-- two bodies, two spans that end with theirs, a colspan of 0, a list and a link
 abbrev pub survey : List ℕ
 survey =
     line "depth kind n cols rows text"
@@ -107,8 +106,8 @@ pub record Traced : Type 0 where
   pub survey-at-13 : widthsAt survey 1 3 0 13 ≡ 3 ∷ 3 ∷ 2 ∷ 2 ∷ []
   -- one less goes down the page
   pub survey-down-at-12 : wayAt survey 1 3 0 12 ≡ Down
-  -- every entry at width 23, extra row and fillers included
-  pub survey-places : placesAt survey 1 3 0 23 ≡ at 0 3 ∷ at 4 16 ∷ at 0 3 ∷ at 4 8 ∷ at 13 10 ∷ at 0 3 ∷ at 4 16 ∷ at 0 12 ∷ []
+  -- every entry at width 23, fillers included
+  pub survey-places : placesAt survey 1 3 0 23 ≡ at 0 3 ∷ at 4 16 ∷ at 0 3 ∷ at 4 8 ∷ at 13 10 ∷ at 0 12 ∷ []
   -- a sum worth 420: size 3, and at wrap 2 least 2
   pub sum-accepted : verdictOf (checkChecks (reckoned "(3+4)*120/2")) ≡ Accepted
   pub sum-measured : estimates 2 (keptLines (reckoned "(3+4)*120/2")) ≡ estimate 3 2 0 ∷ []
@@ -118,7 +117,7 @@ pub record Traced : Type 0 where
   pub sum-over-zero : verdictOf (checkChecks (reckoned "1/0")) ≡ Refused 14 1
 
 pub traced : Traced
-unfolding firstCodes sum mem verdictOf first passes classOf textSize readable trimStart trimEnd widths runs begins shifted writing digits digitsIn lastNumber olPrefix same place kindOf mayHold feeds pieces headed allDigits valueFrom isNatural naturalOf negativeOf numberOf untilBlank thenNumber thenKind parse nFits spansFit textFits fits readParsed readLine ownSize nearest depthFits placeFits childless sheetChecks linesChecks linesOf emptyChecks sheetLines flat upTo sumAt largestAt countBelow endsFrom frame rowSum widest resolveRow resolveBody resolved heldRows fillers later rowFrom hangOf nexts originals hangBelow leastLeft extrasIn extras endsOf entriesFrom longest gridOf columnsOf endsPast entryCount allAt tableChecks tableRows tablesChecks measured estimateOf leafOf holderOf gather prefixOf boxOf tabled pick cutOnce cutBy cut share sharesOf wayOf finalWidths nonzero tableWidth placeSide placeDown placeRow placeRows result both digit total wanted operator inner opened closed step finish run answerBy answerOf written measureBy measureOf
+unfolding firstCodes sum mem verdictOf first passes classOf textSize readable trimStart trimEnd widths runs begins shifted writing digits digitsIn lastNumber olPrefix same place kindOf mayHold feeds pieces headed allDigits valueFrom isNatural naturalOf negativeOf numberOf untilBlank thenNumber thenKind parse nFits spansFit textFits fits readParsed readLine ownSize nearest depthFits placeFits childless sheetChecks linesChecks linesOf emptyChecks sheetLines flat upTo sumAt largestAt countBelow endsFrom frame rowSum widest resolveRow resolveBody resolved heldRows fillers later rowFrom hangOf nexts originals endsOf entriesFrom longest gridOf columnsOf endsPast entryCount tableChecks tableRows tablesChecks measured estimateOf leafOf holderOf gather prefixOf boxOf tabled pick cutOnce cutBy cut share sharesOf wayOf finalWidths nonzero tableWidth placeSide placeDown placeRow placeRows result both digit total wanted operator inner opened closed step finish run answerBy answerOf written measureBy measureOf fillBody cutBody cutRow
 traced =
     record {
       example-accepted = refl;

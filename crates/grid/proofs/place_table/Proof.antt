@@ -1,7 +1,7 @@
 -- `place_table` meets its contract. The listed slices hold the table again (`rebuilt`), which has no more rows and cells than there are lines from
 -- its own on, so its positions can be made, in the room that the caller says is enough for its entries. Every slice keeps the length that it had.
 -- Assumes nothing.
-use mathlib.Core.Path.{sym, _∙_}
+use mathlib.Core.Path.{sym}
 use Prim.Native.Nat.{_+_, _-_, _≤_}
 use native.Mathlib.Omega.{arith}
 use lib.ListN.{length}
@@ -62,34 +62,34 @@ slice-aggregate-position-4 : tie.Need-slice-aggregate-position-4
 slice-aggregate-position-4 c = sym (length-take-le _ _ (fits-end (c .before .before .before .before .before .before .before .before .before .before .before .before .before .before)))
 
 position-requires : tie.Need-position-requires
-position-requires c κs = let w = (c .before .before .before .before .before .before .before .before .before .before .before .before .before .before .before .before .before .before) in let r = entry w .pre .1 .1 .0 in listed-ready (w .list-rows .ensures) (few w) (omega (arith, entry w .pre .1 .0 .short)) (fits-line w) (fits-span w) (fits-rows w) (fits-end w) (record { row-line-room = omega (arith, r .row-room, w .list-rows .kept .1 .1 .1 .1 .1 .0); row-fits = r .row-fits; line-room = r .line-room; span-room = r .wide-room; row-end-room = r .end-room }) (entry w .pre .1 .1 .1)
+position-requires c κs = let w = (c .before .before .before .before .before .before .before .before .before .before .before .before .before .before .before .before .before) in let r = entry w .pre .1 .1 .0 in listed-ready (w .list-rows .ensures) (few w) (omega (arith, entry w .pre .1 .0 .short)) (fits-line w) (fits-span w) (fits-rows w) (fits-end w) (record { row-fits = r .row-fits; line-room = r .line-room; span-room = r .wide-room; row-end-room = r .end-room })
 
 same-length : tie.Need-same-length
-same-length c = (c .before .before .before .before .before .before .before .before) .position .kept .1 .1 .1 .1 .1 .1 .1 .0
+same-length c = (c .before .before .before .before .before .before) .position .kept .1 .1 .1 .1 .1 .1 .0
 
 same-length-2 : tie.Need-same-length-2
-same-length-2 c = (c .before .before .before .before .before .before .before .before) .position .kept .1 .1 .1 .1 .1 .1 .0
+same-length-2 c = (c .before .before .before .before .before .before) .position .kept .1 .1 .1 .1 .1 .0
 
 same-length-3 : tie.Need-same-length-3
-same-length-3 c = (c .before .before .before .before .before .before .before .before .before .before .before .before .before .before .before .before .before .before .before .before .before .before .before .before .before .before .before) .list-rows .kept .1 .1 .0
+same-length-3 c = (c .before .before .before .before .before .before .before .before .before .before .before .before .before .before .before .before .before .before .before .before .before .before .before .before) .list-rows .kept .1 .1 .0
 
 same-length-4 : tie.Need-same-length-4
-same-length-4 c = (c .before .before .before .before .before .before .before .before .before .before .before .before .before .before .before .before .before .before .before .before .before .before .before .before .before .before .before) .list-rows .kept .1 .1 .1 .0
+same-length-4 c = (c .before .before .before .before .before .before .before .before .before .before .before .before .before .before .before .before .before .before .before .before .before .before .before .before) .list-rows .kept .1 .1 .1 .0
 
 same-length-5 : tie.Need-same-length-5
-same-length-5 c = (c .before .before .before .before .before .before .before .before .before .before .before .before .before .before .before .before .before .before .before .before .before .before .before .before .before .before .before) .list-rows .kept .1 .1 .1 .1 .0
+same-length-5 c = (c .before .before .before .before .before .before .before .before .before .before .before .before .before .before .before .before .before .before .before .before .before .before .before .before) .list-rows .kept .1 .1 .1 .1 .0
 
 same-length-6 : tie.Need-same-length-6
-same-length-6 c = (c .before .before .before .before .before .before .before .before .before .before .before .before .before .before .before .before .before .before .before .before .before .before .before .before .before .before .before) .list-rows .kept .1 .1 .1 .1 .1 .1 .0
+same-length-6 c = (c .before .before .before .before .before .before .before .before .before .before .before .before .before .before .before .before .before .before .before .before .before .before .before .before) .list-rows .kept .1 .1 .1 .1 .1 .1 .0
 
 same-length-7 : tie.Need-same-length-7
-same-length-7 c = (c .before .before .before .before .before .before .before .before) .position .kept .1 .1 .1 .1 .1 .0 ∙ (c .before .before .before .before .before .before .before .before .before .before .before .before .before .before .before .before .before .before .before .before .before .before .before .before .before .before .before) .list-rows .kept .1 .1 .1 .1 .1 .0
+same-length-7 c = (c .before .before .before .before .before .before .before .before .before .before .before .before .before .before .before .before .before .before .before .before .before .before .before .before) .list-rows .kept .1 .1 .1 .1 .1 .0
 
 same-length-8 : tie.Need-same-length-8
-same-length-8 c = (c .before .before .before .before .before .before .before .before) .position .kept .1 .1 .1 .1 .1 .1 .1 .1 .0
+same-length-8 c = (c .before .before .before .before .before .before) .position .kept .1 .1 .1 .1 .1 .1 .1 .0
 
 returns : tie.Need-returns
-returns c = placed-stands ((c .before .before .before .before .before .before .before .before .before .before .before .before .before .before .before .before .before .before .before .before .before .before .before .before .before .before .before) .list-rows .ensures) ((c .before .before .before .before .before .before .before .before) .position .ensures)
+returns c = placed-stands ((c .before .before .before .before .before .before .before .before .before .before .before .before .before .before .before .before .before .before .before .before .before .before .before .before) .list-rows .ensures) (entry (c .before .before .before .before .before .before .before .before .before .before .before .before .before .before .before .before .before .before .before .before .before .before .before .before) .pre .1 .1 .1) ((c .before .before .before .before .before .before) .position .ensures _)
 
 pub place-table-spec : {M : Type 1} → statement M
 place-table-spec =

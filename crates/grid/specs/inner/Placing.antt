@@ -7,15 +7,13 @@ use lib.ListN.{length, take}
 use Rattle.lists.specs.Lists.{mem}
 use Rattle.records.specs.declared.Entry as packed
 use Rattle.edges.specs.Edges.{rowsFrom, rowsEnds, RowsFit}
-use Rattle.edges.specs.declared.Numbered.{Numbered}
-use Rattle.edges.specs.declared.Numbered.the-variants.{Done, Missing}
+use Rattle.edges.specs.declared.Numbered.the-variants.{Done}
 use Rattle.cells.specs.Cells as cells
 use Rattle.rows.specs.Row.{itemLine, itemSpan}
 use Rattle.positions.specs.declared.Positions.{Positions}
 use Rattle.positions.specs.declared.Positions.the-variants.{Rows, Past, Many}
 use Rattle.positions.specs.Positions.{allRows}
-use Rattle.extras.specs.inner.Slices.{allItems, entryEnds, placedLine}
-use Rattle.positions.specs.inner.Slices.{positionsOf}
+use Rattle.positions.specs.inner.Slices.{allItems, entryEnds, placedLine, positionsOf}
 use Rattle.grid.specs.declared.Judged.{Judged}
 use Rattle.grid.specs.declared.Judged.the-variants.{Grid, Refused}
 use Rattle.grid.specs.inner.Numbering.{RowsNumbered}
@@ -27,34 +25,29 @@ abbrev pub edgeOfRows : List (List ℕ) → ℕ → Bool
 edgeOfRows rs p = mem p (0 ∷ rowsEnds rs)
 
 -- rows by positions: the first `entries` figures of `wide` and of `line` are the spans and the lines of their entries, the first `rows` figures of
--- `ends` say how many entries there are up to and including each row, and the first `originals` of the rows are original rows
-pub record RowsReady (originals rows entries : ℕ) (wide line ends : List ℕ) (es : List packed.Entry) : Type 0 where
-  pub some : originals ≤ rows
+-- `ends` say how many entries there are up to and including each row
+pub record RowsReady (rows entries : ℕ) (wide line ends : List ℕ) (es : List packed.Entry) : Type 0 where
   pub ends-in : rows ≤ length ends
   pub wide-in : entries ≤ length wide
   pub line-in : entries ≤ length line
   pub fit : RowsFit 0 (take rows ends) (take entries wide)
   pub entry-room : entries ≤ length es
 
--- what becomes of them in columns: their counts, or that an entry ends at no edge
-abbrev pub withColumns : ℕ → ℕ → Numbered → Judged
-withColumns rows entries (Done columns) = Grid rows entries columns
-withColumns rows entries Missing = Refused 7
-
-pub record RowsJudged (originals rows entries : ℕ) (wide line ends : List ℕ) (r : Judged) (es : List packed.Entry) : Type 0 where
-  pub numbered : Numbered
-  pub answer : r ≡ withColumns rows entries numbered
-  pub written : RowsNumbered (edgeOfRows (rowsFrom 0 (take originals (take rows ends)) (take entries wide))) (rowsFrom 0 (take rows ends) (take entries wide))
-      (take entries line) numbered es
+-- what becomes of them in columns: their counts
+pub record RowsJudged (rows entries : ℕ) (wide line ends : List ℕ) (r : Judged) (es : List packed.Entry) : Type 0 where
+  pub columns : ℕ
+  pub answer : r ≡ Grid rows entries columns
+  pub written : RowsNumbered (edgeOfRows (rowsFrom 0 (take rows ends) (take entries wide))) (rowsFrom 0 (take rows ends) (take entries wide))
+      (take entries line) (Done columns) es
 
 -- the same, or a refusal that is known before
 pub record PlacedReady (placed : Positions) (wide line ends : List ℕ) (es : List packed.Entry) : Type 0 where
-  pub ready : (originals rows entries : ℕ) → placed ≡ Rows originals rows entries → RowsReady originals rows entries wide line ends es
+  pub ready : (rows entries : ℕ) → placed ≡ Rows rows entries → RowsReady rows entries wide line ends es
 
 pub record PlacedJudged (placed : Positions) (wide line ends : List ℕ) (r : Judged) (es : List packed.Entry) : Type 0 where
   pub past : placed ≡ Past → r ≡ Refused 5
   pub many : placed ≡ Many → r ≡ Refused 6
-  pub rows : (originals rows entries : ℕ) → placed ≡ Rows originals rows entries → RowsJudged originals rows entries wide line ends r es
+  pub rows : (rows entries : ℕ) → placed ≡ Rows rows entries → RowsJudged rows entries wide line ends r es
 
 -- the rows of a table by positions stand in the first places of the slices
 pub record RowsStand (table : List cells.Row) (rows entries : ℕ) (wide line row end : List ℕ) : Type 0 where
@@ -65,7 +58,7 @@ pub record RowsStand (table : List cells.Row) (rows entries : ℕ) (wide line ro
 
 pub record TablePlaced (table : List cells.Row) (placed : Positions) (wide line row end : List ℕ) : Type 0 where
   pub answer : placed ≡ positionsOf table
-  pub stand : (originals rows entries : ℕ) → placed ≡ Rows originals rows entries → RowsStand table rows entries wide line row end
+  pub stand : (rows entries : ℕ) → placed ≡ Rows rows entries → RowsStand table rows entries wide line row end
 
 abbrev pub gridLine : GridRow → ℕ
 gridLine r = r .line

@@ -56,7 +56,7 @@ make-within-larger-requires : (t : ℕ) → make-within-lts.Need-larger-requires
 make-within-larger-requires t c κs = search needs
 
 make-within-make-some-requires : (t : ℕ) → make-within-lts.Need-make-some-requires (make-within-claims t) (make-within-at t) make-within.Post
-make-within-make-some-requires t c κs = let s = (c .before .before .before .before .before .before .before .before .before .before) .pre .1 in (s .0, fits-sparse _ _ _ 512 (s .1) (omega (arith, length-kepts ((c .before .before .before .before .before .before .before .before .before .before) .args .lines .now), (c .before .before .before .before .before) .count .ensures, (c .before .before .before .before) .larger .ensures)) (omega (arith, (c .before .before .before .before) .larger .ensures)) (omega arith))
+make-within-make-some-requires t c κs = let s = (c .before .before .before .before .before .before .before .before .before .before) .pre .1 in (s .0, fits-sparse _ _ _ 512 (s .0 .lined) (s .1) (omega (arith, length-kepts ((c .before .before .before .before .before .before .before .before .before .before) .args .lines .now), (c .before .before .before .before .before) .count .ensures, (c .before .before .before .before) .larger .ensures)) (omega (arith, (c .before .before .before .before) .larger .ensures)) (omega arith))
 
 make-within-same-length-3 : (t : ℕ) → make-within-lts.Need-same-length-3 (make-within-claims t) (make-within-at t) make-within.Post
 make-within-same-length-3 t c = search needs
@@ -68,7 +68,7 @@ make-within-returns-2 : (t : ℕ) → make-within-lts.Need-returns-2 (make-withi
 make-within-returns-2 t c = search needs
 
 make-within-make-few-requires : (t : ℕ) → make-within-lts.Need-make-few-requires (make-within-claims t) (make-within-at t) make-within.Post
-make-within-make-few-requires t c κs = let s = (c .before .before .before .before .before .before .before .before .before .before .before) .pre .1 in (s .0, fits-sparse _ _ _ 128 (s .1) (omega (arith, length-kepts ((c .before .before .before .before .before .before .before .before .before .before .before) .args .lines .now), (c .before .before .before .before .before .before) .count .ensures, (c .before .before .before .before .before) .larger .ensures)) (omega (arith, (c .before .before .before .before .before) .larger .ensures)) (omega arith))
+make-within-make-few-requires t c κs = let s = (c .before .before .before .before .before .before .before .before .before .before .before) .pre .1 in (s .0, fits-sparse _ _ _ 128 (s .0 .lined) (s .1) (omega (arith, length-kepts ((c .before .before .before .before .before .before .before .before .before .before .before) .args .lines .now), (c .before .before .before .before .before .before) .count .ensures, (c .before .before .before .before .before) .larger .ensures)) (omega (arith, (c .before .before .before .before .before) .larger .ensures)) (omega arith))
 
 make-within-same-length-5 : (t : ℕ) → make-within-lts.Need-same-length-5 (make-within-claims t) (make-within-at t) make-within.Post
 make-within-same-length-5 t c = search needs
@@ -80,7 +80,7 @@ make-within-returns-3 : (t : ℕ) → make-within-lts.Need-returns-3 (make-withi
 make-within-returns-3 t c = search needs
 
 make-within-make-least-requires : (t : ℕ) → make-within-lts.Need-make-least-requires (make-within-claims t) (make-within-at t) make-within.Post
-make-within-make-least-requires t c κs = let s = (c .before .before .before .before .before .before .before .before .before .before .before) .pre .1 in (s .0, fits-sparse _ _ _ 16 (s .1) (omega (arith, length-kepts ((c .before .before .before .before .before .before .before .before .before .before .before) .args .lines .now), (c .before .before .before .before .before .before) .count .ensures, (c .before .before .before .before .before) .larger .ensures)) (omega (arith, (c .before .before .before .before .before) .larger .ensures)) (omega arith))
+make-within-make-least-requires t c κs = let s = (c .before .before .before .before .before .before .before .before .before .before .before) .pre .1 in (s .0, fits-sparse _ _ _ 16 (s .0 .lined) (s .1) (omega (arith, length-kepts ((c .before .before .before .before .before .before .before .before .before .before .before) .args .lines .now), (c .before .before .before .before .before .before) .count .ensures, (c .before .before .before .before .before) .larger .ensures)) (omega (arith, (c .before .before .before .before .before) .larger .ensures)) (omega arith))
 
 make-within-same-length-7 : (t : ℕ) → make-within-lts.Need-same-length-7 (make-within-claims t) (make-within-at t) make-within.Post
 make-within-same-length-7 t c = search needs

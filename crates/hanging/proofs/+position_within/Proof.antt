@@ -17,22 +17,22 @@ use Rattle.hanging.proofs.position_some.Reads as position-some-reads
 use Rattle.hanging.proofs.+position_within.{statement}
 use Rattle.hanging.proofs.+position_within.Tie.{close}
 
-abbrev μ-position-within : Measures 8 position-within-kinds.ps ℕ
+abbrev μ-position-within : Measures 7 position-within-kinds.ps ℕ
 μ-position-within κs a = 257 - a .0
 
-abbrev position-within-at : ℕ → In 8 position-within-kinds.ps
+abbrev position-within-at : ℕ → In 7 position-within-kinds.ps
 position-within-at t =
-    and 8 position-within-kinds.ps (is 8 position-within-kinds.ps μ-position-within t) position-within.Pre
+    and 7 position-within-kinds.ps (is 7 position-within-kinds.ps μ-position-within t) position-within.Pre
 
-abbrev position-within-below : ℕ → In 8 position-within-kinds.ps
+abbrev position-within-below : ℕ → In 7 position-within-kinds.ps
 position-within-below t =
-    and 8 position-within-kinds.ps (falls 8 position-within-kinds.ps _<_ μ-position-within t) position-within.Pre
+    and 7 position-within-kinds.ps (falls 7 position-within-kinds.ps _<_ μ-position-within t) position-within.Pre
 
 abbrev position-within-claims : ℕ → position-within-lts.Claims
 position-within-claims t = (position-many-reads.Asked, position-many-reads.Learnt, larger-reads.Asked, larger-reads.Learnt, position-some-reads.Asked, position-some-reads.Learnt, position-few-reads.Asked, position-few-reads.Learnt, position-least-reads.Asked, position-least-reads.Learnt, next-reads.Asked, next-reads.Learnt, position-within-below t, position-within.Post)
 
 position-within-position-many-requires : (t : ℕ) → position-within-lts.Need-position-many-requires (position-within-claims t) (position-within-at t) position-within.Post
-position-within-position-many-requires t c κs = (c .before .before .before .before .before .before .before .before .before .before .before .before .before) .pre .1
+position-within-position-many-requires t c κs = (c .before .before .before .before .before .before .before .before .before .before .before) .pre .1
 
 position-within-same-length : (t : ℕ) → position-within-lts.Need-same-length (position-within-claims t) (position-within-at t) position-within.Post
 position-within-same-length t c = search needs
@@ -53,7 +53,7 @@ position-within-larger-requires : (t : ℕ) → position-within-lts.Need-larger-
 position-within-larger-requires t c κs = search needs
 
 position-within-position-some-requires : (t : ℕ) → position-within-lts.Need-position-some-requires (position-within-claims t) (position-within-at t) position-within.Post
-position-within-position-some-requires t c κs = ((c .before .before .before .before .before .before .before .before .before .before .before .before .before .before .before .before) .pre .1, omega (arith, (c .before .before .before .before .before .before) .larger .ensures))
+position-within-position-some-requires t c κs = ((c .before .before .before .before .before .before .before .before .before .before .before .before .before .before) .pre .1, omega (arith, (c .before .before .before .before .before) .larger .ensures))
 
 position-within-same-length-5 : (t : ℕ) → position-within-lts.Need-same-length-5 (position-within-claims t) (position-within-at t) position-within.Post
 position-within-same-length-5 t c = search needs
@@ -71,7 +71,7 @@ position-within-returns-2 : (t : ℕ) → position-within-lts.Need-returns-2 (po
 position-within-returns-2 t c = search needs
 
 position-within-position-few-requires : (t : ℕ) → position-within-lts.Need-position-few-requires (position-within-claims t) (position-within-at t) position-within.Post
-position-within-position-few-requires t c κs = ((c .before .before .before .before .before .before .before .before .before .before .before .before .before .before .before .before .before) .pre .1, omega (arith, (c .before .before .before .before .before .before .before) .larger .ensures))
+position-within-position-few-requires t c κs = ((c .before .before .before .before .before .before .before .before .before .before .before .before .before .before .before) .pre .1, omega (arith, (c .before .before .before .before .before .before) .larger .ensures))
 
 position-within-same-length-9 : (t : ℕ) → position-within-lts.Need-same-length-9 (position-within-claims t) (position-within-at t) position-within.Post
 position-within-same-length-9 t c = search needs
@@ -105,7 +105,7 @@ position-within-position-least-requires :
       position-within-below t,
       position-within.Post,
     ) (position-within-at t) position-within.Post
-position-within-position-least-requires t c κs = ((c .before .before .before .before .before .before .before .before .before .before .before .before .before .before .before .before .before) .pre .1, omega (arith, (c .before .before .before .before .before .before .before) .larger .ensures))
+position-within-position-least-requires t c κs = ((c .before .before .before .before .before .before .before .before .before .before .before .before .before .before .before) .pre .1, omega (arith, (c .before .before .before .before .before .before) .larger .ensures))
 
 position-within-same-length-13 : (t : ℕ) → position-within-lts.Need-same-length-13 (position-within-claims t) (position-within-at t) position-within.Post
 position-within-same-length-13 t c = search needs
@@ -115,9 +115,6 @@ position-within-same-length-14 t c = search needs
 
 position-within-same-length-15 : (t : ℕ) → position-within-lts.Need-same-length-15 (position-within-claims t) (position-within-at t) position-within.Post
 position-within-same-length-15 t c = search needs
-
-position-within-same-length-16 : (t : ℕ) → position-within-lts.Need-same-length-16 (position-within-claims t) (position-within-at t) position-within.Post
-position-within-same-length-16 t c = search needs
 
 position-within-returns-4 : (t : ℕ) → position-within-lts.Need-returns-4 (position-within-claims t) (position-within-at t) position-within.Post
 position-within-returns-4 t c = search needs
@@ -142,19 +139,7 @@ position-within-position-within-requires :
       position-within-below t,
       position-within.Post,
     ) (position-within-at t) position-within.Post
-position-within-position-within-requires t c κs = (omega (arith, (c .before .before .before .before .before .before .before .before .before .before .before .before .before .before .before .before) .pre .0, (c .before .before .before .before) .next .ensures, (c .before .before .before .before .before .before .before) .if1 .left), (c .before .before .before .before .before .before .before .before .before .before .before .before .before .before .before .before) .pre .1)
-
-position-within-same-length-17 : (t : ℕ) → position-within-lts.Need-same-length-17 (position-within-claims t) (position-within-at t) position-within.Post
-position-within-same-length-17 t c = search needs
-
-position-within-same-length-18 : (t : ℕ) → position-within-lts.Need-same-length-18 (position-within-claims t) (position-within-at t) position-within.Post
-position-within-same-length-18 t c = search needs
-
-position-within-same-length-19 : (t : ℕ) → position-within-lts.Need-same-length-19 (position-within-claims t) (position-within-at t) position-within.Post
-position-within-same-length-19 t c = search needs
-
-position-within-same-length-20 : (t : ℕ) → position-within-lts.Need-same-length-20 (position-within-claims t) (position-within-at t) position-within.Post
-position-within-same-length-20 t c = search needs
+position-within-position-within-requires t c κs = (omega (arith, (c .before .before .before .before .before .before .before .before .before .before .before .before .before .before) .pre .0, (c .before .before .before) .next .ensures, (c .before .before .before .before .before .before) .if1 .left), (c .before .before .before .before .before .before .before .before .before .before .before .before .before .before) .pre .1)
 
 position-within-returns-5 : (t : ℕ) → position-within-lts.Need-returns-5 (position-within-claims t) (position-within-at t) position-within.Post
 position-within-returns-5 t c = search needs
@@ -167,31 +152,26 @@ pub +position-within-spec : {M : Type 1} → statement M
     (position-within-same-length t)
     (position-within-same-length-2 t)
     (position-within-same-length-3 t)
-    (position-within-same-length-4 t)
     (position-within-returns t)
     (position-within-larger-requires t)
     (position-within-position-some-requires t)
+    (position-within-same-length-4 t)
     (position-within-same-length-5 t)
     (position-within-same-length-6 t)
-    (position-within-same-length-7 t)
-    (position-within-same-length-8 t)
     (position-within-returns-2 t)
     (position-within-position-few-requires t)
+    (position-within-same-length-7 t)
+    (position-within-same-length-8 t)
     (position-within-same-length-9 t)
+    (position-within-returns-3 t)
+    (position-within-position-least-requires t)
     (position-within-same-length-10 t)
     (position-within-same-length-11 t)
     (position-within-same-length-12 t)
-    (position-within-returns-3 t)
-    (position-within-position-least-requires t)
-    (position-within-same-length-13 t)
-    (position-within-same-length-14 t)
-    (position-within-same-length-15 t)
-    (position-within-same-length-16 t)
     (position-within-returns-4 t)
     (position-within-next-requires t)
     (position-within-position-within-requires t)
-    (position-within-same-length-17 t)
-    (position-within-same-length-18 t)
-    (position-within-same-length-19 t)
-    (position-within-same-length-20 t)
+    (position-within-same-length-13 t)
+    (position-within-same-length-14 t)
+    (position-within-same-length-15 t)
     (position-within-returns-5 t)

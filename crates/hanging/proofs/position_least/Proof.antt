@@ -24,7 +24,7 @@ slice-aggregate-position-rows-6 : tie.Need-slice-aggregate-position-rows-6
 slice-aggregate-position-rows-6 c = search needs
 
 position-rows-requires : tie.Need-position-rows-requires
-position-rows-requires c κs = let s = c .before .before .before .before .before .before .before .before .before .before .before .before .before .before .before .before .before .before .pre in ready-with (s .0) (s .1) (omega arith) (omega arith) (omega arith) (omega arith) (omega arith) (omega arith)
+position-rows-requires c κs = let s = c .before .before .before .before .before .before .before .before .before .before .before .before .before .before .before .before .pre in ready-with (s .0) (s .1) (omega arith) (omega arith) (omega arith) (omega arith) (omega arith) (omega arith)
 
 same-length : tie.Need-same-length
 same-length c = search needs
@@ -34,9 +34,6 @@ same-length-2 c = search needs
 
 same-length-3 : tie.Need-same-length-3
 same-length-3 c = search needs
-
-same-length-4 : tie.Need-same-length-4
-same-length-4 c = search needs
 
 returns : tie.Need-returns
 returns c = search needs
@@ -55,5 +52,4 @@ position-least-spec =
     same-length
     same-length-2
     same-length-3
-    same-length-4
     returns)

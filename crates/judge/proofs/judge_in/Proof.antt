@@ -1,11 +1,12 @@
 -- `judge::judge_in` meets its contract. The loop's invariant (`Sofar`): every table that is passed is kept, the verdict on the lines left is that on all,
 -- and every slice is as long as it was. A turn passes a line that is no table; or refuses; or keeps one table more, which disturbs no earlier one. The
 -- measure is how many lines are left. Assumes nothing.
-use mathlib.Core.Path.{_≡_, refl, _∙_}
+use mathlib.Core.Path.{_≡_, refl, sym, ap, _∙_}
 use Prim.Native.Nat.{_-_, _<_}
 use native.Mathlib.Omega.{arith}
 use lib.ListN.{length}
 use Rattle.records.specs.Kept.{keptsOf, placesOf}
+use Rattle.records.specs.declared.Kept.{Kept}
 use Rattle.records.proofs.Kepts.{length-kepts}
 use Rattle.judge.proofs.Keeping.{roomy-still}
 use Rattle.judge.proofs.JudgeLoop.{Sofar, start, stop, turn-other, turn-refused, turn-kept, places-still}
@@ -33,7 +34,7 @@ kept-at-requires : tie.Need-kept-at-requires Inv-loop μ-loop
 kept-at-requires c κs = search needs
 
 keep-table-requires : tie.Need-keep-table-requires Inv-loop μ-loop
-keep-table-requires c κs = let s = (c .before .before .before .before .before .before .before .before .before .before .before .before .before) .pre in let z = (c .before .before .before .before .before .before .before) .loop .inv in (here (c .before .before .before .before .before .before), (s .0, roomy-still _ _ _ _ _ _ (z .1) (z .2) (z .3) (s .1 .1)))
+keep-table-requires c κs = let s = (c .before .before .before .before .before .before .before .before .before .before .before .before .before) .pre in let z = (c .before .before .before .before .before .before .before) .loop .inv in (here (c .before .before .before .before .before .before), (sym (ap (λ (k : Kept). k .kind) ((c .before .before .before .before .before) .kept-at .ensures)) ∙ (c .before .before .before) .if1 .taken, (s .0, roomy-still _ _ _ _ _ _ (z .1) (z .2) (z .3) (s .1 .1))))
 
 enum-known-judged : tie.Need-enum-known-judged Inv-loop μ-loop
 enum-known-judged c = search needs

@@ -12,7 +12,7 @@ slice-aggregate-judge-in-2 : tie.Need-slice-aggregate-judge-in-2
 slice-aggregate-judge-in-2 c = search needs
 
 judge-in-requires : tie.Need-judge-in-requires
-judge-in-requires c κs = let s = (c .before .before .before .before .before) .pre in (s .0, (s .1 .0, roomy-sparse _ _ (s .1 .1 .0) (s .1 .1 .1) (omega arith) (omega arith)))
+judge-in-requires c κs = let s = (c .before .before .before .before .before) .pre in (s .0, (s .1 .0, roomy-sparse _ _ (s .1 .1 .0) (s .0) (s .1 .0) (s .1 .1 .1) (omega arith) (omega arith)))
 
 same-length : tie.Need-same-length
 same-length c = search needs

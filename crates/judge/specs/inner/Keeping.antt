@@ -1,12 +1,14 @@
 -- What is stored of one table, and the room that the tables of a sheet ask for. These are definitions; nothing is assumed.
 use mathlib.Core.Path.{_≡_}
 use mathlib.Core.Bool.{cond}
-use mathlib.Core.List.{List, [], _∷_}
+use mathlib.Core.List.{List, [], _∷_, map}
 use Prim.Native.Nat.{ℕ, _-_, _≤_, _<_}
 use lib.Dec.{eqb}
 use lib.ListN.{length, getD, take, set}
+use Rattle.lists.specs.Lists.{sum}
 use Rattle.lists.specs.Limits.{maxLines, maxPosition}
-use Rattle.records.specs.Kept.{noEntry, tablePlace}
+use Rattle.line.specs.Kinds.{tableKind, cellKind}
+use Rattle.records.specs.Kept.{noKept, noEntry, tablePlace}
 use Rattle.records.specs.declared.Kept.{Kept}
 use Rattle.records.specs.declared.Entry as packed
 use Rattle.records.specs.declared.Place.{Place}
@@ -17,7 +19,7 @@ use Rattle.grid.specs.declared.Judged.{Judged}
 use Rattle.grid.specs.declared.Judged.the-variants.{Grid}
 use Rattle.grid.specs.Grid.{Entry, gridOf, columnsOf, entriesOf}
 use Rattle.grid.specs.Judging.{judgedOf}
-use Rattle.gridding.specs.inner.Making.{rowsIn}
+use Rattle.gridding.specs.inner.Making.{asks}
 use Rattle.judge.specs.Places.{place, placeOf}
 
 -- ---- one table
@@ -55,7 +57,7 @@ pub record TableKept (table : List cells.Row) (at : ℕ) (r : Judged) (ps₀ ps 
 
 -- there is room for the entries of every table
 pub record AllEnough (room : ℕ) (ks : List Kept) : Type 0 where
-  pub at : (t : ℕ) → t < length ks → Enough room (heldRows ks t)
+  pub at : (t : ℕ) → t < length ks → getD ks t noKept .kind ≡ tableKind → Enough room (heldRows ks t)
 
 -- so many records of entries, rows and places do
 pub record Roomy (ks : List Kept) (entries rows places : ℕ) : Type 0 where
@@ -63,7 +65,11 @@ pub record Roomy (ks : List Kept) (entries rows places : ℕ) : Type 0 where
   pub row-room : length ks ≤ rows
   pub place-room : length ks ≤ places
 
+-- the rows that a line asks for
+abbrev pub rowsAsked : Kept → ℕ
+rowsAsked l = asks (eqb (l .kind) cellKind) (l .rows)
+
 -- few lines, whose cells ask for few rows
 pub record Sparse (most : ℕ) (ks : List Kept) : Type 0 where
   pub few : length ks ≤ most
-  pub short : rowsIn ks ≤ most
+  pub short : sum (map rowsAsked ks) ≤ most

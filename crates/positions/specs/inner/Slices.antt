@@ -2,7 +2,7 @@
 -- assumed.
 use mathlib.Core.Path.{_≡_}
 use mathlib.Core.Bool.{false, cond}
-use mathlib.Core.List.{List, [], _∷_, map}
+use mathlib.Core.List.{List, [], _∷_, _++_, map}
 use Prim.Native.Nat.{ℕ, _+_, _-_, _≤_}
 use lib.Dec.{ltb}
 use lib.ListN.{length, getD, take, drop}
@@ -13,13 +13,9 @@ use Rattle.cells.specs.Cells as cells
 use Rattle.cells.specs.Spans.{part}
 use Rattle.rows.specs.declared.Merged.{Merged}
 use Rattle.rows.specs.Row.{Item, itemLine, itemLeft, itemPos, itemSpan, itemsEnd, nexts, rowOf, mergedOf}
-use Rattle.extras.specs.Extras.{entryCount}
-use Rattle.extras.specs.inner.Slices.{overAt, placedLine, allItems, entryEnds}
-use Rattle.positions.specs.declared.Originals.{Originals}
-use Rattle.positions.specs.declared.Originals.the-variants.{Within, Past as OnePast}
 use Rattle.positions.specs.declared.Positions.{Positions}
 use Rattle.positions.specs.declared.Positions.the-variants.{Rows, Past, Many}
-use Rattle.positions.specs.Positions.{hangBelow, originalRows, allRows, endsPast}
+use Rattle.positions.specs.Positions.{Row, allRows, endsPast, entryCount}
 
 -- ---- the table
 
@@ -39,7 +35,31 @@ abbrev pub Rising : ℕ → List ℕ → ℕ → Type 0
 Rising a [] m = a ≤ m
 Rising a (e ∷ ends) m = (a ≤ e) × (e ≤ m) × Rising e ends m
 
+-- ---- rows by positions
+
+abbrev pub placedLine : Row → ℕ
+placedLine r = r .line
+
+-- the entries of all rows, one after the other
+unfoldable pub allItems : List Row → List Item
+allItems [] = []
+allItems (r ∷ rs) = r .items ++ allItems rs
+
+-- for each row the number of entries up to and including it; n stand before
+unfoldable pub entryEnds : ℕ → List Row → List ℕ
+entryEnds n [] = []
+entryEnds n (r ∷ rs) = (n + length (r .items)) ∷ entryEnds (n + length (r .items)) rs
+
+-- a list written over a buffer from place n on
+abbrev pub overAt : ℕ → List ℕ → List ℕ → List ℕ
+overAt n xs o = over (take n o ++ xs) o
+
 -- ---- one row
+
+-- where the entries of a row of `count` go, after n others, where there are `room` places: behind them while all are stored, and then anywhere
+pub record Place (room n count r : ℕ) : Type 0 where
+  pub inside : r + count ≤ room
+  pub behind : n + count ≤ room → r ≡ n
 
 -- the row of the cells from place a up to place e, with the first k that hang
 unfoldable pub rowAt : List ℕ → List ℕ → List ℕ → ℕ → ℕ → List ℕ → List ℕ → List ℕ → ℕ → List Item
@@ -72,31 +92,37 @@ pub record RowReady (lines spans rows : List ℕ) (a e : ℕ) (left at wide : Li
   pub next-at-room : e - a + k ≤ length na
   pub next-wide-room : e - a + k ≤ length nw
 
--- ---- the original rows
+-- ---- all rows
 
--- entries of all rows and how many hang below the last; or that a row ends past position 4,096
-unfoldable pub originalsOf : List cells.Row → Originals
-originalsOf table = cond (endsPast (originalRows table)) OnePast (Within (entryCount (originalRows table)) (length (hangBelow [] table)))
+-- 5 before 6: how many rows and entries there are; that a row ends past position 4,096; that there are more than 8,192 entries
+abbrev pub counted : ℕ → ℕ → Positions
+counted rows entries = cond (ltb maxEntries entries) Many (Rows rows entries)
+
+unfoldable pub positionsOf : List cells.Row → Positions
+positionsOf table = cond (endsPast (allRows table)) Past (counted (length table) (entryCount (allRows table)))
 
 -- lines and spans of entries
 pub record Stored (xs : List Item) (l₀ s₀ l s : List ℕ) : Type 0 where
   pub lines : l ≡ over (map itemLine xs) l₀
   pub spans : s ≡ over (map itemSpan xs) s₀
 
--- the original rows are written, their entries if there is room for all, and what hangs below the last is in the front of two slices
-pub record RowsWritten (room : ℕ) (table : List cells.Row) (l₀ s₀ e₀ l s e left wide : List ℕ) : Type 0 where
-  pub stored : entryCount (originalRows table) ≤ room → Stored (allItems (originalRows table)) l₀ s₀ l s
-  pub ends : e ≡ over (entryEnds 0 (originalRows table)) e₀
-  pub lefts : take (length (hangBelow [] table)) left ≡ map itemLeft (hangBelow [] table)
-  pub wides : take (length (hangBelow [] table)) wide ≡ map itemSpan (hangBelow [] table)
+-- all rows are written over the front of the slices
+pub record Positioned (table : List cells.Row) (l₀ s₀ e₀ l s e : List ℕ) : Type 0 where
+  pub stored : Stored (allItems (allRows table)) l₀ s₀ l s
+  pub ends : e ≡ over (entryEnds 0 (allRows table)) e₀
 
-pub record OriginalsDone (room : ℕ) (table : List cells.Row) (r : Originals) (l₀ s₀ e₀ l s e left wide : List ℕ) : Type 0 where
-  pub answer : r ≡ originalsOf table
-  pub written : endsPast (originalRows table) ≡ false → RowsWritten room table l₀ s₀ e₀ l s e left wide
+-- where none ends past position 4,096 and there is room for the entries
+pub record PositionsDone (room : ℕ) (table : List cells.Row) (r : Positions) (l₀ s₀ e₀ l s e : List ℕ) : Type 0 where
+  pub answer : r ≡ positionsOf table
+  pub written : endsPast (allRows table) ≡ false → entryCount (allRows table) ≤ room → Positioned table l₀ s₀ e₀ l s e
 
--- what the original rows take: cells in slices of one length, each row's up to its end, few enough of both, and slices with room for as many
--- as there are rows and cells, the entries' with `room` places
-pub record OriginalsReady (room : ℕ) (lines spans rows ends l s e left at wide nl na nw : List ℕ) : Type 0 where
+-- there is room for the entries of a table that has no more than 8,192
+abbrev pub Enough : ℕ → List cells.Row → Type 0
+Enough room table = entryCount (allRows table) ≤ maxEntries → entryCount (allRows table) ≤ room
+
+-- what all rows take: cells in slices of one length, each row's up to its end, few enough of both, and slices with room for as many as there
+-- are rows and cells, the entries' with `room` places
+pub record Ready (room : ℕ) (lines spans rows ends l s e left at wide nl na nw : List ℕ) : Type 0 where
   pub rising : Rising 0 ends (length lines)
   pub spans-length : length spans ≡ length lines
   pub rows-length : length rows ≡ length lines
@@ -104,41 +130,10 @@ pub record OriginalsReady (room : ℕ) (lines spans rows ends l s e left at wide
   pub row-fits : length ends + length lines ≤ room
   pub line-room : room ≤ length l
   pub span-room : room ≤ length s
-  pub row-end-room : length ends + length lines ≤ length e
-  pub left-room : length ends + length lines ≤ length left
-  pub at-room : length ends + length lines ≤ length at
-  pub wide-room : length ends + length lines ≤ length wide
-  pub next-left-room : length ends + length lines ≤ length nl
-  pub next-at-room : length ends + length lines ≤ length na
-  pub next-wide-room : length ends + length lines ≤ length nw
-
--- ---- all rows
-
--- 5 before 6: how many original rows, rows and entries there are; that a row ends past position 4,096; that there are more than 8,192 entries
-unfoldable pub positionsOf : List cells.Row → Positions
-positionsOf table =
-    cond (endsPast (originalRows table)) Past
-    (cond (ltb maxEntries (entryCount (allRows table))) Many
-    (Rows (length table) (length (allRows table)) (entryCount (allRows table))))
-
--- all rows are written over the front of the slices
-pub record Positioned (table : List cells.Row) (rl₀ l₀ s₀ e₀ rl l s e : List ℕ) : Type 0 where
-  pub row-lines : rl ≡ over (map placedLine (allRows table)) rl₀
-  pub lines : l ≡ over (map itemLine (allItems (allRows table))) l₀
-  pub spans : s ≡ over (map itemSpan (allItems (allRows table))) s₀
-  pub ends : e ≡ over (entryEnds 0 (allRows table)) e₀
-
-pub record PositionsDone (table : List cells.Row) (r : Positions) (rl₀ l₀ s₀ e₀ rl l s e : List ℕ) : Type 0 where
-  pub answer : r ≡ positionsOf table
-  pub written : (originals rows entries : ℕ) → r ≡ Rows originals rows entries → Positioned table rl₀ l₀ s₀ e₀ rl l s e
-
--- there is room for the entries of a table that has no more than 8,192
-abbrev pub Enough : ℕ → List cells.Row → Type 0
-Enough room table = entryCount (allRows table) ≤ maxEntries → entryCount (allRows table) ≤ room
-
--- what all rows take: what the original rows take, row lines with room for as many as there are rows and cells, since no more rows hang
--- below the last than there are cells, and room for the entries
-pub record PositionsReady (room : ℕ) (lines spans rows ends rl l s e left at wide nl na nw : List ℕ) : Type 0 where
-  pub originals : OriginalsReady room lines spans rows ends l s e left at wide nl na nw
-  pub row-line-room : length ends + length lines ≤ length rl
-  pub enough : Enough room (tableOf lines spans rows rl 0 ends)
+  pub row-end-room : length ends ≤ length e
+  pub left-room : length lines ≤ length left
+  pub at-room : length lines ≤ length at
+  pub wide-room : length lines ≤ length wide
+  pub next-left-room : length lines ≤ length nl
+  pub next-at-room : length lines ≤ length na
+  pub next-wide-room : length lines ≤ length nw

@@ -2,9 +2,11 @@
 use mathlib.Core.Path.{_≡_}
 use mathlib.Core.List.{List, map}
 use Prim.Native.Nat.{ℕ, _-_, _≤_, _<_, _/_}
-use lib.ListN.{length, take}
+use lib.ListN.{length, getD, take}
 use Rattle.lists.specs.Limits.{maxEntries, maxLines, maxPosition}
 use Rattle.text.specs.declared.Estimate.{Estimate}
+use Rattle.line.specs.Kinds.{tableKind}
+use Rattle.records.specs.Kept.{noKept}
 use Rattle.records.specs.declared.Kept.{Kept}
 use Rattle.records.specs.declared.Entry.{Entry}
 use Rattle.records.specs.declared.Row.{Row}
@@ -15,6 +17,7 @@ use Rattle.grid.specs.Facts.{Sound}
 use Rattle.grid.specs.Judging.{Lined}
 use Rattle.estimates.specs.Estimates.{estimates}
 use Rattle.gridding.specs.declared.Counts.{Counts}
+use Rattle.judge.specs.Places.{Nests}
 use Rattle.table.specs.Laying.{LaidTable}
 use Rattle.table.specs.Arranging.{boxesAt}
 use Rattle.table.specs.declared.Arrangement.{Arrangement}
@@ -23,7 +26,9 @@ use Rattle.table.specs.declared.Arrangement.{Arrangement}
 pub record Asked (ks : List Kept) (line : ℕ) : Type 0 where
   pub from-one : 1 ≤ line
   pub within : line - 1 < length ks
+  pub kind : getD ks (line - 1) noKept .kind ≡ tableKind
   pub lined : Lined ks
+  pub nests : Nests ks
   pub sound : Sound (heldRows ks (line - 1))
 
 -- ---- its grid

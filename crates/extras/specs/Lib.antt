@@ -1,2 +1,0 @@
-pub mod Extras
-pub mod inner

@@ -1,2 +1,0 @@
--- How the code goes about it: rows and what hangs in slices.
-pub mod Slices

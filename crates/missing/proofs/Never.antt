@@ -1,0 +1,10 @@
+-- The call that tells why cells are missing never answers 7 either. By the numbers of its checks. Assumes nothing.
+use mathlib.Core.List.{List}
+use Prim.Native.Nat.{ℕ}
+use native.Mathlib.Omega.{arith}
+use Rattle.cells.specs.Facts.{Every, none}
+use Rattle.tables.proofs.Never.{Other, more, asked-other}
+use Rattle.missing.specs.Missing.{missingChecks}
+
+pub missing-other : (s : List ℕ) (line wrap raw width : ℕ) (entries columns : List ℕ) → Every Other (missingChecks s line wrap raw width entries columns)
+missing-other s line wrap raw width entries columns = asked-other (more 9 (λ e. omega (arith, e)) (more 11 (λ e. omega (arith, e)) none)) s line
