@@ -7,8 +7,8 @@
  *   them: readable where it is const, writable where it is not. What is lent for writing need not be cleared before. (Not null even where the number
  *   is 0: the library as it is compiled does not follow such a pointer, but what is proved is about pointers that are not null.)
  * - A buffer that is lent for writing overlaps neither another buffer of the call nor the sheet, and nothing else touches it during the call.
- * - There is room on the stack. Measured at the most: tables_at, tables_within and tables_joining 742,000 bytes, tables_missing 725,000, tables_layout 593,000,
- *   tables_estimates 560,000, tables_grid 511,000, tables_check 510,000, tables_measure 300; TABLES_STACK is enough for any call. Without it a call ends in the system's stack overflow. Nothing is allocated.
+ * - There is room on the stack. Measured at the most: tables_at, tables_within and tables_joining 749,000 bytes, tables_missing 732,000, tables_layout 598,000,
+ *   tables_estimates 568,000, tables_grid 519,000, tables_check 519,000, tables_measure 300; TABLES_STACK is enough for any call. Without it a call ends in the system's stack overflow. Nothing is allocated.
  *
  * There is no state outside the arguments: calls may run in several threads at once, each with buffers of its own, and a sheet may be shared.
  *
@@ -141,7 +141,8 @@ tables_grid_result tables_grid(
     uint32_t *row_end, size_t row_end_len);
 
 /* The layout of the table in a line, at a width; raw is 0 or 1. For each column: its width, with at least TABLES_MAX_COLUMNS places. For each entry of
- * the grid, in its order: where it begins and how wide it is (0: it is left out), with at least TABLES_MAX_ENTRIES places each. */
+ * the grid, in its order: where it begins and how wide it is (0: it is left out), with at least TABLES_MAX_ENTRIES places each.
+ * Down the page every entry begins at 0 and is as wide as the page. */
 tables_layout_result tables_layout(
     const uint8_t *sheet, size_t sheet_len, uint32_t line, uint32_t wrap, uint32_t raw, uint32_t width,
     uint32_t *column, size_t column_len,
