@@ -5,7 +5,7 @@
 
 HARNESS is the program that build.sh makes. Each answer stands behind a line
 `case K`, K from 1. A refusal is `refusal line` and `NUMBER LINE`: 9, 8, 1, 2,
-3, 13, 14, 4 from refusals.py, 5, 6, 7 from the harness. An accepted case has the
+3, 13, 14, 4 from refusals.py, 5, 6 from the harness. An accepted case has the
 harness's `--full` text: what `layout` prints, then every line's estimate, then
 every grid. A `text` frame has `size least prefix` and the three figures.
 

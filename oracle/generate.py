@@ -366,7 +366,7 @@ def many_entries(dice):
     total = cases.MAX_ENTRIES + dice.pick([0, 0, 1, 1, -1])
     hanging = dice.between(10, 120)
     rows = total // hanging
-    written = rows - dice.below(2)      # all rows are written, or the last one is an extra row
+    written = rows - dice.below(2)      # all rows that are asked for are written, or all but one
     rest = total - hanging * rows
     body = [[(1, rows) for _ in range(hanging)]] + [[] for _ in range(written - 1)]
     for _ in range(rest):
@@ -375,7 +375,7 @@ def many_entries(dice):
 
 
 def many_extra_rows(dice):
-    """Cells of different heights: k of them make k extra rows. 126 pass, 127 do not."""
+    """Cells of different heights, all cut to the rows that are written."""
     k = dice.pick([126, 126, 127, 125, 60])
     rows = list(range(2, k + 2))
     if dice.chance(60):
@@ -414,11 +414,11 @@ def five_before_six(dice):
     return sheet(table([rows]))
 
 
-def six_before_seven(dice):
-    """About 8,192 entries, and a last extra row in which an entry ends at no edge."""
+def six_or_not(dice):
+    """About 8,192 entries, and spans that would run on below the last row."""
     written = dice.pick([79, 79, 80])
     rows = [[(3, written + 1)] + [(2, cases.MAX_ROWS)] * 99] + [[] for _ in range(written - 1)]
-    if written == 79:                   # 79 rows and one extra row of 100, one of 99: 8,099
+    if written == 79:                   # 79 rows of 100: 7,900, and up to 94 cells more
         for _ in range(dice.pick([0, 92, 93, 93, 94])):
             rows[dice.below(written)].append((2, 1))
     return sheet(table([rows]))
@@ -518,7 +518,7 @@ def many_rows(dice):
 
 
 LIMITS = [large, one_large_table, most_lines, most_bytes, widest_text, many_entries, many_extra_rows,
-          longest_row, five_before_six, six_before_seven, huge_sums, nested, deepest, most_tables,
+          longest_row, five_before_six, six_or_not, huge_sums, nested, deepest, most_tables,
           most_columns, many_cuts, long_list, many_rows]
 
 

@@ -5,7 +5,7 @@
 Written from the document and from no code; it shares nothing with the other
 files here.
 A case is the input of the program `layout`: two settings lines, then a sheet.
-5, 6 and 7 need the grid and are not decided here, 10 and 11 need a call.
+5 and 6 need the grid and are not decided here, 10 and 11 need a call.
 """
 
 import re

@@ -84,7 +84,7 @@ pub fn put_entry(entries: &mut [u32], i: usize, e: Entry)
     entries[at + 2] = e.span;
 }
 
-// A row of a table's grid: its line, or 0 for an extra row, and how many entries there are up to and including it.
+// A row of a table's grid: its line, and how many entries there are up to and including it.
 pub struct Row {
     pub line: u32,
     pub end: u32,
