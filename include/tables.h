@@ -31,7 +31,7 @@
 #define TABLES_MAX_WIDTH 65535    /* largest width */
 #define TABLES_STACK 800000       /* bytes of stack that are enough for any call */
 
-/* In the order in which they are looked for: 9, 11, 8, 1; then line by line 2, 3, 13, 14, 4; then 4 for no node, an empty table or an empty body; 10; then table by table 5, 6; then 10 for a row. */
+/* In the order in which they are looked for: 9, 11, 8, 1; then line by line 2, 3, 13, 14, 4; then 4 for no node, an empty table or an empty body; 10; then table by table 5, 6; then 10 for a row; then 12. */
 enum tables_refusal {
     TABLES_ACCEPTED = 0,
     TABLES_BAD_HEADING = 1,      /* the first line is not exactly the heading with its line feed; line 0 */
@@ -41,9 +41,10 @@ enum tables_refusal {
     TABLES_ROW_TOO_LONG = 5,     /* a row of a table ends past position 4,096; the table's line */
     TABLES_TOO_MANY_ENTRIES = 6, /* a table has more than 8,192 entries; the table's line */
     TABLES_TOO_LONG = 8,         /* more than 65,536 bytes, or more than 4,097 line feeds (tables_measure: bytes alone); line 0 */
-    TABLES_BAD_SETTING = 9,      /* wrap above 1,000, width above 65,535, or raw above 1; line 0 */
+    TABLES_BAD_SETTING = 9,      /* wrap above 1,000, width above 65,535, or raw or overflow above 1; line 0 */
     TABLES_NO_TABLE = 10,        /* the line given is not a table of the sheet, or goes down or has no such row where a row of it is asked for; line 0 */
     TABLES_SHORT_BUFFER = 11,    /* a lent buffer has fewer than its least places; line 0 */
+    TABLES_TOO_NARROW = 12,      /* a heading, quote, list or definition is too narrow for what it holds, in tables_walk and tables_nested; its line */
     TABLES_NO_SUM = 13,          /* the text of a calc is not a sum; the line */
     TABLES_OUT_OF_BOUNDS = 14    /* a divisor of zero, or a step outside plus or minus 1,000,000,000,000; the line */
 };
@@ -95,6 +96,20 @@ typedef struct tables_joining_result {
     uint32_t number, line;
     uint32_t joint; /* TABLES_PLAIN, TABLES_UP, TABLES_DOWNWARD or TABLES_BOTH */
 } tables_joining_result;
+
+typedef struct tables_walk_result {
+    uint32_t number, line;
+    uint32_t lines; /* of the sheet, the heading not counted: so many figures stand in each buffer */
+} tables_walk_result;
+
+typedef struct tables_nested_result {
+    uint32_t number, line;
+    uint32_t given;   /* 1 if the walk gives the table a width; if it is 0, so are all other fields and all places of the buffers */
+    uint32_t at;      /* the width that the walk gives it */
+    uint32_t way;     /* TABLES_SIDEWAYS or TABLES_DOWN */
+    uint32_t columns; /* so many widths stand in column; x and wide hold as many figures as tables_grid counts entries */
+    uint32_t width;   /* of the table */
+} tables_nested_result;
 
 enum tables_way { TABLES_SIDEWAYS = 0, TABLES_DOWN = 1 };
 
@@ -173,6 +188,21 @@ tables_within_result tables_within(
 /* The joining character at the column x between the row and the next, as gaps stand above and below; below the last row stands none. */
 tables_joining_result tables_joining(
     const uint8_t *sheet, size_t sheet_len, uint32_t line, uint32_t wrap, uint32_t raw, uint32_t width, uint32_t row, uint32_t x);
+
+/* The widths of a sheet's lines: the first has the width given, a printed cell its own, any other line what its parent passes on; overflow is 0 or 1.
+ * For each line: whether it has a width (0: it stands in a missing cell), and which, with at least TABLES_MAX_LINES places each. With overflow 1 a
+ * width may pass TABLES_MAX_WIDTH. */
+tables_walk_result tables_walk(
+    const uint8_t *sheet, size_t sheet_len, uint32_t wrap, uint32_t raw, uint32_t width, uint32_t overflow,
+    uint32_t *given, size_t given_len,
+    uint32_t *wide, size_t wide_len);
+
+/* The layout of the table in a line, at the width that tables_walk gives it. The buffers are those of tables_layout. */
+tables_nested_result tables_nested(
+    const uint8_t *sheet, size_t sheet_len, uint32_t line, uint32_t wrap, uint32_t raw, uint32_t width, uint32_t overflow,
+    uint32_t *column, size_t column_len,
+    uint32_t *x, size_t x_len,
+    uint32_t *wide, size_t wide_len);
 
 #ifdef __cplusplus
 }

@@ -4,9 +4,10 @@
     causes.py HARNESS EXPLAIN KIND SEED COUNT [FIRST]
 
 HARNESS is the program that build.sh makes; KIND, SEED, COUNT, FIRST are as for
-generate.py. From the Rust's estimates, grids, ways and column widths it works out
-what docs/FORMAT.md says `explain` prints: sizes, leasts and shares of the columns,
-their causes, and the missing entries, which are those that the Rust does not print.
+generate.py. From the Rust's estimates, grids, ways and column widths, each table at
+the width that walk.py finds for it, it works out what docs/FORMAT.md says `explain`
+prints: sizes, leasts and shares of the columns, their causes, and the missing
+entries, which are those that the Rust does not print.
 Prints how many cases there were, how many tables and missing entries, and the first
 case that differs. Ends with 0 if nothing differs, with 1 otherwise.
 """
@@ -15,10 +16,9 @@ import collections
 import re
 import sys
 
-import cases
 import compare
-import expect
 import generate
+import walk
 
 WORDS = ["shown", "empty", "little", "cut", "page"]
 
@@ -84,12 +84,14 @@ def told(layout, grid, estimates, width):
     return "\n".join(out) + "\n", len(missing)
 
 
-def expected(frame, answer):
-    if answer.startswith("refusal"):
-        return answer, 0, 0
-    width = int(frame.split(b"\n")[1].split()[2])
-    layouts, estimates, grids = parts(answer)
-    texts = [told(layouts[line], grids[line], estimates, width) for line in sorted(layouts)]
+def expected(found):
+    """What `explain` prints, and how many tables and missing entries it tells of."""
+    if isinstance(found, bytes):
+        return found.decode("latin-1"), 0, 0
+    texts = []
+    for line, width, _ in found.tables():
+        layouts, estimates, grids = parts(found.answers[width][0].decode("latin-1"))
+        texts.append(told(layouts[line], grids[line], estimates, width))
     return "".join(text for text, _ in texts), len(texts), sum(count for _, count in texts)
 
 
@@ -99,10 +101,10 @@ def main():
     tally = collections.Counter()
     for k in range(first, first + int(count)):
         frame = generate.make(kind, int(seed), k)
-        answer = expect.expected(harness, [frame])[0].decode("latin-1")
-        wanted, tables, missing = expected(frame[0], answer)
+        found = walk.walks(harness, [frame])[0]
+        wanted, tables, missing = expected(found)
         got = compare.run([program], frame[0]).decode("latin-1")
-        tally.update(cases=1, tables=tables, missing=missing, refused=answer.startswith("refusal"))
+        tally.update(cases=1, tables=tables, missing=missing, refused=isinstance(found, bytes))
         if got != wanted:
             print("case %d differs; wanted\n%s\ngot\n%s" % (k, wanted[:2000], got[:2000]))
             return 1

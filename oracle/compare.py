@@ -6,7 +6,7 @@
 HARNESS is the program that build.sh makes; KIND, SEED, COUNT, FIRST are as for
 generate.py. PROGRAM reads framed cases and answers as expect.py does. With
 --layout it is the program `layout`: it is run once for each case, without a
-frame, and held to the first part of the answer, what `layout` prints.
+frame, and held to what walk.py makes of the Rust's figures.
 Prints how many cases there were of each sort of answer and how many differ; the
 first that differs is shown with as few lines as a simple search finds, and with
 --save written to FILE. Ends with 0 if nothing differs, with 1 otherwise.
@@ -21,12 +21,11 @@ import sys
 import cases
 import expect
 import generate
+import walk
 
 CHUNK_BYTES = 900000         # replay takes 1 MB at a time
 TRIALS = 600            # of the search for a smaller case
 SECONDS = 300           # for one run of the program
-
-LAYOUT_END = b"line size least prefix\n"
 
 
 def run(command, data):
@@ -59,11 +58,7 @@ def answers_of(program, frames, layout):
 
 
 def expected_of(harness, frames, layout):
-    answers = expect.expected(harness, frames)
-    if layout:
-        return [answer.split(LAYOUT_END)[0] if answer.startswith((b"table", b"line")) else answer
-                for answer in answers]
-    return answers
+    return walk.layouts(harness, frames) if layout else expect.expected(harness, frames)
 
 
 def sort_of(answer):

@@ -1,20 +1,24 @@
 #!/usr/bin/env python3
-"""Cuts the private items the oracle needs out of html2text's lib.rs, verbatim.
+"""Cuts the private items the oracle needs out of html2text's lib.rs, and one
+method out of the render/text_renderer.rs beside it, verbatim.
 
     extract.py LIB_RS OUT_RS
 
 Items are found by their head line and cut by matching braces (comments,
 strings and character literals are skipped). Nothing inside an item is changed.
-Two places are cut smaller than an item:
+Three places are cut smaller than an item:
   * of `impl RenderNode` only the methods named below are taken, each whole
     (the others print debug trees and need the CSS types);
   * of `render_table_tree` the body is taken from its opening brace up to and
     including the statement `let table_width = ...;`, and wrapped in a function
-    `render_table_tree_head` that returns what was computed.
+    `render_table_tree_head` that returns what was computed;
+  * of the renderer only the method `width_minus` is taken, whole, in a module in
+    which `Result` is the renderer's own.
 Attributes and doc comments straight above an item go with it.
 OUT_RS must not lie in the repository: it is a build product.
 """
 
+import os
 import re
 import sys
 
@@ -148,6 +152,15 @@ def render_table_tree_head(src):
         "}\n")
 
 
+def width_minus(src):
+    return ("mod prefixes {\n"
+            "    use super::{TextRenderer, TooNarrow};\n"
+            "    type Result<T> = std::result::Result<T, TooNarrow>;\n"
+            "    impl TextRenderer {\n"
+            + cut(src, r"pub fn width_minus\b", "}", "    ")
+            + "    }\n}\n")
+
+
 def main():
     if len(sys.argv) != 3:
         raise SystemExit(__doc__)
@@ -160,6 +173,8 @@ def main():
                + "\n".join(cut(impl, r"fn %s\b" % name, "}", "    ") for name in NODE_METHODS)
                + "}\n")
     out.append(render_table_tree_head(src))
+    with open(os.path.join(os.path.dirname(sys.argv[1]), "render", "text_renderer.rs"), encoding="utf-8") as f:
+        out.append(width_minus(f.read()))
     with open(sys.argv[2], "w", encoding="utf-8") as f:
         f.write("\n".join(out))
 

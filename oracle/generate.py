@@ -9,6 +9,7 @@ KIND: small     well-formed sheets of a few to about a hundred lines
       texts     sheets of many texts, all text bytes
       measures  single texts for the measure (`text` frames, byte 10 too)
       totals    small, with sums (kind calc) among the texts
+      walks     tables inside tables, in cells, quotes, lists and headings
 Case number k (from 1) of a kind depends on KIND, SEED and k alone; FIRST
 (default 1) begins at a later one, so that one case can be made again.
 """
@@ -894,8 +895,37 @@ def totals(dice):
 
 # ----------------------------------------------------------------------- main
 
+# ------------------------------------------------------------ tables in tables
+
+def nest(dice, depth, levels):
+    """Lines of one node at a depth, with at most so many tables inside each other."""
+    way = dice.below(9)
+    if depth > 50 or (way >= 7 and depth > 0):
+        return [node(depth, "text", text=b"abcdefghijklm"[:dice.pick([0, 1, 2, 3, 3, 5, 9, 13])])]
+    if levels > 0 and way < 4:
+        rows = []
+        for _ in range(dice.pick([1, 1, 2])):
+            rows.append([(dice.pick([1, 1, 1, 2, 3]), dice.pick([1, 1, 2, 0]), lambda d: nest(dice, d, levels - 1) if dice.chance(85) else [])
+                         for _ in range(dice.between(1, 3))])
+        return table([rows], depth)
+    kind = dice.pick(["quote", "quote", "ul", "ol", "head", "dd", "div", "container", "em", "item"])
+    lines = [node(depth, kind, some_n(dice, kind))]
+    for _ in range(dice.pick([0, 1, 1, 1, 2])):
+        lines += nest(dice, depth + 1, levels)
+    return lines
+
+
+def walks(dice):
+    lines = []
+    while not 2 <= len(lines) <= 400:
+        lines = nest(dice, 0, dice.between(1, 4))
+    width = dice.pick([dice.between(0, 12), dice.between(5, 40), dice.between(20, 130)])
+    return case(sheet(lines), dice.pick([0, 1, 1, 2, 3, 3, 5]), 1 if dice.chance(8) else 0, width)
+
+
 MAKERS = {"small": lambda dice, k: small(dice), "limits": limits, "damaged": damaged,
-          "texts": lambda dice, k: texts(dice), "measures": lambda dice, k: one_text(dice), "totals": lambda dice, k: totals(dice)}
+          "texts": lambda dice, k: texts(dice), "measures": lambda dice, k: one_text(dice), "totals": lambda dice, k: totals(dice),
+          "walks": lambda dice, k: walks(dice)}
 
 
 def make(kind, seed, k):

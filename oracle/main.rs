@@ -13,6 +13,8 @@
 //!                           --full adds every line's estimate and every grid.
 //!   table_oracle --text     `text LEN WRAP IMG`, LEN bytes, again and again;
 //!                           answers `SIZE LEAST PREFIX` to each.
+//!   table_oracle --minus    `WIDTH PREFIX LEAST OVERFLOW`, again and again;
+//!                           answers what `width_minus` gives, or `narrow`.
 #![allow(dead_code, unused_variables, irrefutable_let_patterns)]
 
 use recording::{BTreeSet, Cell};
@@ -117,7 +119,11 @@ impl TextDecorator for Ours {
 
 struct RenderOptions {
     raw: bool,
+    allow_width_overflow: bool,
 }
+
+#[derive(Debug)]
+struct TooNarrow;
 
 struct TextRenderer {
     width: usize,
@@ -439,7 +445,10 @@ fn write_layout(out: &mut String, line: usize, table: &RenderTable, raw: bool, w
     use std::fmt::Write;
     let mut renderer = TextRenderer {
         width,
-        options: RenderOptions { raw },
+        options: RenderOptions {
+            raw,
+            allow_width_overflow: false,
+        },
     };
     let (vert, widths, table_width, rows) = render_table_tree_head(&mut renderer, table.clone());
     let way = if vert { 'v' } else { 'h' };
@@ -544,7 +553,23 @@ fn measure(data: &[u8], wrap: usize, img: bool) -> String {
     format!("{} {} {}\n", e.size, e.min_width, e.prefix_size)
 }
 
+/// What a line passes on of its width, by its prefix and what it asks for.
+fn minus(figures: &[usize]) -> String {
+    let renderer = TextRenderer {
+        width: figures[0],
+        options: RenderOptions {
+            raw: false,
+            allow_width_overflow: figures[3] != 0,
+        },
+    };
+    match renderer.width_minus(figures[1], figures[2]) {
+        Ok(width) => format!("{}\n", width),
+        Err(TooNarrow) => "narrow\n".to_string(),
+    }
+}
+
 fn main() {
+    let minus_asked = std::env::args().any(|a| a == "--minus");
     let full = std::env::args().any(|a| a == "--full");
     let text = std::env::args().any(|a| a == "--text");
     std::panic::set_hook(Box::new(|info| {
@@ -565,6 +590,11 @@ fn main() {
             break;
         }
         let words: Vec<&str> = head.split_ascii_whitespace().collect();
+        if minus_asked {
+            let figures: Vec<usize> = words.iter().map(|w| w.parse().unwrap()).collect();
+            output.write_all(minus(&figures).as_bytes()).unwrap();
+            continue;
+        }
         assert_eq!(words[0], if text { "text" } else { "case" });
         let figures: Vec<usize> = words[1..].iter().map(|w| w.parse().unwrap()).collect();
         let mut data = vec![0; figures[0]];

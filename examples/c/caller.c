@@ -13,6 +13,8 @@ _Static_assert(sizeof(tables_missing_result) == 16 && offsetof(tables_missing_re
 _Static_assert(sizeof(tables_at_result) == 16 && offsetof(tables_at_result, what) == 8 && offsetof(tables_at_result, entry) == 12, "tables_at_result");
 _Static_assert(sizeof(tables_within_result) == 12 && offsetof(tables_within_result, count) == 8, "tables_within_result");
 _Static_assert(sizeof(tables_joining_result) == 12 && offsetof(tables_joining_result, joint) == 8, "tables_joining_result");
+_Static_assert(sizeof(tables_walk_result) == 12 && offsetof(tables_walk_result, lines) == 8, "tables_walk_result");
+_Static_assert(sizeof(tables_nested_result) == 28 && offsetof(tables_nested_result, given) == 8 && offsetof(tables_nested_result, way) == 16 && offsetof(tables_nested_result, width) == 24, "tables_nested_result");
 
 static uint8_t input[TABLES_MAX_BYTES + 100];
 static uint32_t size[TABLES_MAX_LINES], least[TABLES_MAX_LINES], prefix[TABLES_MAX_LINES];
@@ -20,6 +22,7 @@ static uint32_t cell[TABLES_MAX_ENTRIES], first[TABLES_MAX_ENTRIES], span[TABLES
 static uint32_t row[TABLES_MAX_LINES], row_end[TABLES_MAX_LINES];
 static uint32_t column[TABLES_MAX_COLUMNS], x[TABLES_MAX_ENTRIES], wide[TABLES_MAX_ENTRIES];
 static uint32_t entry[TABLES_MAX_ENTRIES], cause[TABLES_MAX_COLUMNS];
+static uint32_t given[TABLES_MAX_LINES], line_wide[TABLES_MAX_LINES];
 #define PLACES(a) (a), sizeof(a) / sizeof *(a)
 
 static int refused(uint32_t number, uint32_t line) {
@@ -87,5 +90,15 @@ int main(int argc, char **argv) {
     tables_joining_result j = tables_joining(sheet, len, line, wrap, raw, width, 0, 6);
     if (refused(j.number, j.line)) return 1;
     printf("row 0: at 7 %u, entry %u; within 0 to %u %u cells; joining at 6 %u\n", t.what, t.entry, width, v.count, j.joint);
+
+    tables_walk_result w = tables_walk(sheet, len, wrap, raw, width, 0, PLACES(given), PLACES(line_wide));
+    if (refused(w.number, w.line)) return 1;
+    uint32_t with = 0;
+    for (uint32_t i = 0; i < w.lines; i++) with += given[i];
+    printf("walk: %u lines, %u with a width; line %u is %u wide\n", w.lines, with, w.lines, line_wide[w.lines - 1]);
+
+    tables_nested_result n = tables_nested(sheet, len, line, wrap, raw, width, 0, PLACES(column), PLACES(x), PLACES(wide));
+    if (refused(n.number, n.line)) return 1;
+    printf("nested: given %u, at %u, %s, %u columns, %u wide\n", n.given, n.at, n.way == TABLES_DOWN ? "down" : "sideways", n.columns, n.width);
     return 0;
 }

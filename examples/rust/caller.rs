@@ -39,6 +39,12 @@ fn show(settings: [u32; 3], sheet: &[u8]) -> Result<(), tables::Refusal> {
     let [cells] = tables::within(sheet, line, settings, 0, [0, settings[2]], &mut entry)?;
     let [joint] = tables::joining(sheet, line, settings, 0, 6)?;
     println!("row 0: at 7 {what}, entry {cell}; within 0 to {} {cells} cells; joining at 6 {joint}", settings[2]);
+    let [mut given, mut line_wide] = [[0; tables::LINES]; 2];
+    let [lines] = tables::walk(sheet, settings, false, [&mut given, &mut line_wide])?;
+    let with: u32 = given.iter().sum();
+    println!("walk: {lines} lines, {with} with a width; line {lines} is {} wide", line_wide[lines as usize - 1]);
+    let [given, at, way, columns, width] = tables::nested(sheet, line, settings, false, [&mut column, &mut x, &mut wide])?;
+    println!("nested: given {given}, at {at}, {}, {columns} columns, {width} wide", if way == 1 { "down" } else { "sideways" });
     Ok(())
 }
 

@@ -42,6 +42,8 @@ extern "C" {
     fn tables_at(s: In, n: usize, line: u32, wrap: u32, raw: u32, width: u32, row: u32, x: u32) -> Answer<2>;
     fn tables_within(s: In, n: usize, line: u32, wrap: u32, raw: u32, width: u32, row: u32, from: u32, to: u32, a: Out, al: usize) -> Answer<1>;
     fn tables_joining(s: In, n: usize, line: u32, wrap: u32, raw: u32, width: u32, row: u32, x: u32) -> Answer<1>;
+    fn tables_walk(s: In, n: usize, wrap: u32, raw: u32, width: u32, overflow: u32, a: Out, al: usize, b: Out, bl: usize) -> Answer<1>;
+    fn tables_nested(s: In, n: usize, line: u32, wrap: u32, raw: u32, width: u32, overflow: u32, a: Out, al: usize, b: Out, bl: usize, c: Out, cl: usize) -> Answer<5>;
 }
 
 pub fn check(s: &[u8]) -> Result<[u32; 0], Refusal> {
@@ -90,4 +92,16 @@ pub fn within(s: &[u8], line: u32, [wrap, raw, width]: [u32; 3], row: u32, [from
 /// joint (0 plain, 1 up, 2 down, 3 both); settings: wrap, raw, width
 pub fn joining(s: &[u8], line: u32, [wrap, raw, width]: [u32; 3], row: u32, x: u32) -> Result<[u32; 1], Refusal> {
     unsafe { tables_joining(s.as_ptr(), s.len(), line, wrap, raw, width, row, x) }.result()
+}
+
+/// lines; settings: wrap, raw, width; lent: given, wide
+pub fn walk(s: &[u8], [wrap, raw, width]: [u32; 3], overflow: bool, [a, b]: [&mut [u32]; 2]) -> Result<[u32; 1], Refusal> {
+    unsafe { tables_walk(s.as_ptr(), s.len(), wrap, raw, width, overflow as u32, a.as_mut_ptr(), a.len(), b.as_mut_ptr(), b.len()) }.result()
+}
+
+/// given, at, way (0 sideways, 1 down), columns, width; settings: wrap, raw, width; lent: column, x, wide
+pub fn nested(s: &[u8], line: u32, [wrap, raw, width]: [u32; 3], overflow: bool, [a, b, c]: [&mut [u32]; 3]) -> Result<[u32; 5], Refusal> {
+    let (al, bl, cl) = (a.len(), b.len(), c.len());
+    let (a, b, c) = (a.as_mut_ptr(), b.as_mut_ptr(), c.as_mut_ptr());
+    unsafe { tables_nested(s.as_ptr(), s.len(), line, wrap, raw, width, overflow as u32, a, al, b, bl, c, cl) }.result()
 }

@@ -1,1 +1,2 @@
--- The proofs of this crate need no laws of their own: those of crate listing do.
+-- What the functions that print a sheet's answers need of its records.
+pub mod Fronts

@@ -1,1 +1,2 @@
--- This crate has no definitions of its own: those of crate listing do.
+-- The definitions that the contracts of this crate cite. Assumes nothing.
+pub mod inner

@@ -2,16 +2,16 @@
 ghost use Prim.Native.Nat.{_≤_};
 ghost use Rattle.lists.specs.Limits.{maxLines};
 ghost use Rattle.records.specs.Kept.{keptCount};
-ghost use Rattle.listing.specs.Listing.{Place};
+ghost use Rattle.writing.specs.Writing.{Place};
 use super::grids::grid_records;
-use line::kinds::TABLE;
-use listing::layouts::cells;
-use listing::layouts::heading;
+use kinds::TABLE;
 use lists::MAX_ENTRIES;
 use lists::MAX_LINES;
 use lists::MAX_POSITION;
 use settings::Given;
 use tables::LaidOut;
+use writing::tables::cells;
+use writing::tables::heading;
 
 // Puts the columns' widths and the entries of the table on a line, whose grid says where they stand.
 fn grid_cells(

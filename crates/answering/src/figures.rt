@@ -3,19 +3,19 @@ ghost use Prim.Native.Nat.{_≤_};
 ghost use lib.ListN.{length};
 ghost use Rattle.lists.specs.Limits.{maxLines};
 ghost use Rattle.records.specs.Kept.{keptCount};
-ghost use Rattle.listing.specs.Listing.{Place};
-ghost use Rattle.listing.specs.inner.Rooms.{FewCounts};
+ghost use Rattle.writing.specs.Writing.{Place};
+ghost use Rattle.answering.specs.inner.Buffers.{FewCounts};
 use super::grids::grid_records;
 use gridding::Counts;
-use line::kinds::TABLE;
-use listing::entries::entries;
-use listing::entries::row_ends;
-use listing::lines::four;
-use listing::lines::two;
-use listing::lines::words;
+use kinds::TABLE;
 use lists::MAX_ENTRIES;
 use lists::MAX_LINES;
 use tables::Estimated;
+use writing::entries::entries;
+use writing::entries::row_ends;
+use writing::lines::four;
+use writing::lines::two;
+use writing::lines::words;
 
 // Puts a line for each line of the sheet, with its three figures.
 fn estimate_lines(

@@ -2,13 +2,13 @@
 ghost use Prim.Native.Nat.{_≤_, _<_, _/_};
 ghost use lib.ListN.{length};
 ghost use Rattle.lists.specs.Limits.{maxEntries, maxLines};
-ghost use Rattle.listing.specs.inner.Rooms.{BuffersHold, FewCounts};
+ghost use Rattle.answering.specs.inner.Buffers.{BuffersHold, FewCounts};
+use finding::Gridded;
 use gridding::Counts;
 use lists::MAX_ENTRIES;
 use lists::MAX_LINES;
 use records::Entry;
 use records::Row;
-use tables::Gridded;
 
 // No rows, entries or columns.
 fn none() -> Counts

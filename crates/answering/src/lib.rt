@@ -7,14 +7,14 @@ pub mod figures; // figures.rt: the estimates of all lines, and each table's gri
 ghost use Prim.Native.Nat.{_≤_};
 ghost use Rattle.lists.specs.Limits.{maxLines};
 ghost use Rattle.records.specs.Kept.{keptCount};
-ghost use Rattle.listing.specs.Listing.{Place};
-use listing::refusal;
-use listing::verdict;
+ghost use Rattle.writing.specs.Writing.{Place};
 use lists::MAX_LINES;
 use lists::Verdict;
 use settings::Given;
 use settings::Settled;
 use sheet::Reading;
+use writing::refusal;
+use writing::verdict;
 
 // Reads a sheet that was accepted, and answers how many lines it has: what is asked of them is which are tables.
 fn line_count(sheet: &[u8], kept: &mut [u32]) -> usize

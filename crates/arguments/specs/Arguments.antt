@@ -39,3 +39,14 @@ pointingArguments wrap raw width = settingsCheck wrap raw width ∷ []
 
 abbrev pub withinArguments : ℕ → ℕ → ℕ → List ℕ → List Check
 withinArguments wrap raw width entries = settingsCheck wrap raw width ∷ check (anyShorter maxEntries entries) 11 0 ∷ []
+
+-- a walk has one setting more: whether widths may overflow
+abbrev pub walkSettings : ℕ → ℕ → ℕ → ℕ → Check
+walkSettings wrap raw width overflow = check (ltb maxWrap wrap || ltb 1 raw || ltb maxWidth width || ltb 1 overflow) 9 0
+
+abbrev pub walkArguments : ℕ → ℕ → ℕ → ℕ → List ℕ → List Check
+walkArguments wrap raw width overflow lines = walkSettings wrap raw width overflow ∷ check (anyShorter maxLines lines) 11 0 ∷ []
+
+abbrev pub nestedArguments : ℕ → ℕ → ℕ → ℕ → List ℕ → List ℕ → List Check
+nestedArguments wrap raw width overflow columns entries =
+    walkSettings wrap raw width overflow ∷ check (anyShorter maxLines columns || anyShorter maxEntries entries) 11 0 ∷ []

@@ -4,7 +4,7 @@ ghost use mathlib.Core.List.{[], _∷_};
 ghost use mathlib.Core.Bool.{_||_};
 ghost use lib.Dec.{ltb};
 ghost use Rattle.lists.specs.Limits.{maxWrap, maxWidth};
-ghost use Rattle.arguments.specs.Arguments.{anyShorter, estimatesArguments, gridArguments, layoutArguments, missingArguments, pointingArguments, withinArguments};
+ghost use Rattle.arguments.specs.Arguments.{anyShorter, estimatesArguments, gridArguments, layoutArguments, missingArguments, pointingArguments, withinArguments, walkArguments, nestedArguments};
 ghost use Rattle.lists.specs.Refusals.{verdictOf};
 use lists::Verdict;
 
@@ -142,6 +142,60 @@ pub fn of_within(wrap: u32, raw: u32, width: u32, listed: usize) -> Verdict
         return Verdict::Refused { number: 9, line: 0 };
     }
     if listed < lists::MAX_ENTRIES {
+        return Verdict::Refused {
+            number: 11,
+            line: 0,
+        };
+    }
+    Verdict::Accepted
+}
+
+// Whether a setting of a walk is out of its range.
+fn walk_out(wrap: u32, raw: u32, width: u32, overflow: u32) -> bool
+    ensures { λ r. ⌜ r ≡ (ltb maxWrap wrap || ltb 1 raw || ltb maxWidth width || ltb 1 overflow) ⌝ }
+{
+    if settings_out(wrap, raw, width) {
+        return true;
+    }
+    overflow > 1
+}
+
+pub fn of_walk(wrap: u32, raw: u32, width: u32, overflow: u32, given: usize, wide: usize) -> Verdict
+    ensures { λ r. ⌜ r ≡ verdictOf (walkArguments wrap raw width overflow (given ∷ wide ∷ [])) ⌝ }
+{
+    if walk_out(wrap, raw, width, overflow) {
+        return Verdict::Refused { number: 9, line: 0 };
+    }
+    if either_below(given, wide, lists::MAX_LINES) {
+        return Verdict::Refused {
+            number: 11,
+            line: 0,
+        };
+    }
+    Verdict::Accepted
+}
+
+pub fn of_nested(
+    wrap: u32,
+    raw: u32,
+    width: u32,
+    overflow: u32,
+    columns: usize,
+    starts: usize,
+    wides: usize,
+) -> Verdict
+    ensures { λ r. ⌜ r ≡ verdictOf (nestedArguments wrap raw width overflow (columns ∷ []) (starts ∷ wides ∷ [])) ⌝ }
+{
+    if walk_out(wrap, raw, width, overflow) {
+        return Verdict::Refused { number: 9, line: 0 };
+    }
+    if columns < lists::MAX_LINES {
+        return Verdict::Refused {
+            number: 11,
+            line: 0,
+        };
+    }
+    if either_below(starts, wides, lists::MAX_ENTRIES) {
         return Verdict::Refused {
             number: 11,
             line: 0,

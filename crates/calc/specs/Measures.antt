@@ -12,13 +12,13 @@ use Rattle.calc.specs.declared.Measure.{Measure}
 use Rattle.calc.specs.declared.Measure.the-variants.{Size, NoExpression, NoValue}
 
 -- a size with a minus sign or without, as a number of a sheet
-abbrev pub numberOf : Bool → ℕ → Number
-numberOf true n = minus n
-numberOf false n = plain n
+abbrev pub withSign : Bool → ℕ → Number
+withSign true n = minus n
+withSign false n = plain n
 
 -- the length of its decimal writing, minus sign included: `writing` also measures the numbers of an ordered list
 unfoldable pub written : Bool → ℕ → ℕ
-written sign n = writing (numberOf sign n)
+written sign n = writing (withSign sign n)
 
 abbrev pub lengthOf : ℤ → ℕ
 lengthOf z = written (negative z) (natAbs z)

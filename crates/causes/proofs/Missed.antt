@@ -10,10 +10,11 @@ use lib.Dec.{eqb}
 use lib.ListN.{length, getD, take, drop, replicate, length-drop, getD-replicate}
 use lib.Seq.{length-take-le, getD-take, getD-drop}
 use borrow.Author.Tests.{eq-eqb, ne-eqb, lt-ltb, le-ltb}
-use Rattle.lists.specs.Lists.{sum}
+use Rattle.lists.specs.Lists.{sum, Tiles}
+use Rattle.lists.proofs.Tiles.{tiles-start}
 use Rattle.records.specs.declared.Entry.{Entry}
 use Rattle.text.specs.declared.Estimate.{Estimate}
-use Rattle.columns.specs.Boxes.{Box, flat, Tiles, TilesAll}
+use Rattle.columns.specs.Boxes.{Box, boxFirst, boxSpan, flat, BoxesTile, TilesAll}
 use Rattle.columns.specs.Columns.{sizeOf, leastOf, largestAt, largest}
 use Rattle.columns.proofs.Upto.{length-upTo, at-upTo}
 use Rattle.cutting.specs.Cut as cut
@@ -27,7 +28,6 @@ use Rattle.placing.specs.Place.{Placed, at, across, placeDown, placeRow, placeR
 use Rattle.placing.specs.inner.Rows.{own, next, bareBoxes}
 use Rattle.placing.proofs.Placing.{placeBy, side-by, length-row, own-missing, missing-own}
 use Rattle.placing.proofs.Spread.{narrow-spread, spread-floor}
-use Rattle.placing.proofs.Tiling.{tiles-start}
 use Rattle.sizing.specs.Sizing.{entryBox}
 use Rattle.table.specs.Laying.{wayIn, widthsIn, placesIn}
 use Rattle.causes.specs.Causes.{causeOf, causeNumber, causes, causeAt, missingFrom}
@@ -119,19 +119,19 @@ own-zero q s h = go (ℕ-discrete q 0)
     go (no e) = ne-eqb (own q s) 0 (λ z. e (missing-own q s h z)) ∙ sym (ne-eqb q 0 e)
 
 missed-by : (n : ℕ) (f : Box → ℕ) (cs : List ℕ) → ((b : Box) → 1 ≤ b .span → b .first + b .span ≤ n → hidden cs b ≡ eqb (f b) 0)
-    → (k x p : ℕ) (bs : List Box) → Tiles n p bs → missingFrom k (placeBy f x bs) ≡ hiddenFrom k bs cs
+    → (k x p : ℕ) (bs : List Box) → BoxesTile n p bs → missingFrom k (placeBy f x bs) ≡ hiddenFrom k bs cs
 unfolding missingFrom placeBy hiddenFrom Tiles
 missed-by n f cs g k x p [] t = refl
 missed-by n f cs g k x p (b ∷ bs) t =
-    let here = own-zero (f b) (b .span) (t .1) ∙ sym (g b (t .1) (omega (arith, t .0, tiles-start n (p + b .span) bs (t .2)))) in
+    let here = own-zero (f b) (b .span) (t .1) ∙ sym (g b (t .1) (omega (arith, t .0, tiles-start boxFirst boxSpan n (p + b .span) bs (t .2)))) in
     ap₂ (λ (y : Bool) (r : List ℕ). cond y (k ∷ r) r) here (missed-by n f cs g (suc k) (next x (f b) (b .span)) (p + b .span) bs (t .2))
 
 missed-down : (n width : ℕ) (cs : List ℕ) → ((b : Box) → 1 ≤ b .span → b .first + b .span ≤ n → hidden cs b ≡ eqb width 0)
-    → (k p : ℕ) (bs : List Box) → Tiles n p bs → missingFrom k (placeDown width bs) ≡ hiddenFrom k bs cs
+    → (k p : ℕ) (bs : List Box) → BoxesTile n p bs → missingFrom k (placeDown width bs) ≡ hiddenFrom k bs cs
 unfolding missingFrom placeDown hiddenFrom Tiles
 missed-down n width cs g k p [] t = refl
 missed-down n width cs g k p (b ∷ bs) t =
-    ap₂ (λ (y : Bool) (r : List ℕ). cond y (k ∷ r) r) (sym (g b (t .1) (omega (arith, t .0, tiles-start n (p + b .span) bs (t .2)))))
+    ap₂ (λ (y : Bool) (r : List ℕ). cond y (k ∷ r) r) (sym (g b (t .1) (omega (arith, t .0, tiles-start boxFirst boxSpan n (p + b .span) bs (t .2)))))
     (missed-down n width cs g (suc k) (p + b .span) bs (t .2))
 
 -- ---- all rows
@@ -165,7 +165,7 @@ hidden-entries figures cs k (e ∷ es) = rw (hidden-entries figures cs (suc k) e
 
 -- the missing ones of a row, either way, where its columns have their final widths
 module _ (n : ℕ) (cs zs ls : List ℕ) (width : ℕ) (z : length zs ≡ n) (c : length cs ≡ n) where
-  missed-row : (way : Way) → ((j : ℕ) → j < n → Tied (getD cs j 0) (getD (finalWidths way zs ls width) j 0)) → (k : ℕ) (r : List Box) → Tiles n 0 r
+  missed-row : (way : Way) → ((j : ℕ) → j < n → Tied (getD cs j 0) (getD (finalWidths way zs ls width) j 0)) → (k : ℕ) (r : List Box) → BoxesTile n 0 r
       → missingFrom k (placeRow way (finalWidths way zs ls width) width r) ≡ hiddenFrom k r cs
   unfolding placeRow finalWidths
   missed-row Sideways t k r h =

@@ -8,6 +8,7 @@ use native.Mathlib.Omega.{arith}
 use lib.ListN.{length, getD, take, length-append, length-map, List·getD-map}
 use lib.Seq.{length-take-le, take-at}
 use Rattle.lists.specs.Limits.{maxPosition}
+use Rattle.lists.proofs.All.{at-all}
 use Rattle.text.specs.declared.Estimate.{Estimate}
 use Rattle.records.specs.Kept.{noEntry, entryBy, entriesOf}
 use Rattle.records.proofs.Records.{length-of, of-take}
@@ -16,7 +17,6 @@ use Rattle.columns.specs.Boxes.{Box}
 use Rattle.placing.specs.inner.Rows.{bareBox, bareBoxes}
 use Rattle.sizing.specs.Sizing.{entryBox}
 use Rattle.sizing.specs.inner.Room.{Whole, Entered}
-use Rattle.sizing.proofs.Every.{at-all}
 use Rattle.causes.specs.inner.Hidden.{hidden, hiddenFrom, Listable, Listed}
 use Rattle.causes.specs.inner.Fronts.{causesIn, FrontReady, FrontTold}
 

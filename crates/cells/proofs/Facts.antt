@@ -4,64 +4,20 @@ use mathlib.Core.Path.{_≡_, refl, ap, ap₂}
 use mathlib.Core.Bool.{Bool, true, false, cond}
 use mathlib.Core.List.{List, [], _∷_, _++_, map}
 use Prim.{tt}
-use Prim.Native.Nat.{ℕ, zero, suc, _+_, _*_, _-_, _≤_, _<_, min}
-use native.Mathlib.Nat.{not-suc-le-zero, le-of-suc-le-suc}
+use Prim.Native.Nat.{ℕ, suc, _+_, _*_, _-_, _≤_, _<_, min}
 use native.Mathlib.Decide.{ℕ-discrete}
 use native.Mathlib.Omega.{arith}
 use lib.Dec.{leb, eqb}
-use lib.ListN.{length, getD, length-append, length-map, List·getD-append}
+use lib.ListN.{length, length-append, length-map}
 use borrow.Author.Tests.{eq-eqb, ne-eqb}
 use Rattle.lists.specs.Limits.{maxCols}
-use Rattle.lists.specs.Lists.{over, sum}
+use Rattle.lists.specs.Lists.{sum, All}
+use Rattle.lists.proofs.All.{all-append, all-map, all-weaken}
 use Rattle.records.specs.declared.Kept.{Kept}
 use Rattle.cells.specs.Cells.{Cell, Row, Frame, cell, row, noFrame, openBody, openRow, openCell, frame, bodiesOf, rowSum, widest, resolveCell, resolveRow, taken, cutCell, cutRow, fillBody, cutBody, resolveBody, resolved}
 use Rattle.cells.specs.Listed.{allCells}
-use Rattle.cells.specs.Facts.{Every, none, and, LineFits, CellFits, RowFits, Ending}
+use Rattle.cells.specs.Facts.{LineFits, CellFits, RowFits, Ending}
 use Rattle.cells.proofs.Rows.{cells-append, cells-body, length-body}
-
--- ---- Every
-
-pub every-append : {A : Type 0} {P : A → Type 0} {xs ys : List A} → Every P xs → Every P ys → Every P (xs ++ ys)
-every-append none q = q
-every-append (and p ps) q = and p (every-append ps q)
-
-pub every-map : {A B : Type 0} {P : A → Type 0} {Q : B → Type 0} (f : A → B) → ((a : A) → P a → Q (f a)) → {xs : List A} → Every P xs → Every Q (map f xs)
-every-map f h none = none
-every-map f h (and p ps) = and (h _ p) (every-map f h ps)
-
-pub every-weaken : {A : Type 0} {P Q : A → Type 0} → ((a : A) → P a → Q a) → {xs : List A} → Every P xs → Every Q xs
-every-weaken h none = none
-every-weaken h (and p ps) = and (h _ p) (every-weaken h ps)
-
-every-head : {A : Type 0} {P : A → Type 0} {x : A} {xs : List A} → Every P (x ∷ xs) → P x
-every-head (and p ps) = p
-
-every-tail : {A : Type 0} {P : A → Type 0} {x : A} {xs : List A} → Every P (x ∷ xs) → Every P xs
-every-tail (and p ps) = ps
-
--- by place
-pub every-at : {A : Type 0} {P : A → Type 0} {xs : List A} → Every P xs → (z : A) (k : ℕ) → k < length xs → P (getD xs k z)
-every-at none z k h = absurd (not-suc-le-zero h)
-every-at (and p ps) z zero h = p
-every-at (and p ps) z (suc k) h = every-at ps z k (le-of-suc-le-suc h)
-
-pub every-of : {A : Type 0} {P : A → Type 0} (xs : List A) (z : A) → ((k : ℕ) → k < length xs → P (getD xs k z)) → Every P xs
-every-of [] z h = none
-every-of (x ∷ xs) z h = and (h 0 (omega arith)) (every-of xs z (λ k l. h (suc k) (omega arith)))
-
--- the cells of all rows
-pub every-cell : {P : Cell → Type 0} {rs : List Row} → Every (λ r. Every P (r .cells)) rs → Every P (allCells rs)
-unfolding allCells
-every-cell none = none
-every-cell (and p ps) = every-append p (every-cell ps)
-
--- a figure of each cell, as a slice holds it
-pub listed-at : {P : Cell → Type 0} (Q : ℕ → Type 0) (f : Cell → ℕ) → ((c : Cell) → P c → Q (f c)) → (cs : List Cell) (b₀ b : List ℕ)
-    → Every P cs → b ≡ over (map f cs) b₀ → (k : ℕ) → k < length cs → Q (getD b k 0)
-unfolding over
-listed-at Q f h cs b₀ b e q k l =
-    let m : k < length (map f cs) = omega (arith, length-map cs f) in
-    rw (q, List·getD-append (map f cs) _ 0 k m) (every-at {P = Q} (every-map f h e) 0 k m)
 
 -- ---- what holds of a frame whichever way its line goes
 
@@ -140,68 +96,70 @@ record RowIn (k n : ℕ) (r : Row) : Type 0 where
   pub after : k ≤ r .line
   pub within : r .line < k + n
   pub few : length (r .cells) ≤ n
-  pub cells : Every (CellIn k n) (r .cells)
+  pub cells : All (CellIn k n) (r .cells)
 
 record FrameIn (k n : ℕ) (f : Frame) : Type 0 where
   pub few : length (f .cells) ≤ n
-  pub cells : Every (CellIn k n) (f .cells)
-  pub rows : Every (RowIn k n) (f .rows)
-  pub bodies : Every (Every (RowIn k n)) (f .bodies)
+  pub cells : All (CellIn k n) (f .cells)
+  pub rows : All (RowIn k n) (f .rows)
+  pub bodies : All (All (RowIn k n)) (f .bodies)
 
 cell-in : (k n : ℕ) (c : Cell) → CellIn (suc k) n c → CellIn k (suc n) c
 cell-in k n c h = record { after = omega (arith, h .after); within = omega (arith, h .within); narrow = h .narrow }
 
 row-in : (k n : ℕ) (r : Row) → RowIn (suc k) n r → RowIn k (suc n) r
-row-in k n r h = record { after = omega (arith, h .after); within = omega (arith, h .within); few = omega (arith, h .few); cells = every-weaken (cell-in k n) (h .cells) }
+row-in k n r h = record { after = omega (arith, h .after); within = omega (arith, h .within); few = omega (arith, h .few); cells = all-weaken _ _ (cell-in k n) (r .cells) (h .cells) }
 
 frame-more : (k n : ℕ) (f : Frame) → FrameIn (suc k) n f → FrameIn k (suc n) f
 frame-more k n f h = record {
   few = omega (arith, h .few);
-  cells = every-weaken (cell-in k n) (h .cells);
-  rows = every-weaken (row-in k n) (h .rows);
-  bodies = every-weaken (λ b. every-weaken (row-in k n)) (h .bodies);
+  cells = all-weaken _ _ (cell-in k n) (f .cells) (h .cells);
+  rows = all-weaken _ _ (row-in k n) (f .rows) (h .rows);
+  bodies = all-weaken _ _ (λ b. all-weaken _ _ (row-in k n) b) (f .bodies) (h .bodies);
 }
 
 frame-turn : (k : ℕ) (l : Kept) (ls : List Kept) (f : Frame) → LineFits l → FrameIn (suc k) (length ls) f
     → FrameIn k (suc (length ls)) (openBody f) × FrameIn k (suc (length ls)) (openRow k f) × FrameIn k (suc (length ls)) (openCell k l f) × FrameIn k (suc (length ls)) f
+unfolding All
 frame-turn k l ls f e h =
     let m = frame-more k (length ls) f h in (
-      record { few = omega arith; cells = none; rows = none; bodies = and (m .rows) (m .bodies) },
+      record { few = omega arith; cells = tt; rows = tt; bodies = (m .rows, m .bodies) },
       record {
         few = omega arith;
-        cells = none;
-        rows = and {x = row k (f .cells)} (record { after = omega arith; within = omega arith; few = m .few; cells = m .cells }) (m .rows);
+        cells = tt;
+        rows = (record { after = omega arith; within = omega arith; few = m .few; cells = m .cells }, m .rows);
         bodies = m .bodies;
       },
       record {
         few = omega (arith, h .few);
-        cells = and {x = cell k (l .cols) (l .rows)} (record { after = omega arith; within = omega arith; narrow = e .narrow }) (m .cells);
+        cells = (record { after = omega arith; within = omega arith; narrow = e .narrow }, m .cells);
         rows = m .rows;
         bodies = m .bodies;
       },
       m,
     )
 
-frame-in : (d k : ℕ) (ls : List Kept) → Every LineFits ls → FrameIn k (length ls) (frame d k ls)
+frame-in : (d k : ℕ) (ls : List Kept) → All LineFits ls → FrameIn k (length ls) (frame d k ls)
+unfolding All
 frame-in d =
-    frame-all (λ k ls f. Every LineFits ls → FrameIn k (length ls) f) d
-    (λ k ls e. record { few = omega arith; cells = none; rows = none; bodies = none })
+    frame-all (λ k ls f. All LineFits ls → FrameIn k (length ls) f) d
+    (λ k ls e. record { few = omega arith; cells = tt; rows = tt; bodies = tt })
     (λ k l ls f h. (
-      λ e. frame-turn k l ls f (every-head e) (h (every-tail e)) .0,
-      λ e. frame-turn k l ls f (every-head e) (h (every-tail e)) .1,
-      λ e. frame-turn k l ls f (every-head e) (h (every-tail e)) .2,
-      λ e. frame-turn k l ls f (every-head e) (h (every-tail e)) .3,
+      λ e. frame-turn k l ls f (e .0) (h (e .1)) .0,
+      λ e. frame-turn k l ls f (e .0) (h (e .1)) .1,
+      λ e. frame-turn k l ls f (e .0) (h (e .1)) .2,
+      λ e. frame-turn k l ls f (e .0) (h (e .1)) .3,
     ))
 
-row-small : {k n : ℕ} {cs : List Cell} → Every (CellIn k n) cs → rowSum cs ≤ length cs * maxCols
-unfolding rowSum sum
-row-small none = omega arith
-row-small (and p ps) = omega (arith, p .narrow, row-small ps)
+row-small : (k n : ℕ) (cs : List Cell) → All (CellIn k n) cs → rowSum cs ≤ length cs * maxCols
+unfolding All rowSum sum
+row-small k n [] e = omega arith
+row-small k n (c ∷ cs) e = omega (arith, e .0 .narrow, row-small k n cs (e .1))
 
-body-small : {k n : ℕ} {rs : List Row} → Every (RowIn k n) rs → widest rs ≤ n * maxCols
-unfolding widest
-body-small none = omega arith
-body-small (and p ps) = omega (arith, p .few, row-small (p .cells), body-small ps)
+body-small : (k n : ℕ) (rs : List Row) → All (RowIn k n) rs → widest rs ≤ n * maxCols
+unfolding All widest
+body-small k n [] e = omega arith
+body-small k n (r ∷ rs) e = omega (arith, e .0 .few, row-small k n (r .cells) (e .0 .cells), body-small k n rs (e .1))
 
 -- what a cell's cols become
 filled-fits : (x n most : ℕ) → 1 ≤ x → x ≤ most → n ≤ most → (1 ≤ cond (eqb n 0) x n) × (cond (eqb n 0) x n ≤ most)
@@ -230,46 +188,53 @@ unfolding resolveRow cutRow
 row-fits t n m left s l r h = record {
   after = omega (arith, h .after);
   within = omega (arith, h .within);
-  cells = every-map (cutCell left) (λ c p. p) (every-map {Q = λ c. CellFits t n (cutCell left c)} (resolveCell (m - rowSum (r .cells) + 1)) (cell-fits t n (m - rowSum (r .cells) + 1) left (omega arith) (omega arith) l) (h .cells));
+  cells =
+      all-map (λ c. CellFits t n (cutCell left c)) (CellFits t n) (cutCell left) (λ c p. p) (map (resolveCell (m - rowSum (r .cells) + 1)) (r .cells))
+      (all-map (CellIn (suc t) n) (λ c. CellFits t n (cutCell left c)) (resolveCell (m - rowSum (r .cells) + 1))
+      (cell-fits t n (m - rowSum (r .cells) + 1) left (omega arith) (omega arith) l) (r .cells) (h .cells));
 }
 
-body-fits : (t n m : ℕ) → m ≤ n * maxCols → (rs : List Row) → length rs ≤ n → Every (RowIn (suc t) n) rs → Every (RowFits t n) (cutBody (map (resolveRow m) rs))
-unfolding cutBody
-body-fits t n m s [] l none = none
-body-fits t n m s (r ∷ rs) l (and p ps) =
-    and (row-fits t n m (length (map (resolveRow m) rs)) s (omega (arith, length-map rs (resolveRow m))) r p) (body-fits t n m s rs (omega arith) ps)
+body-fits : (t n m : ℕ) → m ≤ n * maxCols → (rs : List Row) → length rs ≤ n → All (RowIn (suc t) n) rs → All (RowFits t n) (cutBody (map (resolveRow m) rs))
+unfolding All cutBody
+body-fits t n m s [] l e = tt
+body-fits t n m s (r ∷ rs) l e =
+    (row-fits t n m (length (map (resolveRow m) rs)) s (omega (arith, length-map rs (resolveRow m))) r (e .0), body-fits t n m s rs (omega arith) (e .1))
 
-bodies-fit : (t n : ℕ) (bs : List (List Row)) → sizes bs ≤ n → Every (Every (RowIn (suc t) n)) bs → Every (RowFits t n) (resolved bs)
-unfolding resolved resolveBody fillBody
-bodies-fit t n [] l none = none
-bodies-fit t n (b ∷ bs) l (and p ps) = every-append (body-fits t n (widest b) (body-small p) b (omega arith) p) (bodies-fit t n bs (omega arith) ps)
+bodies-fit : (t n : ℕ) (bs : List (List Row)) → sizes bs ≤ n → All (All (RowIn (suc t) n)) bs → All (RowFits t n) (resolved bs)
+unfolding All resolved resolveBody fillBody
+bodies-fit t n [] l e = tt
+bodies-fit t n (b ∷ bs) l e =
+    all-append (RowFits t n) (resolveBody b) (resolved bs)
+    (body-fits t n (widest b) (body-small (suc t) n b (e .0)) b (omega arith) (e .0)) (bodies-fit t n bs (omega arith) (e .1))
 
 -- the rows of the table of depth d whose line is line t, where the lines ls follow
-pub rows-fit : (d t : ℕ) (ls : List Kept) → Every LineFits ls → Every (RowFits t (length ls)) (resolved (bodiesOf d t ls))
+pub rows-fit : (d t : ℕ) (ls : List Kept) → All LineFits ls → All (RowFits t (length ls)) (resolved (bodiesOf d t ls))
 rows-fit d t ls e = bodies-fit t (length ls) (bodiesOf d t ls) (omega (arith, frame-few d (suc t) ls)) (frame-in d (suc t) ls e .bodies)
 
 -- every resolved cols is at least 1, whatever the rows are
-pub resolved-wide : (bs : List (List Row)) → Every (λ r. Every (λ c. 1 ≤ c .cols) (r .cells)) (resolved bs)
-unfolding resolved resolveBody fillBody resolveRow cutBody cutRow
-resolved-wide [] = none
-resolved-wide (b ∷ bs) = every-append (wide-cut (wide-rows (widest b) b)) (resolved-wide bs)
+pub resolved-wide : (bs : List (List Row)) → All (λ r. All (λ c. 1 ≤ c .cols) (r .cells)) (resolved bs)
+unfolding All resolved resolveBody fillBody resolveRow cutBody cutRow
+resolved-wide [] = tt
+resolved-wide (b ∷ bs) =
+    all-append (λ r. All (λ c. 1 ≤ c .cols) (r .cells)) (resolveBody b) (resolved bs)
+    (wide-cut (map (resolveRow (widest b)) b) (wide-rows (widest b) b)) (resolved-wide bs)
   where
-    wide-cut : {rs : List Row} → Every (λ r. Every (λ c. 1 ≤ c .cols) (r .cells)) rs → Every (λ r. Every (λ c. 1 ≤ c .cols) (r .cells)) (cutBody rs)
-    wide-cut none = none
-    wide-cut (and {xs = xs} p ps) = and (every-map (cutCell (length xs)) (λ c w. w) p) (wide-cut ps)
+    wide-cut : (rs : List Row) → All (λ r. All (λ c. 1 ≤ c .cols) (r .cells)) rs → All (λ r. All (λ c. 1 ≤ c .cols) (r .cells)) (cutBody rs)
+    wide-cut [] e = tt
+    wide-cut (r ∷ rs) e = (all-map (λ c. 1 ≤ c .cols) (λ c. 1 ≤ c .cols) (cutCell (length rs)) (λ c w. w) (r .cells) (e .0), wide-cut rs (e .1))
 
-    wide-cells : (x : ℕ) → 1 ≤ x → (cs : List Cell) → Every (λ c. 1 ≤ c .cols) (map (resolveCell x) cs)
-    wide-cells x h [] = none
-    wide-cells x h (c ∷ cs) = and (filled-fits x (c .cols) (x + c .cols) h (omega arith) (omega arith) .0) (wide-cells x h cs)
+    wide-cells : (x : ℕ) → 1 ≤ x → (cs : List Cell) → All (λ c. 1 ≤ c .cols) (map (resolveCell x) cs)
+    wide-cells x h [] = tt
+    wide-cells x h (c ∷ cs) = (filled-fits x (c .cols) (x + c .cols) h (omega arith) (omega arith) .0, wide-cells x h cs)
 
-    wide-rows : (m : ℕ) (rs : List Row) → Every (λ r. Every (λ c. 1 ≤ c .cols) (r .cells)) (map (resolveRow m) rs)
-    wide-rows m [] = none
-    wide-rows m (r ∷ rs) = and (wide-cells (m - rowSum (r .cells) + 1) (omega arith) (r .cells)) (wide-rows m rs)
+    wide-rows : (m : ℕ) (rs : List Row) → All (λ r. All (λ c. 1 ≤ c .cols) (r .cells)) (map (resolveRow m) rs)
+    wide-rows m [] = tt
+    wide-rows m (r ∷ rs) = (wide-cells (m - rowSum (r .cells) + 1) (omega arith) (r .cells), wide-rows m rs)
 
 -- ---- no cell of a resolved body takes more rows than its own and those after it in the body
 
 cut-ends : (rs : List Row) → Ending (cutBody rs)
-unfolding cutBody cutRow
+unfolding All cutBody cutRow
 cut-ends [] = tt
 cut-ends (r ∷ rs) = and-rows (r .cells) (cut-ends rs)
   where
@@ -277,9 +242,9 @@ cut-ends (r ∷ rs) = and-rows (r .cells) (cut-ends rs)
     length-cut [] = refl
     length-cut (q ∷ ss) = ap suc (length-cut ss)
 
-    takes : (n : ℕ) → n ≡ length rs → (cs : List Cell) → Every (λ c. (1 ≤ c .rows) × (c .rows ≤ suc n)) (map (cutCell (length rs)) cs)
-    takes n e [] = none
-    takes n e (c ∷ cs) = and (let s = taken-fits (length rs) (c .rows) in (s .0, omega (arith, s .1, e))) (takes n e cs)
+    takes : (n : ℕ) → n ≡ length rs → (cs : List Cell) → All (λ c. (1 ≤ c .rows) × (c .rows ≤ suc n)) (map (cutCell (length rs)) cs)
+    takes n e [] = tt
+    takes n e (c ∷ cs) = (let s = taken-fits (length rs) (c .rows) in (s .0, omega (arith, s .1, e)), takes n e cs)
 
     and-rows : (cs : List Cell) → Ending (cutBody rs) → Ending (row (r .line) (map (cutCell (length rs)) cs) ∷ cutBody rs)
     and-rows cs q = (takes (length (cutBody rs)) (length-cut rs) cs, q)
@@ -291,22 +256,25 @@ body-ends rs = cut-ends (fillBody rs)
 -- ---- a body without rows 0 in which no span leaves it is resolved as it was before: cols alone change
 
 cut-same : (rs : List Row) → Ending rs → cutBody rs ≡ rs
-unfolding cutBody cutRow
+unfolding All cutBody cutRow
 cut-same [] e = refl
 cut-same (r ∷ rs) e = ap₂ (λ (x : List Cell) (y : List Row). row (r .line) x ∷ y) (same (r .cells) (e .0)) (cut-same rs (e .1))
   where
     figure : (left rows : ℕ) → 1 ≤ rows → rows ≤ suc left → taken left rows ≡ rows
     figure left rows a b = rw (ne-eqb rows 0 (λ e. omega (arith, e))) (omega arith)
 
-    same : (cs : List Cell) → Every (λ c. (1 ≤ c .rows) × (c .rows ≤ suc (length rs))) cs → map (cutCell (length rs)) cs ≡ cs
-    same [] none = refl
-    same (c ∷ cs) (and p ps) = ap₂ (λ (x : ℕ) (y : List Cell). cell (c .line) (c .cols) x ∷ y) (figure (length rs) (c .rows) (p .0) (p .1)) (same cs ps)
+    same : (cs : List Cell) → All (λ c. (1 ≤ c .rows) × (c .rows ≤ suc (length rs))) cs → map (cutCell (length rs)) cs ≡ cs
+    same [] p = refl
+    same (c ∷ cs) p = ap₂ (λ (x : ℕ) (y : List Cell). cell (c .line) (c .cols) x ∷ y) (figure (length rs) (c .rows) (p .0 .0) (p .0 .1)) (same cs (p .1))
 
 fill-ends : (m : ℕ) (rs : List Row) → Ending rs → Ending (map (resolveRow m) rs)
 unfolding resolveRow
 fill-ends m [] e = e
-fill-ends m (r ∷ rs) e =
-    (every-map (resolveCell (m - rowSum (r .cells) + 1)) (λ c p. (p .0, omega (arith, p .1, length-map rs (resolveRow m)))) (e .0), fill-ends m rs (e .1))
+fill-ends m (r ∷ rs) e = (
+  all-map (λ c. (1 ≤ c .rows) × (c .rows ≤ suc (length rs))) (λ c. (1 ≤ c .rows) × (c .rows ≤ suc (length (map (resolveRow m) rs))))
+      (resolveCell (m - rowSum (r .cells) + 1)) (λ c p. (p .0, omega (arith, p .1, length-map rs (resolveRow m)))) (r .cells) (e .0),
+  fill-ends m rs (e .1),
+)
 
 pub body-same : (rs : List Row) → Ending rs → resolveBody rs ≡ fillBody rs
 unfolding resolveBody fillBody
@@ -317,7 +285,7 @@ unfoldable pub filledRows : List (List Row) → List Row
 filledRows [] = []
 filledRows (b ∷ bs) = fillBody b ++ filledRows bs
 
-pub resolved-same : (bs : List (List Row)) → Every Ending bs → resolved bs ≡ filledRows bs
-unfolding resolved filledRows
-resolved-same [] none = refl
-resolved-same (b ∷ bs) (and p ps) = ap₂ (λ (x y : List Row). x ++ y) (body-same b p) (resolved-same bs ps)
+pub resolved-same : (bs : List (List Row)) → All Ending bs → resolved bs ≡ filledRows bs
+unfolding All resolved filledRows
+resolved-same [] e = refl
+resolved-same (b ∷ bs) e = ap₂ (λ (x y : List Row). x ++ y) (body-same b (e .0)) (resolved-same bs (e .1))

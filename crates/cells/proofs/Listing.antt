@@ -13,7 +13,7 @@ use Rattle.lists.proofs.Over.{over-none}
 use Rattle.records.specs.Kept.{noKept}
 use Rattle.records.specs.declared.Kept.{Kept}
 use Rattle.cells.specs.Cells.{Cell, Row, Frame, cell, row, noFrame, openBody, openRow, frame, fillBody, cutBody, resolveBody, resolved}
-use Rattle.cells.specs.Listed.{allCells, cellEnds, ListsRows, heldRows, ListingReady, TableListed}
+use Rattle.cells.specs.Listed.{allCells, cellEnds, ListsRows, tableRows, ListingReady, TableListed}
 use Rattle.cells.specs.Spans.{part, BodyHeld, RowsHeld, BodyDone}
 use Rattle.cells.proofs.Rows.{cells-append, extend, extend-none, extend-extend, extend-append, length-extend, cells-extend, length-body}
 use Rattle.cells.proofs.Written.{written-row, written-cell, last-held, last-rows-held, last-resolved, same-cells}
@@ -51,7 +51,7 @@ rest-cell last c f = ap (λ (l : List Row). resolveBody (l ++ f .rows) ++ resolv
 pub record Listing (ks : List Kept) (at : ℕ) (line₀ span₀ rows₀ row₀ end₀ line span rows row′ end : List ℕ) (n r first-cell first-row i : ℕ) : Type 0 where
   pub done : List Row
   pub last : List Row
-  pub whole : done ++ rest last (framed ks (getD ks at noKept .depth) i) ≡ heldRows ks at
+  pub whole : done ++ rest last (framed ks (getD ks at noKept .depth) i) ≡ tableRows ks at
   pub written : ListsRows (done ++ last) line₀ span₀ rows₀ row₀ end₀ line span rows row′ end
   pub cells-are : n ≡ length (allCells (done ++ last))
   pub rows-are : r ≡ length (done ++ last)
@@ -95,7 +95,7 @@ module _ {ks : List Kept} {at : ℕ} {line₀ span₀ rows₀ row₀ end₀ : Li
   d = getD ks at noKept .depth
 
   pub list-start : Listing ks at line₀ span₀ rows₀ row₀ end₀ line₀ span₀ rows₀ row₀ end₀ 0 0 0 0 (at + 1)
-  unfolding allCells cellEnds heldRows resolveBody fillBody cutBody
+  unfolding allCells cellEnds tableRows resolveBody fillBody cutBody
   list-start = record {
     done = [];
     last = [];
@@ -159,9 +159,9 @@ module _ {ks : List Kept} {at : ℕ} {line₀ span₀ rows₀ row₀ end₀ : Li
         ∙ sym (length-append (z .done) (resolveBody (z .last)) ∙ ap (λ (k : ℕ). length (z .done) + k) (length-body (z .last)))
 
     pub list-stop : getD ks i noKept .depth ≤ d → (span′ rows′ : List ℕ) → BodyDone fc (part fr r end) span rows span′ rows′
-        → TableListed (heldRows ks at) line₀ span₀ rows₀ row₀ end₀ line span′ rows′ row′ end n r
+        → TableListed (tableRows ks at) line₀ span₀ rows₀ row₀ end₀ line span′ rows′ row′ end n r
     list-stop h span′ rows′ b =
-        let e : z .done ++ resolveBody (z .last) ≡ heldRows ks at =
+        let e : z .done ++ resolveBody (z .last) ≡ tableRows ks at =
         ap (λ (l : List Row). z .done ++ l) (sym (rest-stop (z .last))) ∙ ap (λ (f : Frame). z .done ++ rest (z .last) f) (sym (frame-stop ks d i h)) ∙ z .whole in
         record {
           written = subst (λ (l : List Row). ListsRows l line₀ span₀ rows₀ row₀ end₀ line span′ rows′ row′ end) e (body-done span′ rows′ b);

@@ -3,14 +3,10 @@ use mathlib.Core.List.{List, [], _∷_}
 use Prim.{Unit}
 use Prim.Native.Nat.{ℕ, suc, _+_, _*_, _≤_, _<_}
 use lib.ListN.{length}
+use Rattle.lists.specs.Lists.{All}
 use Rattle.lists.specs.Limits.{maxCols}
 use Rattle.records.specs.declared.Kept.{Kept}
 use Rattle.cells.specs.Cells.{Cell, Row}
-
--- each element has the property
-pub data Every {A : Type 0} (P : A → Type 0) : List A → Type 0 where
-  none : Every P []
-  and : {x : A} {xs : List A} → P x → Every P xs → Every P (x ∷ xs)
 
 -- a line's cols are in range
 pub record LineFits (l : Kept) : Type 0 where
@@ -29,9 +25,9 @@ pub record CellFits (t n : ℕ) (c : Cell) : Type 0 where
 pub record RowFits (t n : ℕ) (r : Row) : Type 0 where
   pub after : t < r .line
   pub within : r .line ≤ t + n
-  pub cells : Every (CellFits t n) (r .cells)
+  pub cells : All (CellFits t n) (r .cells)
 
 -- each cell of a body takes a row at least, and no span leaves the body: it takes no more than its own row and those after it
 abbrev pub Ending : List Row → Type 0
 Ending [] = Unit {0}
-Ending (r ∷ rs) = Every (λ c. (1 ≤ c .rows) × (c .rows ≤ suc (length rs))) (r .cells) × Ending rs
+Ending (r ∷ rs) = All (λ c. (1 ≤ c .rows) × (c .rows ≤ suc (length rs))) (r .cells) × Ending rs

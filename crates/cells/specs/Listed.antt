@@ -7,7 +7,7 @@ use Rattle.lists.specs.Limits.{maxLines, maxDepth, maxCols}
 use Rattle.lists.specs.Lists.{over}
 use Rattle.records.specs.Kept.{noKept}
 use Rattle.records.specs.declared.Kept.{Kept}
-use Rattle.cells.specs.Cells.{Cell, Row, bodiesOf, resolved}
+use Rattle.cells.specs.Cells.{Cell, Row, rowsUnder}
 
 abbrev pub cellLine : Cell → ℕ
 cellLine c = c .line
@@ -40,8 +40,8 @@ pub record ListsRows (rs : List Row) (line₀ span₀ rows₀ row₀ end₀ line
   pub ends : end ≡ over (cellEnds 0 rs) end₀
 
 -- the resolved rows of the table whose line stands at the place `at`
-unfoldable pub heldRows : List Kept → ℕ → List Row
-heldRows ks at = resolved (bodiesOf (getD ks at noKept .depth) (at + 1) (drop (at + 1) ks))
+unfoldable pub tableRows : List Kept → ℕ → List Row
+tableRows ks at = rowsUnder (getD ks at noKept .depth) (at + 1) (drop (at + 1) ks)
 
 -- what listing the rows of the table at the place `at` takes: a line is at most one deeper than the line before it, a cell's cols are as they
 -- are written, and each lent slice has a place for each line from the table's on

@@ -8,7 +8,7 @@ ghost use Prim.Native.Nat.{_<_};
 ghost use Rattle.lists.specs.Limits.{maxLines};
 ghost use Rattle.records.specs.Kept.{keptsOf, noKept};
 ghost use Rattle.cells.specs.Cells.{rowSum, resolveCell, fillBody, taken};
-ghost use Rattle.cells.specs.Listed.{cellCols, heldRows, ListingReady, TableListed};
+ghost use Rattle.cells.specs.Listed.{cellCols, tableRows, ListingReady, TableListed};
 ghost use Rattle.cells.specs.Spans.{bare, rowsAt, Narrow, BodyHeld, LargestSum, WrittenBack, RowsHeld, CutBack, BodyDone};
 
 // How many cells and rows a table has.
@@ -157,7 +157,7 @@ pub fn list_rows(
     row_end: &mut [u32],
 ) -> Listed
     requires { ⌜ ListingReady (keptsOf (now lines)) at (now «cell_line») (now «cell_span») (now «cell_rows») (now «row_line») (now «row_end») ⌝ }
-    ensures { λ r. ⌜ TableListed (heldRows (keptsOf (now (lines .entry))) at)
+    ensures { λ r. ⌜ TableListed (tableRows (keptsOf (now (lines .entry))) at)
         (now («cell_line» .entry)) (now («cell_span» .entry)) (now («cell_rows» .entry)) (now («row_line» .entry)) (now («row_end» .entry))
         (now («cell_line» .exit)) (now («cell_span» .exit)) (now («cell_rows» .exit)) (now («row_line» .exit)) (now («row_end» .exit)) (r .cells) (r .rows) ⌝ }
 {

@@ -10,7 +10,7 @@ use lib.ListN.{length, getD, drop, set}
 use lib.Seq.{getD-set-same}
 use Rattle.lists.specs.Limits.{maxSize}
 use Rattle.text.specs.declared.Estimate.{Estimate}
-use Rattle.line.specs.Kinds.{tableKind, breakKind, linkKind, hasText, isLeaf}
+use Rattle.kinds.specs.Kinds.{tableKind, breakKind, linkKind, hasText, isLeaf}
 use Rattle.records.specs.Kept.{keptsOf, keptCount}
 use Rattle.records.specs.declared.Kept.{Kept}
 use Rattle.records.proofs.Kepts.{length-kepts}

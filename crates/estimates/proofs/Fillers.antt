@@ -85,11 +85,6 @@ every-unfilled P (e ∷ es) h = go (e .filler) refl (every-unfilled P es (λ k l
 
 -- what holds of every place
 
-pub every-both : (P Q R : ℕ → Type 0) (ps : List ℕ) → All P ps → All Q ps → ((q : ℕ) → P q → Q q → R q) → All R ps
-unfolding All
-every-both P Q R [] a b h = tt
-every-both P Q R (q ∷ ps) a b h = (h q (a .0) (b .0), every-both P Q R ps (a .1) (b .1) h)
-
 pub map-places : {A : Type 0} (P : ℕ → Type 0) (f g : ℕ → A) (ps : List ℕ) → All P ps → ((q : ℕ) → P q → f q ≡ g q) → map f ps ≡ map g ps
 unfolding All
 map-places P f g [] e h = refl

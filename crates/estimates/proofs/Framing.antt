@@ -11,9 +11,10 @@ use native.Mathlib.Decide.{decLt, ℕ-discrete}
 use lib.ListN.{length, getD, set, List·getD-map}
 use Rattle.lists.specs.Lists.{All}
 use Rattle.lists.specs.Limits.{maxPosition}
+use Rattle.lists.proofs.All.{all-both}
 use Rattle.text.specs.declared.Estimate.{Estimate}
 use Rattle.columns.specs.Boxes.{Box, box}
-use Rattle.line.specs.Kinds.{tableKind, cellKind}
+use Rattle.kinds.specs.Kinds.{tableKind, cellKind}
 use Rattle.records.specs.Kept.{keptsOf, placesOf, noPlace}
 use Rattle.records.specs.declared.Kept.{Kept}
 use Rattle.records.specs.declared.Place.{Place}
@@ -29,7 +30,7 @@ use Rattle.estimates.specs.declared.Part.{Part}
 use Rattle.estimates.proofs.Laws.{cells-stop, cells-skip, cells-cell, cells-in}
 use Rattle.estimates.proofs.ByKind.{body-est, row-est, table-est, holder-est, cell-plain}
 use Rattle.estimates.proofs.Frames.{Steps}
-use Rattle.estimates.proofs.Fillers.{every-both, map-places}
+use Rattle.estimates.proofs.Fillers.{map-places}
 use Rattle.estimates.proofs.Gridded.{cells-fit, table-by-cells}
 use Rattle.estimates.proofs.Nesting.{Framed, framed}
 use Rattle.estimates.proofs.Weighing.{weight-more, fits}
@@ -186,9 +187,9 @@ module _ {wrap : ℕ} {ls : List Kept} {gs : List Place} {b : List Estimate} {at
       deeper = l .passed .deeper;
       ends = ends;
       fit =
-          every-both _ (λ (q : ℕ). (at + 1 ≤ q) × (q < i)) (Fits gs c (getD gs at noPlace .span)) (cellsFrom ls (lineAt ls at .depth) (at + 1))
-          (rw (sym (add-one at)) at (cells-fit ls gs steps kept grids at a t)) cells-range
-          (λ q x p. record { some = x .0; ends = x .1; sound = rw (l .passed .done q (p .0) (p .1)) (l .passed .sound q (p .0) (p .1) .least-size) });
+          all-both _ (λ (q : ℕ). (at + 1 ≤ q) × (q < i)) (Fits gs c (getD gs at noPlace .span))
+          (λ q x p. record { some = x .0; ends = x .1; sound = rw (l .passed .done q (p .0) (p .1)) (l .passed .sound q (p .0) (p .1) .least-size) })
+          (cellsFrom ls (lineAt ls at .depth) (at + 1)) (rw (sym (add-one at)) at (cells-fit ls gs steps kept grids at a t)) cells-range;
       room = rw same-boxes (omega (arith, fits w (at + 1) i (spreadCells (boxesFrom wrap ls gs (lineAt ls at .depth) (at + 1))) (l .passed .within) bounded));
     }
 

@@ -12,7 +12,7 @@ use Rattle.edges.specs.Edges.{countBelow, endsFrom}
 use Rattle.cells.specs.Cells.{frame, rowSum, widest, resolveRow, fillBody, cutRow, cutBody, resolveBody, resolved}
 use Rattle.rows.specs.Row.{fillers, later, rowFrom, hangOf, nexts}
 use Rattle.positions.specs.Positions.{originals}
-use Rattle.grid.specs.Grid.{endsOf, entriesFrom, longest, gridOf, columnsOf, tableRows}
+use Rattle.grid.specs.Grid.{endsOf, entriesFrom, longest, gridOf, columnsOf}
 use Rattle.estimates.specs.Estimates.{estimate, estimates, measured, estimateOf, leafOf, holderOf, gather, prefixOf, boxOf, tabled}
 
 abbrev ln : (depth kind number cols rows own : ℕ) → Kept
@@ -50,7 +50,7 @@ pub record Traced : Type 0 where
       ≡ estimate 1 1 0 ∷ estimate 0 0 0 ∷ estimate 0 0 0 ∷ estimate 1 1 0 ∷ estimate 1 1 0 ∷ estimate 0 0 0 ∷ estimate 0 0 0 ∷ estimate 0 0 0 ∷ []
 
 traced : Traced
-unfolding measured estimateOf leafOf holderOf gather prefixOf boxOf tabled sum upTo sumAt largestAt flat gridOf columnsOf longest originals entriesFrom endsOf endsFrom countBelow mem rowFrom fillers later nexts hangOf tableRows frame rowSum widest resolveRow resolveBody fillBody cutBody cutRow resolved olPrefix writing lastNumber digits digitsIn
+unfolding measured estimateOf leafOf holderOf gather prefixOf boxOf tabled sum upTo sumAt largestAt flat gridOf columnsOf longest originals entriesFrom endsOf endsFrom countBelow mem rowFrom fillers later nexts hangOf frame rowSum widest resolveRow resolveBody fillBody cutBody cutRow resolved olPrefix writing lastNumber digits digitsIn
 traced =
     record {
       traced = refl;

@@ -8,7 +8,7 @@ use lib.ListN.{length, getD}
 use Rattle.lists.specs.Lists.{sum}
 use Rattle.lists.specs.Limits.{maxLines, maxDepth}
 use Rattle.text.specs.Decimal.{shift}
-use Rattle.line.specs.Kinds.{headKind, olKind, isFrame, mayHold}
+use Rattle.kinds.specs.Kinds.{headKind, olKind, isFrame, mayHold}
 use Rattle.records.specs.Parents.{Parent}
 use Rattle.records.specs.Kept.{noKept}
 use Rattle.records.specs.declared.Kept.{Kept}

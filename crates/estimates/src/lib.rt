@@ -1,19 +1,18 @@
 // The estimates of a sheet's lines: node, table and cell in a cycle of calls. A line is a record of six numbers, its place in a grid one of
 // two, and its estimate one of three.
-pub mod kinds;
 pub mod packed;
 pub mod single;
 pub mod spread;
 
 ghost use mathlib.Core.Path.{_≡_};
 ghost use Prim.Native.Nat.{_<_};
-ghost use Rattle.line.specs.Kinds.{tableKind};
+ghost use Rattle.kinds.specs.Kinds.{tableKind};
 ghost use Rattle.records.specs.Kept.{keptsOf, keptCount, placesOf};
 ghost use Rattle.estimates.specs.Sheet.{lineAt};
 ghost use Rattle.estimates.specs.Meets.{Lent, Measured};
 ghost use Rattle.estimates.specs.inner.Figures.{figuresOf};
 ghost use Rattle.estimates.specs.inner.Cycle.{NodeReady, Plain, Holder, FilledAt, NodeMeets, CellMeets, TableMeets};
-use line::kinds::is_leaf;
+use kinds::is_leaf;
 
 // What the lines below a line come to: the line after them, size and least width, and how many children there are.
 pub struct Part {

@@ -14,7 +14,7 @@ use Rattle.records.proofs.Records.{length-of, of-take}
 use Rattle.columns.specs.Columns.{upTo}
 use Rattle.columns.proofs.Upto.{length-upTo}
 use Rattle.cells.specs.Cells as cells
-use Rattle.cells.specs.Listed.{heldRows}
+use Rattle.cells.specs.Listed.{tableRows}
 use Rattle.grid.specs.Grid as grids
 use Rattle.grid.specs.Grid.{gridOf, columnsOf}
 use Rattle.grid.proofs.GridFacts.{grid-entries, grid-columns, grid-rows}
@@ -27,7 +27,7 @@ use Rattle.table.proofs.Grids.{same-records, made-front}
 use Rattle.table.proofs.Steps as steps
 use Rattle.causes.specs.inner.Telling.{Tellable}
 use Rattle.listing.specs.Listing.{Listable}
-use Rattle.listing.specs.inner.Rooms.{TableAt}
+use Rattle.listing.specs.inner.Read.{TableAt}
 use Rattle.explaining.specs.inner.Tables.{TableWhole, ColumnRooms, GridRooms, SameRooms}
 
 -- as many places as are asked for, to lay the columns out in; what stands in them does not matter
@@ -36,7 +36,7 @@ places n = upTo n (λ (j : ℕ). 0)
 
 module _ {ks : List Kept} {figures : List Estimate} {width at : ℕ} (l : Listable ks figures width) (t : TableAt ks at) where
   abbrev table : List cells.Row
-  table = heldRows ks at
+  table = tableRows ks at
 
   pub table-ready : {grid rows : List ℕ} → GridRooms grid rows → TableReady ks at (entriesOf grid) (rowsOf rows)
   table-ready {grid} {rows} r = record {

@@ -1,12 +1,16 @@
 // What is told of each table of a measured sheet.
 ghost use Prim.Native.Nat.{_≤_};
+ghost use lib.ListN.{length};
 ghost use Rattle.records.specs.Kept.{keptsOf, entriesOf};
 ghost use Rattle.estimates.specs.inner.Figures.{figuresOf};
-ghost use Rattle.listing.specs.Listing.{Place, Listable};
-ghost use Rattle.listing.specs.inner.Rooms.{TableAt};
+ghost use Rattle.writing.specs.Writing.{Place};
+ghost use Rattle.listing.specs.Listing.{Listable};
+ghost use Rattle.listing.specs.inner.Read.{TableAt, WalkNarrow};
 ghost use Rattle.explaining.specs.inner.Tables.{TableWhole, ColumnRooms, GridRooms};
-use line::kinds::TABLE;
+use kinds::TABLE;
+use listing::layouts::given_at;
 use lists::MAX_POSITION;
+use passing::Width;
 use reasons::told;
 use settings::Given;
 
@@ -173,18 +177,54 @@ fn table(
     )
 }
 
-// Puts what is told of every table of a sheet, in the order of their lines.
+// Puts what is told of the table at a place, at the width that the walk gives it; if it gives none, nothing.
+fn walked_table(
+    out: &mut [u8],
+    at: usize,
+    place: usize,
+    given: Given,
+    lines: &[u32],
+    figures: &[u32],
+    walk: &[u32],
+    grid: &mut [u32],
+    rows: &mut [u32],
+) -> usize
+    requires { ⌜ Place (now out) at ⌝ }
+    requires { ⌜ TableAt (keptsOf (now lines)) place ⌝ }
+    requires { ⌜ Listable (keptsOf (now lines)) (figuresOf (now figures)) (given .width) ⌝ }
+    requires { ⌜ WalkNarrow (length (keptsOf (now lines))) (now walk) ⌝ }
+    requires { ⌜ GridRooms (now grid) (now rows) ⌝ }
+    ensures { λ r. ⌜ Place (now (out .exit)) r ⌝ }
+{
+    let Width::Wide(v) = passing::width_of(records::place_at(walk, place)) else {
+        return at;
+    };
+    table(
+        out,
+        at,
+        place,
+        given_at(given, v),
+        lines,
+        figures,
+        grid,
+        rows,
+    )
+}
+
+// Puts what is told of every table of a sheet that has a width, in the order of their lines.
 pub fn all_tables(
     out: &mut [u8],
     at: usize,
     given: Given,
     lines: &[u32],
     figures: &[u32],
+    walk: &[u32],
     grid: &mut [u32],
     rows: &mut [u32],
 ) -> usize
     requires { ⌜ Place (now out) at ⌝ }
     requires { ⌜ Listable (keptsOf (now lines)) (figuresOf (now figures)) (given .width) ⌝ }
+    requires { ⌜ WalkNarrow (length (keptsOf (now lines))) (now walk) ⌝ }
     requires { ⌜ GridRooms (now grid) (now rows) ⌝ }
     ensures { λ r. ⌜ Place (now (out .exit)) r ⌝ }
 {
@@ -194,7 +234,7 @@ pub fn all_tables(
     while i < n {
         let here = records::kept_at(lines, i);
         if here.kind == TABLE {
-            next = table(out, next, i, given, lines, figures, grid, rows);
+            next = walked_table(out, next, i, given, lines, figures, walk, grid, rows);
             i += 1;
         } else {
             i += 1;

@@ -3,11 +3,13 @@
 mod each; // each.rt: each table of a sheet
 
 ghost use Prim.Native.Nat.{_≤_};
+ghost use lib.ListN.{length};
 ghost use Rattle.lists.specs.Limits.{maxSize};
 ghost use Rattle.records.specs.Kept.{keptsOf};
 ghost use Rattle.estimates.specs.inner.Figures.{figuresOf};
-ghost use Rattle.listing.specs.Listing.{Place, Listable};
-ghost use Rattle.listing.specs.inner.Rooms.{ReadListable};
+ghost use Rattle.writing.specs.Writing.{Place};
+ghost use Rattle.listing.specs.Listing.{Listable};
+ghost use Rattle.listing.specs.inner.Read.{WalkNarrow, ReadListable};
 use lists::MAX_ENTRIES;
 use lists::MAX_LINES;
 use lists::MAX_POSITION;
@@ -15,18 +17,26 @@ use settings::Given;
 use settings::Settled;
 use sheet::Reading;
 
-// Puts what is told of every table of a measured sheet. All grids are made in the same arrays.
-fn all_told(out: &mut [u8], at: usize, given: Given, kept: &[u32], figures: &[u32]) -> usize
+// Puts what is told of every table of a walked sheet. All grids are made in the same arrays.
+fn all_told(
+    out: &mut [u8],
+    at: usize,
+    given: Given,
+    kept: &[u32],
+    figures: &[u32],
+    walk: &[u32],
+) -> usize
     requires { ⌜ Place (now out) at ⌝ }
     requires { ⌜ Listable (keptsOf (now kept)) (figuresOf (now figures)) (given .width) ⌝ }
+    requires { ⌜ WalkNarrow (length (keptsOf (now kept))) (now walk) ⌝ }
     ensures { λ r. ⌜ Place (now (out .exit)) r ⌝ }
 {
     let mut grid = [0u32; 3 * MAX_ENTRIES];
     let mut rows = [0u32; 2 * MAX_LINES];
-    each::all_tables(out, at, given, kept, figures, &mut grid, &mut rows)
+    each::all_tables(out, at, given, kept, figures, walk, &mut grid, &mut rows)
 }
 
-// Puts what is told of a sheet that was measured, whose lines are the first records, or why it is refused.
+// Puts what is told of a sheet that was walked, whose lines are the first records, or why it is refused.
 fn told(
     out: &mut [u8],
     at: usize,
@@ -34,41 +44,46 @@ fn told(
     read: Reading,
     kept: &[u32],
     figures: &[u32],
+    walk: &[u32],
 ) -> usize
     requires { ⌜ Place (now out) at ⌝ }
-    requires { ⌜ ReadListable read (now kept) (figuresOf (now figures)) (given .width) ⌝ }
+    requires { ⌜ ReadListable read (now kept) (figuresOf (now figures)) (given .width) (now walk) ⌝ }
     ensures { λ r. ⌜ Place (now (out .exit)) r ⌝ }
 {
     match read {
-        Reading::Refused { number, line } => listing::refusal(out, at, number, line),
+        Reading::Refused { number, line } => writing::refusal(out, at, number, line),
         Reading::Lines(n) => {
             let end = records::WIDTH * n;
-            all_told(out, at, given, &kept[..end], figures)
+            all_told(out, at, given, &kept[..end], figures, walk)
         }
     }
 }
 
-// Puts what is told of a sheet at its settings. The sheet is read and measured once, however many tables it has.
+// Puts what is told of a sheet, of each table at the width that the walk gives it. The sheet is read, measured and walked once, however many tables
+// it has; no width overflows.
 fn opened(out: &mut [u8], at: usize, sheet: &[u8], given: Given) -> usize
     requires { ⌜ Place (now out) at ⌝ }
-    requires { ⌜ given .width ≤ maxSize ⌝ }
+    requires { ⌜ (given .raw ≤ 1) × (given .width ≤ maxSize) ⌝ }
     ensures { λ r. ⌜ Place (now (out .exit)) r ⌝ }
 {
     let mut kept = [0u32; 6 * MAX_LINES];
-    let mut places = [0u32; 2 * MAX_LINES];
     let mut figures = [0u32; 3 * MAX_LINES];
+    let mut walk = [0u32; 2 * MAX_LINES];
     let mut leasts = [0u32; MAX_POSITION];
-    let read = opening::measuring::measure_sheet(
+    let read = pacing::walk_sheet(
         sheet,
         false,
         0,
         given.wrap,
+        given.raw,
+        given.width,
+        0,
         &mut kept,
-        &mut places,
         &mut figures,
+        &mut walk,
         &mut leasts,
     );
-    told(out, at, given, read, &kept, &figures)
+    told(out, at, given, read, &kept, &figures, &walk)
 }
 
 // Puts what `explain` prints of an input, settings and sheet, at a place of the buffer, and answers the place after it. What no longer fits the
@@ -79,7 +94,7 @@ pub fn answer(out: &mut [u8], at: usize, input: &[u8]) -> usize
 {
     let settled = settings::settings(input);
     let Settled::Set(given) = settled else {
-        return listing::verdict(out, at, settings::verdict_of(settled));
+        return writing::verdict(out, at, settings::verdict_of(settled));
     };
     let from = given.sheet;
     opened(out, at, &input[from..], given)

@@ -6,7 +6,7 @@ use Prim.Native.Nat.{ℕ, _+_, _-_, _*_, _≤_}
 use native.Mathlib.Omega.{arith}
 use lib.ListN.{length, take}
 use Rattle.lists.specs.Limits.{maxEntries, maxPosition}
-use Rattle.lists.specs.Refusals.{Check, first, passes}
+use Rattle.lists.specs.Refusals.{Check, firstAnswer, passes}
 use Rattle.text.specs.declared.Estimate.{Estimate}
 use Rattle.records.specs.Kept.{keptCount, keptsOf}
 use Rattle.records.specs.declared.Kept.{Kept}

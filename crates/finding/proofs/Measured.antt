@@ -7,7 +7,7 @@ use native.Mathlib.Omega.{arith}
 use lib.ListN.{length, take, length-map}
 use Rattle.lists.specs.Lists.{over}
 use Rattle.lists.specs.Limits.{maxLines}
-use Rattle.lists.specs.Refusals.{first, ifPasses}
+use Rattle.lists.specs.Refusals.{firstAnswer, ifPasses}
 use Rattle.text.specs.declared.Estimate.{Estimate}
 use Rattle.records.specs.Records.{numbersOf}
 use Rattle.sheet.specs.Sheet.{sheetLines}

@@ -5,7 +5,7 @@ use mathlib.Core.List.{List, [], append-nil}
 use Prim.Native.Nat.{ℕ, _-_, _*_, _≤_, _<_}
 use native.Mathlib.Omega.{arith}
 use lib.ListN.{length, take}
-use Rattle.lists.specs.Refusals.{first, passes}
+use Rattle.lists.specs.Refusals.{firstAnswer, passes}
 use Rattle.records.specs.Kept.{keptCount, keptsOf}
 use Rattle.records.proofs.Kepts.{kepts-take}
 use Rattle.sheet.specs.Sheet.{sheetLines}
@@ -39,11 +39,11 @@ module _ (asks : Bool) (s : List ℕ) (line : ℕ) where
 
   -- and every call that asks the same refuses it so
   pub told : {A : Type 0} (refused : ℕ → ℕ → A) (accepted : A) (number l : ℕ) → openedOf asks s line ≡ Refused number l
-      → first refused accepted (openChecks asks s line) ≡ refused number l
+      → firstAnswer refused accepted (openChecks asks s line) ≡ refused number l
   unfolding openedOf
   told refused accepted number l e =
       let cs = openChecks asks s line in
-      ap (first refused accepted) (sym (append-nil cs))
+      ap (firstAnswer refused accepted) (sym (append-nil cs))
       ∙ first-carries Refused (Lines (length (sheetLines s))) refused accepted number l (λ n m f. (cc, cc)) (λ f. let z : _≡_ {A = ℕ} 0 1 = cc in omega arith) cs [] e
 
   -- there are no more lines than there is room for

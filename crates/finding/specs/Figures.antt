@@ -7,7 +7,7 @@ use Rattle.columns.specs.Boxes.{Box, flat}
 use Rattle.columns.specs.Columns as columns
 use Rattle.columns.specs.Columns.{largest}
 use Rattle.cells.specs.Cells as cells
-use Rattle.cells.specs.Listed.{heldRows}
+use Rattle.cells.specs.Listed.{tableRows}
 use Rattle.grid.specs.Grid.{GridRow, gridOf, columnsOf}
 use Rattle.estimates.specs.Estimates.{measured, boxRows}
 use Rattle.widths.specs.Widths.{wayOf, finalWidths, tableWidth}
@@ -34,7 +34,7 @@ widthOf p = p .width
 
 -- the resolved rows of the table in a line of the sheet
 abbrev pub tableAt : List ℕ → ℕ → List cells.Row
-tableAt s line = heldRows (keptLines s) (line - 1)
+tableAt s line = tableRows (keptLines s) (line - 1)
 
 -- its grid, and its columns
 abbrev pub rowsAt : List ℕ → ℕ → List GridRow

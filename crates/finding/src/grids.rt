@@ -9,18 +9,18 @@ ghost use Rattle.opening.specs.Opening.{openChecks};
 ghost use Rattle.table.specs.inner.Fitting.{GridRoom};
 ghost use Rattle.finding.specs.inner.Found.{GridFound};
 ghost use Rattle.finding.specs.inner.Made.{AskedIn, shapeOf, GridRead};
-use crate::Shape;
+use crate::Gridded;
 use gridding::Counts;
 use lists::MAX_LINES;
 use lists::SMALL_LINES;
 use sheet::Reading;
 
 // A grid's counts in the words of this crate.
-fn shape(counts: Counts) -> Shape
+fn shape(counts: Counts) -> Gridded
     requires { ⌜ (counts .entries ≤ maxEntries) × (counts .rows ≤ maxLines) × (counts .columns ≤ maxPosition) ⌝ }
     ensures { λ r. ⌜ r ≡ shapeOf counts ⌝ }
 {
-    Shape::Grid {
+    Gridded::Grid {
         rows: counts.rows as u32,
         entries: counts.entries as u32,
         columns: counts.columns as u32,
@@ -37,14 +37,14 @@ fn grid_of(
     span: &mut [u32],
     row: &mut [u32],
     row_end: &mut [u32],
-) -> Shape
+) -> Gridded
     requires { ⌜ AskedIn read (now lines) line ⌝ }
     requires { ⌜ GridRoom (now cell) (now first) (now span) (now row) (now «row_end») ⌝ }
     ensures { λ r. ⌜ GridRead read (now (lines .entry)) line r
         (now (cell .exit)) (now (first .exit)) (now (span .exit)) (now (row .exit)) (now («row_end» .exit)) ⌝ }
 {
     match read {
-        Reading::Refused { number, line: at } => Shape::Refused { number, line: at },
+        Reading::Refused { number, line: at } => Gridded::Refused { number, line: at },
         Reading::Lines(n) => {
             let end = records::WIDTH * n;
             let counts = table::fitting::grids::grid(
@@ -70,7 +70,7 @@ pub fn grid_small(
     span: &mut [u32],
     row: &mut [u32],
     row_end: &mut [u32],
-) -> Shape
+) -> Gridded
     requires { ⌜ roomFor (now sheet) ≤ smallLines ⌝ }
     requires { ⌜ GridRoom (now cell) (now first) (now span) (now row) (now «row_end») ⌝ }
     ensures { λ r. ⌜ GridFound (openChecks true (now (sheet .entry)) line) (now (sheet .entry)) line r
@@ -91,7 +91,7 @@ pub fn grid_large(
     span: &mut [u32],
     row: &mut [u32],
     row_end: &mut [u32],
-) -> Shape
+) -> Gridded
     requires { ⌜ GridRoom (now cell) (now first) (now span) (now row) (now «row_end») ⌝ }
     ensures { λ r. ⌜ GridFound (openChecks true (now (sheet .entry)) line) (now (sheet .entry)) line r
         (now (cell .exit)) (now (first .exit)) (now (span .exit)) (now (row .exit)) (now («row_end» .exit)) ⌝ }

@@ -34,7 +34,7 @@ fn told(a: table::Arrangement) -> Arranged
 }
 
 // The layout of the table in a line of a measured sheet, or the refusal. The sheet's lines are the first records.
-fn layout_of(
+pub fn layout_of(
     read: Reading,
     line: u32,
     lines: &[u32],

@@ -18,7 +18,7 @@ use sheet::Reading;
 use widths::Way;
 
 // A table's grid: how many rows, entries and columns it has; or the refusal.
-pub enum Shape {
+pub enum Gridded {
     Grid {
         rows: u32,
         entries: u32,
@@ -80,7 +80,7 @@ pub fn grid(
     span: &mut [u32],
     row: &mut [u32],
     row_end: &mut [u32],
-) -> Shape
+) -> Gridded
     requires { ⌜ GridRoom (now cell) (now first) (now span) (now row) (now «row_end») ⌝ }
     ensures { λ r. ⌜ GridFound (openChecks true (now (sheet .entry)) line) (now (sheet .entry)) line r
         (now (cell .exit)) (now (first .exit)) (now (span .exit)) (now (row .exit)) (now («row_end» .exit)) ⌝ }

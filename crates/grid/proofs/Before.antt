@@ -7,19 +7,20 @@ use Prim.Native.Nat.{ℕ, suc}
 use lib.Dec.{eqb, ltb}
 use borrow.Author.Tests.{eqb-true}
 use Rattle.lists.specs.Limits.{maxEntries}
-use Rattle.lists.specs.Refusals.{Check, check, first, verdictOf}
+use Rattle.lists.specs.Refusals.{Check, check, firstAnswer, verdictOf}
 use Rattle.lists.specs.declared.Verdict.{Verdict}
 use Rattle.lists.specs.declared.Verdict.the-variants.{Accepted, Refused}
-use Rattle.line.specs.Kinds.{tableKind}
+use Rattle.lists.specs.Lists.{All}
+use Rattle.kinds.specs.Kinds.{tableKind}
 use Rattle.records.specs.declared.Kept.{Kept}
 use Rattle.edges.specs.Edges.{allAt}
 use Rattle.cells.specs.Cells.{bodiesOf, fillBody, resolved}
 use Rattle.cells.specs.Cells as cells
-use Rattle.cells.specs.Facts.{Every, Ending}
+use Rattle.cells.specs.Facts.{Ending}
 use Rattle.cells.proofs.Facts.{filledRows}
 use Rattle.positions.specs.Positions.{Row, hangBelow, allRows, endsPast, entryCount}
 use Rattle.positions.proofs.Bodies.{table-none, rows-same}
-use Rattle.grid.specs.Grid.{GridRow, isColumnEdge, endsOf, gridRow, longest, gridOf, columnsOf, tableChecks, tableRows, tablesChecks}
+use Rattle.grid.specs.Grid.{GridRow, isColumnEdge, endsOf, gridRow, longest, gridOf, columnsOf, tableChecks, tablesChecks}
 use Rattle.grid.specs.Before.{resolvedBefore, extrasIn, extras, extraRows, gridBefore, columnsBefore, checksBefore, tablesBefore, AllEnding}
 
 extras-none : extras [] ≡ []
@@ -37,7 +38,7 @@ filled-are (b ∷ bs) = ap (λ (rs : List cells.Row). fillBody b ++ rs) (filled-
 
 -- ---- one table
 
-module _ (bs : List (List cells.Row)) (e : Every Ending bs) where
+module _ (bs : List (List cells.Row)) (e : All Ending bs) where
   rows-before : allRows (resolvedBefore bs) ≡ allRows (resolved bs)
   rows-before = ap (λ (t : List cells.Row). allRows t) (filled-are bs) ∙ sym (rows-same bs e .0)
 
@@ -55,21 +56,21 @@ module _ (bs : List (List cells.Row)) (e : Every Ending bs) where
   columns-same = ap (λ (rs : List Row). longest rs rs) rows-before
 
   pub checks-same : (t : ℕ) (rest : List Check) → verdictOf (checksBefore t (resolvedBefore bs) ++ rest) ≡ verdictOf (tableChecks t (resolved bs) ++ rest)
-  unfolding verdictOf first checksBefore tableChecks endsOf allAt
+  unfolding verdictOf firstAnswer checksBefore tableChecks endsOf allAt
   checks-same t rest =
-      ap₂ (λ (rs qs : List Row). first Refused Accepted
+      ap₂ (λ (rs qs : List Row). firstAnswer Refused Accepted
       (check (endsPast rs) 5 t ∷ check (ltb maxEntries (entryCount (rs ++ qs))) 6 t ∷ check (not (allAt (isColumnEdge rs) (endsOf qs))) 7 t ∷ rest)) rows-before none-before
-      ∙ ap (λ (rs : List Row). first Refused Accepted (check (endsPast (allRows (resolved bs))) 5 t ∷ check (ltb maxEntries (entryCount rs)) 6 t ∷ rest)) (append-nil (allRows (resolved bs)))
+      ∙ ap (λ (rs : List Row). firstAnswer Refused Accepted (check (endsPast (allRows (resolved bs))) 5 t ∷ check (ltb maxEntries (entryCount rs)) 6 t ∷ rest)) (append-nil (allRows (resolved bs)))
 
 -- ---- every table of a sheet
 
 then-rest : (cs xs ys : List Check) → verdictOf xs ≡ verdictOf ys → verdictOf (cs ++ xs) ≡ verdictOf (cs ++ ys)
-unfolding verdictOf first
+unfolding verdictOf firstAnswer
 then-rest [] xs ys e = e
 then-rest (c ∷ cs) xs ys e = ap (cond (c .applies) (Refused (c .number) (c .line))) (then-rest cs xs ys e)
 
 pub tables-same : (t : ℕ) (ls : List Kept) → AllEnding t ls → verdictOf (tablesBefore t ls) ≡ verdictOf (tablesChecks t ls)
-unfolding tablesBefore tablesChecks tableRows
+unfolding tablesBefore tablesChecks
 tables-same t [] a = refl
 tables-same t (l ∷ ls) a = go (tables-same (suc t) ls (a .1)) (eqb (l .kind) tableKind) refl
   where

@@ -12,7 +12,7 @@ use lib.Seq.{length-take-le}
 use Rattle.records.specs.Kept.{noKept}
 use Rattle.records.specs.declared.Kept.{Kept}
 use Rattle.cells.specs.Cells.{Row}
-use Rattle.cells.specs.Listed.{cellLine, cellCols, cellRows, allCells, cellEnds, heldRows, ListingReady, TableListed}
+use Rattle.cells.specs.Listed.{cellLine, cellCols, cellRows, allCells, cellEnds, tableRows, ListingReady, TableListed}
 use Rattle.cells.proofs.Rows.{length-ends}
 use Rattle.cells.proofs.Facts.{rows-few}
 use Rattle.positions.specs.inner.Slices.{tableOf, Rising}
@@ -78,8 +78,8 @@ module _ {rs : List Row} {line₀ span₀ rows₀ row₀ end₀ line span rows r
 
 -- ---- how many
 
-pub held-few : (ks : List Kept) (at : ℕ) → length (heldRows ks at) + length (allCells (heldRows ks at)) ≤ length ks - at
-unfolding heldRows
+pub held-few : (ks : List Kept) (at : ℕ) → length (tableRows ks at) + length (allCells (tableRows ks at)) ≤ length ks - at
+unfolding tableRows
 held-few ks at = omega (arith, rows-few (getD ks at noKept .depth) (at + 1) (drop (at + 1) ks), length-drop (at + 1) ks)
 
 -- the table at a place can be listed

@@ -8,12 +8,13 @@ use lib.Dec.{ltb, eqb}
 use lib.ListN.{length}
 use Rattle.lists.specs.Limits.{maxEntries}
 use Rattle.lists.specs.Refusals.{Check, check}
-use Rattle.line.specs.Kinds.{tableKind}
+use Rattle.lists.specs.Lists.{All}
+use Rattle.kinds.specs.Kinds.{tableKind}
 use Rattle.records.specs.declared.Kept.{Kept}
 use Rattle.edges.specs.Edges.{allAt}
 use Rattle.cells.specs.Cells.{bodiesOf, fillBody}
 use Rattle.cells.specs.Cells as cells
-use Rattle.cells.specs.Facts.{Every, Ending}
+use Rattle.cells.specs.Facts.{Ending}
 use Rattle.rows.specs.Row.{Item, item, nexts}
 use Rattle.positions.specs.Positions.{Row, row, originals, hangBelow, endsPast, entryCount}
 use Rattle.grid.specs.Grid.{GridRow, isColumnEdge, endsOf, gridRow, longest}
@@ -74,4 +75,4 @@ tablesBefore t (l ∷ ls) =
 -- no table has a cell with rows 0 or a span that leaves its body
 abbrev pub AllEnding : ℕ → List Kept → Type 0
 AllEnding t [] = Unit {0}
-AllEnding t (l ∷ ls) = (l .kind ≡ tableKind → Every Ending (bodiesOf (l .depth) t ls)) × AllEnding (suc t) ls
+AllEnding t (l ∷ ls) = (l .kind ≡ tableKind → All Ending (bodiesOf (l .depth) t ls)) × AllEnding (suc t) ls

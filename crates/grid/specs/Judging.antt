@@ -3,7 +3,7 @@ use mathlib.Core.List.{List}
 use Prim.Native.Nat.{ℕ, _+_, _≤_, _<_}
 use lib.ListN.{length, getD}
 use Rattle.lists.specs.Limits.{maxLines, maxDepth, maxCols}
-use Rattle.lists.specs.Refusals.{first}
+use Rattle.lists.specs.Refusals.{firstAnswer}
 use Rattle.records.specs.Kept.{noKept}
 use Rattle.records.specs.declared.Kept.{Kept}
 use Rattle.records.specs.declared.Entry as packed
@@ -16,7 +16,7 @@ use Rattle.grid.specs.Grid.{Entry, shownLine, columnsOf, tableChecks}
 -- the grid's counts of rows, entries and columns; or the first of the refusals 5 and 6 that applies
 unfoldable pub judgedOf : List cells.Row → Judged
 judgedOf table =
-    first (λ number line. Refused number) (Grid (length (allRows table)) (entryCount (allRows table)) (columnsOf table)) (tableChecks 0 table)
+    firstAnswer (λ number line. Refused number) (Grid (length (allRows table)) (entryCount (allRows table)) (columnsOf table)) (tableChecks 0 table)
 
 -- an entry as a record, as a listing shows it: line 0 for a filler
 abbrev pub shown : Entry → packed.Entry

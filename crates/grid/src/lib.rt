@@ -8,7 +8,7 @@ ghost use lib.ListN.{length};
 ghost use Rattle.edges.specs.Edges.{isEdge, rowsFrom, RowsFit};
 ghost use Rattle.edges.specs.Lookup.{Counted};
 ghost use Rattle.records.specs.Kept.{keptsOf, entriesOf};
-ghost use Rattle.cells.specs.Listed.{heldRows};
+ghost use Rattle.cells.specs.Listed.{tableRows};
 ghost use Rattle.positions.specs.inner.Slices.{Enough};
 ghost use Rattle.grid.specs.inner.Numbering.{RowsNumbered};
 ghost use Rattle.grid.specs.Judging.{Lined};
@@ -134,8 +134,8 @@ pub fn place_table(
     requires { ⌜ at < length (keptsOf (now lines)) ⌝ }
     requires { ⌜ Lined (keptsOf (now lines)) ⌝ }
     requires { ⌜ Room (length (keptsOf (now lines)) - at) room (now wide) (now line) (now «cell_line») (now «cell_span») (now «cell_rows») (now «cell_end») (now «row_line») (now «row_end») ⌝ }
-    requires { ⌜ Enough room (heldRows (keptsOf (now lines)) at) ⌝ }
-    ensures { λ r. ⌜ TablePlaced (heldRows (keptsOf (now (lines .entry))) at) r (now (wide .exit)) (now (line .exit)) (now («row_line» .exit)) (now («row_end» .exit)) ⌝ }
+    requires { ⌜ Enough room (tableRows (keptsOf (now lines)) at) ⌝ }
+    ensures { λ r. ⌜ TablePlaced (tableRows (keptsOf (now (lines .entry))) at) r (now (wide .exit)) (now (line .exit)) (now («row_line» .exit)) (now («row_end» .exit)) ⌝ }
 {
     let listed = cells::list_rows(
         lines,

@@ -19,7 +19,7 @@ use Rattle.records.specs.declared.Entry.{Entry}
 use Rattle.records.specs.declared.Row.{Row}
 use Rattle.cells.specs.Cells as cells
 use Rattle.cells.specs.Cells.{Frame, noFrame, openBody, openRow, openCell, frame, resolved}
-use Rattle.cells.specs.Listed.{heldRows}
+use Rattle.cells.specs.Listed.{tableRows}
 use Rattle.cells.proofs.Lines.{inside}
 use Rattle.positions.specs.inner.Slices.{Enough}
 use Rattle.grid.specs.Judging.{Lined}
@@ -50,8 +50,8 @@ drop-take (suc n) (suc m) [] = let e : suc m - suc n ≡ m - n = omega arith in 
 drop-take (suc n) (suc m) (l ∷ ls) = let e : suc m - suc n ≡ m - n = omega arith in rw e (drop-take n m ls)
 
 module _ (ks : List Kept) (at end : ℕ) (h : at < end) (s : getD ks end noKept .depth ≤ getD ks at noKept .depth) where
-  held-take : heldRows (take end ks) at ≡ heldRows ks at
-  unfolding heldRows
+  held-take : tableRows (take end ks) at ≡ tableRows ks at
+  unfolding tableRows
   held-take =
       let d = getD ks at noKept .depth in
       let n = end - (at + 1) in
@@ -77,7 +77,7 @@ lined-take {ks} n h z = record {
     each P k p q (no g) = subst P (sym (List·getD-eq-default (take n ks) noKept {n = k} (omega (arith, length-take-le n ks h)))) q
 
 module _ {ks : List Kept} {at end asked : ℕ} (e : Ended ks at end asked) where
-  pub held-front : heldRows (take end ks) at ≡ heldRows ks at
+  pub held-front : tableRows (take end ks) at ≡ tableRows ks at
   held-front = held-take ks at end (e .after) (e .stops)
 
   pub ready-front : {es : List Entry} {rs : List Row} → GridReady ks at es rs → GridReady (take end ks) at es rs

@@ -15,7 +15,7 @@ use Rattle.records.specs.declared.Row.{Row}
 use Rattle.records.proofs.Records.{length-of}
 use Rattle.lists.specs.Limits.{maxLines, maxEntries}
 use Rattle.cells.specs.Cells as cells
-use Rattle.cells.specs.Listed.{heldRows}
+use Rattle.cells.specs.Listed.{tableRows}
 use Rattle.positions.specs.declared.Positions.{Positions}
 use Rattle.positions.proofs.AllRows.{positions-rows}
 use Rattle.positions.proofs.Asked.{askedBy, AtCells, held-asked}
@@ -86,9 +86,9 @@ module _ {lines entries : ℕ} {ks : List Kept} {at : ℕ} (f : Fits lines entri
   -- ---- the records
 
   module _ {es₀ : List Entry} {rs₀ : List Row} (z : GridReady ks at es₀ rs₀)
-      {placed : Positions} {wide line row end : List ℕ} (p : TablePlaced (heldRows ks at) placed wide line row end) where
+      {placed : Positions} {wide line row end : List ℕ} (p : TablePlaced (tableRows ks at) placed wide line row end) where
     abbrev T : List cells.Row
-    T = heldRows ks at
+    T = tableRows ks at
 
     pub finish-ready : length wide ≡ entries → length line ≡ entries → length row ≡ lines → length end ≡ lines → FinishReady placed wide line row end es₀ rs₀
     finish-ready a b c d =
@@ -132,22 +132,22 @@ module _ {ks : List Kept} {at : ℕ} {es₀ : List Entry} {rs₀ : List Row} (z 
   pub sound-ready : GridReady ks at es₀ rs₀
   sound-ready = record { within = z .within; lined = z .lined; enough = λ _. z .entry-room; row-room = z .row-room }
 
-  module _ {judged : Judged} {es : List Entry} {rs : List Row} (g : GridMade (heldRows ks at) judged es rs) where
-    is-shape : judged ≡ shape (heldRows ks at)
-    is-shape = g .answer ∙ sound-judged (heldRows ks at) (z .sound)
+  module _ {judged : Judged} {es : List Entry} {rs : List Row} (g : GridMade (tableRows ks at) judged es rs) where
+    is-shape : judged ≡ shape (tableRows ks at)
+    is-shape = g .answer ∙ sound-judged (tableRows ks at) (z .sound)
 
-    pub sound-made : (r n c : ℕ) → judged ≡ Grid r n c → TableMade (heldRows ks at) (record { rows = r; entries = n; columns = c }) es rs
+    pub sound-made : (r n c : ℕ) → judged ≡ Grid r n c → TableMade (tableRows ks at) (record { rows = r; entries = n; columns = c }) es rs
     sound-made r n c q =
         let w = is-shape in
-        let G = gridOf (heldRows ks at) in
+        let G = gridOf (tableRows ks at) in
         let x : r ≡ length G = cc in
         let y : n ≡ length (entriesOf G) = cc in
         record {
           rows-are = x;
           entries-are = y;
           columns-are = cc;
-          entries = g .entries (length G) (length (entriesOf G)) (columnsOf (heldRows ks at)) w;
-          rows = g .rows (length G) (length (entriesOf G)) (columnsOf (heldRows ks at)) w;
+          entries = g .entries (length G) (length (entriesOf G)) (columnsOf (tableRows ks at)) w;
+          rows = g .rows (length G) (length (entriesOf G)) (columnsOf (tableRows ks at)) w;
         }
 
     pub never-refused : (number : ℕ) → judged ≡ Refused number → ⊥

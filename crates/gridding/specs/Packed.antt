@@ -7,7 +7,7 @@ use Rattle.records.specs.declared.Kept.{Kept}
 use Rattle.records.specs.declared.Entry.{Entry}
 use Rattle.records.specs.declared.Row.{Row}
 use Rattle.cells.specs.Cells as cells
-use Rattle.cells.specs.Listed.{heldRows}
+use Rattle.cells.specs.Listed.{tableRows}
 use Rattle.positions.specs.Positions.{entryCount, allRows}
 use Rattle.positions.specs.inner.Slices.{Enough}
 use Rattle.grid.specs.declared.Judged.{Judged}
@@ -37,7 +37,7 @@ endedRows n (r ∷ rs) = row (r .line) (n + length (r .entries)) ∷ endedRows (
 pub record GridReady (ks : List Kept) (at : ℕ) (es : List Entry) (rs : List Row) : Type 0 where
   pub within : at < length ks
   pub lined : Lined ks
-  pub enough : Enough (length es) (heldRows ks at)
+  pub enough : Enough (length es) (tableRows ks at)
   pub row-room : length ks ≤ length rs
 
 -- the counts of its grid, which stands in the first records; or its refusal
@@ -52,8 +52,8 @@ pub record GridMade (table : List cells.Row) (r : Judged) (es : List Entry) (rs 
 pub record TableReady (ks : List Kept) (at : ℕ) (es : List Entry) (rs : List Row) : Type 0 where
   pub within : at < length ks
   pub lined : Lined ks
-  pub sound : Sound (heldRows ks at)
-  pub entry-room : entryCount (allRows (heldRows ks at)) ≤ length es
+  pub sound : Sound (tableRows ks at)
+  pub entry-room : entryCount (allRows (tableRows ks at)) ≤ length es
   pub row-room : length ks ≤ length rs
 
 -- the grid stands in the first records

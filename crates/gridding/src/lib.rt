@@ -11,7 +11,7 @@ ghost use Prim.Native.Nat.{_+_, _≤_, _<_};
 ghost use lib.ListN.{length};
 ghost use Rattle.lists.specs.Limits.{maxLines};
 ghost use Rattle.records.specs.Kept.{keptsOf, entriesOf, rowsOf};
-ghost use Rattle.cells.specs.Listed.{heldRows};
+ghost use Rattle.cells.specs.Listed.{tableRows};
 ghost use Rattle.gridding.specs.Packed.{GridReady, GridMade, TableReady, TableMade};
 ghost use Rattle.gridding.specs.inner.Making.{asks, askedAfter, Ended, Fits, RowsPacked, FinishReady, Finished};
 
@@ -125,7 +125,7 @@ fn finish(
 fn make_least(lines: &[u32], at: usize, entries: &mut [u32], rows: &mut [u32]) -> Judged
     requires { ⌜ GridReady (keptsOf (now lines)) at (entriesOf (now entries)) (rowsOf (now rows)) ⌝ }
     requires { ⌜ Fits 16 32 (keptsOf (now lines)) at ⌝ }
-    ensures { λ r. ⌜ GridMade (heldRows (keptsOf (now (lines .entry))) at) r (entriesOf (now (entries .exit))) (rowsOf (now (rows .exit))) ⌝ }
+    ensures { λ r. ⌜ GridMade (tableRows (keptsOf (now (lines .entry))) at) r (entriesOf (now (entries .exit))) (rowsOf (now (rows .exit))) ⌝ }
 {
     let mut wide = [0u32; LEAST_ENTRIES];
     let mut line = [0u32; LEAST_ENTRIES];
@@ -154,7 +154,7 @@ fn make_least(lines: &[u32], at: usize, entries: &mut [u32], rows: &mut [u32]) -
 fn make_few(lines: &[u32], at: usize, entries: &mut [u32], rows: &mut [u32]) -> Judged
     requires { ⌜ GridReady (keptsOf (now lines)) at (entriesOf (now entries)) (rowsOf (now rows)) ⌝ }
     requires { ⌜ Fits 128 256 (keptsOf (now lines)) at ⌝ }
-    ensures { λ r. ⌜ GridMade (heldRows (keptsOf (now (lines .entry))) at) r (entriesOf (now (entries .exit))) (rowsOf (now (rows .exit))) ⌝ }
+    ensures { λ r. ⌜ GridMade (tableRows (keptsOf (now (lines .entry))) at) r (entriesOf (now (entries .exit))) (rowsOf (now (rows .exit))) ⌝ }
 {
     let mut wide = [0u32; FEW_ENTRIES];
     let mut line = [0u32; FEW_ENTRIES];
@@ -183,7 +183,7 @@ fn make_few(lines: &[u32], at: usize, entries: &mut [u32], rows: &mut [u32]) -> 
 fn make_some(lines: &[u32], at: usize, entries: &mut [u32], rows: &mut [u32]) -> Judged
     requires { ⌜ GridReady (keptsOf (now lines)) at (entriesOf (now entries)) (rowsOf (now rows)) ⌝ }
     requires { ⌜ Fits 512 1024 (keptsOf (now lines)) at ⌝ }
-    ensures { λ r. ⌜ GridMade (heldRows (keptsOf (now (lines .entry))) at) r (entriesOf (now (entries .exit))) (rowsOf (now (rows .exit))) ⌝ }
+    ensures { λ r. ⌜ GridMade (tableRows (keptsOf (now (lines .entry))) at) r (entriesOf (now (entries .exit))) (rowsOf (now (rows .exit))) ⌝ }
 {
     let mut wide = [0u32; SOME_ENTRIES];
     let mut line = [0u32; SOME_ENTRIES];
@@ -212,7 +212,7 @@ fn make_some(lines: &[u32], at: usize, entries: &mut [u32], rows: &mut [u32]) ->
 fn make_many(lines: &[u32], at: usize, entries: &mut [u32], rows: &mut [u32]) -> Judged
     requires { ⌜ GridReady (keptsOf (now lines)) at (entriesOf (now entries)) (rowsOf (now rows)) ⌝ }
     requires { ⌜ Fits 4096 8192 (keptsOf (now lines)) at ⌝ }
-    ensures { λ r. ⌜ GridMade (heldRows (keptsOf (now (lines .entry))) at) r (entriesOf (now (entries .exit))) (rowsOf (now (rows .exit))) ⌝ }
+    ensures { λ r. ⌜ GridMade (tableRows (keptsOf (now (lines .entry))) at) r (entriesOf (now (entries .exit))) (rowsOf (now (rows .exit))) ⌝ }
 {
     let mut wide = [0u32; MAX_ENTRIES];
     let mut line = [0u32; MAX_ENTRIES];
@@ -274,7 +274,7 @@ fn make_within(
 ) -> Judged
     requires { ⌜ GridReady (keptsOf (now lines)) at (entriesOf (now entries)) (rowsOf (now rows)) ⌝ }
     requires { ⌜ asked ≡ askedAfter (keptsOf (now lines)) at ⌝ }
-    ensures { λ r. ⌜ GridMade (heldRows (keptsOf (now (lines .entry))) at) r (entriesOf (now (entries .exit))) (rowsOf (now (rows .exit))) ⌝ }
+    ensures { λ r. ⌜ GridMade (tableRows (keptsOf (now (lines .entry))) at) r (entriesOf (now (entries .exit))) (rowsOf (now (rows .exit))) ⌝ }
 {
     if most > SOME_LINES {
         return make_many(lines, at, entries, rows);
@@ -296,7 +296,7 @@ fn make_within(
 // and 6 that applies.
 pub fn make(lines: &[u32], at: usize, entries: &mut [u32], rows: &mut [u32]) -> Judged
     requires { ⌜ GridReady (keptsOf (now lines)) at (entriesOf (now entries)) (rowsOf (now rows)) ⌝ }
-    ensures { λ r. ⌜ GridMade (heldRows (keptsOf (now (lines .entry))) at) r (entriesOf (now (entries .exit))) (rowsOf (now (rows .exit))) ⌝ }
+    ensures { λ r. ⌜ GridMade (tableRows (keptsOf (now (lines .entry))) at) r (entriesOf (now (entries .exit))) (rowsOf (now (rows .exit))) ⌝ }
 {
     let extent = extent_of(lines, at);
     let end = records::WIDTH * extent.end;
@@ -306,7 +306,7 @@ pub fn make(lines: &[u32], at: usize, entries: &mut [u32], rows: &mut [u32]) -> 
 // The grid of the table at the place `at` of an opened sheet, to which no refusal applies.
 pub fn make_sound(lines: &[u32], at: usize, entries: &mut [u32], rows: &mut [u32]) -> Counts
     requires { ⌜ TableReady (keptsOf (now lines)) at (entriesOf (now entries)) (rowsOf (now rows)) ⌝ }
-    ensures { λ r. ⌜ TableMade (heldRows (keptsOf (now (lines .entry))) at) r (entriesOf (now (entries .exit))) (rowsOf (now (rows .exit))) ⌝ }
+    ensures { λ r. ⌜ TableMade (tableRows (keptsOf (now (lines .entry))) at) r (entriesOf (now (entries .exit))) (rowsOf (now (rows .exit))) ⌝ }
 {
     match make(lines, at, entries, rows) {
         Judged::Refused(number) => Counts {

@@ -12,26 +12,26 @@ use lib.ListN.{length, getD, drop, set, drop-of-length-le}
 use lib.Seq.{drop-cons, getD-set-same, getD-set-other}
 use borrow.Author.Tests.{eq-eqb, ne-eqb}
 use Rattle.lists.specs.Lists.{mem}
-use Rattle.lists.specs.Refusals.{first, verdictOf}
+use Rattle.lists.specs.Refusals.{firstAnswer, verdictOf}
 use Rattle.lists.specs.declared.Verdict.{Verdict}
 use Rattle.lists.specs.declared.Verdict.the-variants.{Accepted, Refused}
-use Rattle.line.specs.Kinds.{tableKind}
+use Rattle.lists.proofs.All.{all-both}
+use Rattle.kinds.specs.Kinds.{tableKind}
 use Rattle.records.specs.Kept.{noKept, noPlace, placeBy, placesOf, tablePlace}
 use Rattle.records.specs.declared.Kept.{Kept}
 use Rattle.records.specs.declared.Place.{Place}
 use Rattle.records.proofs.Records.{length-of}
 use Rattle.cells.specs.Cells as cells
-use Rattle.cells.specs.Listed.{heldRows}
-use Rattle.cells.specs.Facts.{Every, none, and}
+use Rattle.cells.specs.Listed.{tableRows}
 use Rattle.grid.specs.declared.Judged.{Judged}
 use Rattle.grid.specs.declared.Judged.the-variants as judged
-use Rattle.grid.specs.Grid.{Entry, gridOf, columnsOf, entriesOf, tableChecks, tableRows, tablesChecks}
+use Rattle.grid.specs.Grid.{Entry, gridOf, columnsOf, entriesOf, tableChecks, tablesChecks}
 use Rattle.grid.specs.Facts.{cellOwners, CellOf}
 use Rattle.grid.specs.Judging.{judgedOf, Lined}
-use Rattle.judge.specs.Places.{KeptTable, Nests, TablesJudged}
+use Rattle.judge.specs.Places.{KeptEntry, KeptTable, Nests, TablesJudged}
 use Rattle.judge.specs.inner.Keeping.{storedBy, TableKept}
 use Rattle.grid.proofs.Tiling.{not-true}
-use Rattle.grid.proofs.GridCells.{owner-cell, entries-cells}
+use Rattle.grid.proofs.GridCells.{IsCell, owner-cell, entries-cells}
 use Rattle.grid.proofs.GridFacts.{judgedThen, verdict-table}
 use Rattle.grid.proofs.Counts.{judged-counts}
 use Rattle.judge.proofs.CellKinds.{cell-kind}
@@ -40,14 +40,10 @@ use Rattle.judge.proofs.Stored.{stored-length, stored-other, stored-cel
 
 -- ---- what is kept
 
-pub every-both : {A : Type 0} {P Q R : A → Type 0} → ((a : A) → P a → Q a → R a) → {xs : List A} → Every P xs → Every Q xs → Every R xs
-every-both h none none = none
-every-both h (and p ps) (and q qs) = and (h _ p q) (every-both h ps qs)
-
 module _ {ks : List Kept} (z : Lined ks) (nests : Nests ks) (t : ℕ) (h : t < length ks) (e : getD ks t noKept .kind ≡ tableKind) {ps₀ ps : List Place} {r n c : ℕ}
-    (s : TableKept (heldRows ks t) t (judged.Grid r n c) ps₀ ps) (room : length ks ≤ length ps₀) where
+    (s : TableKept (tableRows ks t) t (judged.Grid r n c) ps₀ ps) (room : length ks ≤ length ps₀) where
   abbrev T : List cells.Row
-  T = heldRows ks t
+  T = tableRows ks t
 
   abbrev es : List Entry
   es = entriesOf (gridOf T)
@@ -74,8 +70,8 @@ module _ {ks : List Kept} (z : Lined ks) (nests : Nests ks) (t : ℕ) (h : t < l
     sound = judged-counts T r n c (sym (s .answer)) .0;
     shape = now-at t ∙ getD-set-same (storedBy es ps₀) t own noPlace (omega (arith, stored-length es ps₀));
     entries =
-        every-both (λ x m p f. off-table (x .owner - 1) (λ q. omega (arith, m f .1 .before, q)) ∙ p f)
-        (entries-cells z t h)
+        all-both (IsCell ks t) (KeptEntry (storedBy es ps₀)) (KeptEntry ps) (λ x m p f. off-table (x .owner - 1) (λ q. omega (arith, m f .1 .before, q)) ∙ p f)
+        es (entries-cells z t h)
         (stored-cells (t + 1) es ps₀ (cells-rise z h) (λ q m. omega (arith, owner-cell z t h q m .0, owner-cell z t h q m .1 .within)));
   }
 
@@ -95,13 +91,13 @@ module _ {ks : List Kept} (z : Lined ks) (nests : Nests ks) (t : ℕ) (h : t < l
     no-cell : CellOf ks t u → ⊥
     no-cell c = omega (arith, cell-kind ks (z .step) nests t u c e, f)
 
-    pub kept-other : KeptTable (heldRows ks u) u ps₀ → KeptTable (heldRows ks u) u ps
+    pub kept-other : KeptTable (tableRows ks u) u ps₀ → KeptTable (tableRows ks u) u ps
     kept-other k = record {
       sound = k .sound;
       shape = off-cells u no-cell o ∙ k .shape;
       entries =
-          every-both (λ x m p g. off-cells (x .owner - 1) (apart (x .owner - 1) (m g .1)) (no-table (x .owner - 1) (m g .1)) ∙ p g)
-          (entries-cells z u l) (k .entries);
+          all-both (IsCell ks u) (KeptEntry ps₀) (KeptEntry ps) (λ x m p g. off-cells (x .owner - 1) (apart (x .owner - 1) (m g .1)) (no-table (x .owner - 1) (m g .1)) ∙ p g)
+          (entriesOf (gridOf (tableRows ks u))) (entries-cells z u l) (k .entries);
     }
 
 -- ---- the verdict
@@ -114,28 +110,23 @@ module _ (ks : List Kept) (t : ℕ) (h : t < length ks) where
   lines-here : drop t ks ≡ here ∷ drop (t + 1) ks
   lines-here = rw (add-one, drop-cons ks t noKept)
 
-  -- the table's rows are those that the lines hold
-  pub rows-here : tableRows (t + 1) (drop t ks) ≡ heldRows ks t
-  unfolding tableRows heldRows
-  rows-here = rw lines-here
-
   abbrev rest : Verdict
   rest = verdictOf (tablesChecks (t + 1 + 1) (drop (t + 1) ks))
 
   checks-here : (b : Bool) → eqb (here .kind) tableKind ≡ b
-      → tablesChecks (t + 1) (drop t ks) ≡ cond b (tableChecks (t + 1) (heldRows ks t)) [] ++ tablesChecks (t + 1 + 1) (drop (t + 1) ks)
-  unfolding tablesChecks
+      → tablesChecks (t + 1) (drop t ks) ≡ cond b (tableChecks (t + 1) (tableRows ks t)) [] ++ tablesChecks (t + 1 + 1) (drop (t + 1) ks)
+  unfolding tablesChecks tableRows
   checks-here b e =
       ap (tablesChecks (t + 1)) lines-here
-      ∙ (λ i. cond (e i) (tableChecks (t + 1) ((ap (tableRows (t + 1)) (sym lines-here) ∙ rows-here) i)) [] ++ tablesChecks (sym (add-one (t + 1)) i) (drop (t + 1) ks))
+      ∙ (λ i. cond (e i) (tableChecks (t + 1) (tableRows ks t)) [] ++ tablesChecks (sym (add-one (t + 1)) i) (drop (t + 1) ks))
 
   verdict-other : (here .kind ≡ tableKind → ⊥) → verdictOf (tablesChecks (t + 1) (drop t ks)) ≡ rest
   verdict-other n = ap verdictOf (checks-here false (ne-eqb (here .kind) tableKind n))
 
-  verdict-judged : here .kind ≡ tableKind → (q : Judged) → q ≡ judgedOf (heldRows ks t) → verdictOf (tablesChecks (t + 1) (drop t ks)) ≡ judgedThen (t + 1) rest q
+  verdict-judged : here .kind ≡ tableKind → (q : Judged) → q ≡ judgedOf (tableRows ks t) → verdictOf (tablesChecks (t + 1) (drop t ks)) ≡ judgedThen (t + 1) rest q
   verdict-judged e q j =
       ap verdictOf (checks-here true (eq-eqb (here .kind) tableKind e))
-      ∙ verdict-table (heldRows ks t) (t + 1) (tablesChecks (t + 1 + 1) (drop (t + 1) ks)) ∙ ap (judgedThen (t + 1) rest) (sym j)
+      ∙ verdict-table (tableRows ks t) (t + 1) (tablesChecks (t + 1 + 1) (drop (t + 1) ks)) ∙ ap (judgedThen (t + 1) rest) (sym j)
 
 -- ---- the loop
 
@@ -143,7 +134,7 @@ module _ (ks : List Kept) (t : ℕ) (h : t < length ks) where
 pub record Sofar (ks : List Kept) (ps : List Place) (t : ℕ) : Type 0 where
   pub at : t ≤ length ks
   pub left : verdictOf (tablesChecks (t + 1) (drop t ks)) ≡ verdictOf (tablesChecks 1 ks)
-  pub kept : (u : ℕ) → u < t → getD ks u noKept .kind ≡ tableKind → KeptTable (heldRows ks u) u ps
+  pub kept : (u : ℕ) → u < t → getD ks u noKept .kind ≡ tableKind → KeptTable (tableRows ks u) u ps
 
 pub start : (ks : List Kept) (ps : List Place) → Sofar ks ps 0
 start ks ps = record { at = omega arith; left = refl; kept = λ u l. absurd (omega arith) }
@@ -151,7 +142,7 @@ start ks ps = record { at = omega arith; left = refl; kept = λ u l. absurd (ome
 module _ {ks : List Kept} {ps : List Place} {t : ℕ} (z : Sofar ks ps t) where
   -- no table is left
   pub stop : length ks ≤ t → TablesJudged ks Accepted ps
-  unfolding tablesChecks verdictOf first
+  unfolding tablesChecks verdictOf firstAnswer
   stop h = record {
     answer = rw (drop-of-length-le ks {i = t} h) at (z .left);
     kept = λ _. record { table = λ u l e. z .kept u (omega (arith, z .at)) e };
@@ -167,7 +158,7 @@ module _ {ks : List Kept} {ps : List Place} {t : ℕ} (z : Sofar ks ps t) where
         before m u l e (yes q) = absurd (m (ap (λ (i : ℕ). getD ks i noKept .kind) (sym q) ∙ e))
         before m u l e (no q) = omega arith
 
-    module _ (e : k .kind ≡ tableKind) {j : Judged} {ps′ : List Place} (s : TableKept (heldRows ks t) t j ps ps′) where
+    module _ (e : k .kind ≡ tableKind) {j : Judged} {ps′ : List Place} (s : TableKept (tableRows ks t) t j ps ps′) where
       table-here : getD ks t noKept .kind ≡ tableKind
       table-here = rw q at e
 
@@ -186,8 +177,8 @@ module _ {ks : List Kept} {ps : List Place} {t : ℕ} (z : Sofar ks ps t) where
             kept = λ u l g. each s′ u l g (ℕ-discrete u t);
           }
         where
-          each : TableKept (heldRows ks t) t (judged.Grid r n c) ps ps′ → (u : ℕ) → u < t + 1 → getD ks u noKept .kind ≡ tableKind → Dec (u ≡ t) → KeptTable (heldRows ks u) u ps′
-          each s′ u l g (yes q) = subst (λ (i : ℕ). KeptTable (heldRows ks i) i ps′) (sym q) (kept-here lined nests t h table-here s′ room)
+          each : TableKept (tableRows ks t) t (judged.Grid r n c) ps ps′ → (u : ℕ) → u < t + 1 → getD ks u noKept .kind ≡ tableKind → Dec (u ≡ t) → KeptTable (tableRows ks u) u ps′
+          each s′ u l g (yes q) = subst (λ (i : ℕ). KeptTable (tableRows ks i) i ps′) (sym q) (kept-here lined nests t h table-here s′ room)
           each s′ u l g (no q) = kept-other lined nests t h table-here s′ room u (omega arith) q g (z .kept u (omega arith) g)
 
 -- a slice that is as long as it was has as many places

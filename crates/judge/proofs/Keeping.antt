@@ -7,8 +7,9 @@ use native.Mathlib.Omega.{arith}
 use lib.ListN.{length, getD, take, set, length-map, length-take}
 use lib.Seq.{getD-take}
 use Rattle.lists.specs.Limits.{maxLines, maxPosition}
+use Rattle.lists.proofs.All.{at-all, all-map}
 use Rattle.records.specs.Kept.{noEntry, tablePlace}
-use Rattle.line.specs.Kinds.{tableKind}
+use Rattle.kinds.specs.Kinds.{tableKind}
 use Rattle.records.specs.Kept.{noKept}
 use Rattle.records.specs.Kept as kept
 use Rattle.records.specs.declared.Entry as packed
@@ -17,24 +18,24 @@ use Rattle.records.specs.declared.Kept.{Kept}
 use Rattle.records.specs.declared.Place.{Place}
 use Rattle.records.proofs.Records.{length-of}
 use Rattle.cells.specs.Cells as cells
-use Rattle.cells.specs.Listed.{heldRows}
-use Rattle.cells.proofs.Facts.{every-at, every-map, every-weaken}
+use Rattle.cells.specs.Listed.{tableRows}
 use Rattle.grid.specs.declared.Judged.{Judged}
 use Rattle.grid.specs.declared.Judged.the-variants.{Grid}
 use Rattle.grid.specs.Grid.{Entry, shownLine, gridOf, columnsOf, entriesOf}
-use Rattle.grid.specs.Facts.{Sound, cellOwners, CellOf}
+use Rattle.grid.specs.Facts.{Sound, cellOwners}
 use Rattle.grid.specs.Judging.{Lined, shown}
 use Rattle.gridding.specs.Packed.{GridReady, GridMade}
 use Rattle.judge.specs.inner.Keeping.{storedIn, EntriesFit, JudgedFits, JudgedStored, storedBy, TableKept, Roomy}
 use Rattle.grid.proofs.Rebuilt.{held-few}
 use Rattle.grid.proofs.CellLines.{Rises, lines-after-rise}
 use Rattle.grid.proofs.Counts.{judged-counts}
-use Rattle.grid.proofs.GridCells.{held-owners, entries-cells}
+use Rattle.grid.proofs.GridCells.{IsCell, held-owners, entries-cells}
 use Rattle.grid.proofs.GridFacts.{grid-rows, grid-columns}
 use Rattle.gridding.proofs.Making.{entries-still, rows-still}
 use Rattle.judge.proofs.Stored.{stored-shown}
 
-shown-within : (N : ℕ) (ks : List Kept) (at : ℕ) (e : Entry) → length ks ≤ N → (e .filler ≡ false → (1 ≤ e .owner) × CellOf ks at (e .owner - 1)) → shownLine e ≤ N
+-- the line that an entry shows is one of the lines, or 0
+pub shown-within : (N : ℕ) (ks : List Kept) (at : ℕ) (e : Entry) → length ks ≤ N → IsCell ks at e → shownLine e ≤ N
 shown-within N ks at e h c = go (e .filler) refl
   where
     go : (b : Bool) → e .filler ≡ b → cond b 0 (e .owner) ≤ N
@@ -43,7 +44,7 @@ shown-within N ks at e h c = go (e .filler) refl
 
 module _ {ks : List Kept} (z : Lined ks) {at : ℕ} (h : at < length ks) where
   abbrev T : List cells.Row
-  T = heldRows ks at
+  T = tableRows ks at
 
   abbrev es : List Entry
   es = entriesOf (gridOf T)
@@ -59,7 +60,7 @@ module _ {ks : List Kept} (z : Lined ks) {at : ℕ} (h : at < length ks) where
     cell-within N m k l =
         let b : k < length (map shown es) = omega (arith, length-map es shown, counts .2) in
         let q : getD qs k noEntry ≡ getD (map shown es) k noEntry = sym (getD-take n qs k noEntry l) ∙ ap (λ (x : List packed.Entry). getD x k noEntry) (g .entries r n c e) in
-        rw q (every-at {P = λ x. x .cell ≤ N} (every-map shown (λ x p. p) (every-weaken (λ x. shown-within N ks at x m) (entries-cells z at h))) noEntry k b)
+        rw q (at-all (λ x. x .cell ≤ N) noEntry (map shown es) k (all-map (IsCell ks at) (λ x. x .cell ≤ N) shown (λ x. shown-within N ks at x m) es (entries-cells z at h)) b)
 
     entries-fit : {ps : List Place} → length ks ≤ length ps → EntriesFit n qs ps × (r ≤ maxLines) × (c ≤ maxPosition)
     entries-fit {ps} d =

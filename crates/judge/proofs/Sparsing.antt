@@ -13,11 +13,11 @@ use lib.Seq.{drop-cons}
 use borrow.Author.Tests.{eq-eqb}
 use Rattle.lists.specs.Lists.{sum}
 use Rattle.lists.specs.Limits.{maxLines, maxEntries}
-use Rattle.line.specs.Kinds.{tableKind, cellKind}
+use Rattle.kinds.specs.Kinds.{tableKind, cellKind}
 use Rattle.records.specs.Kept.{noKept, entryBy, entriesOf, rowBy, rowsOf}
 use Rattle.records.specs.declared.Kept.{Kept}
 use Rattle.records.proofs.Records.{length-of}
-use Rattle.cells.specs.Listed.{heldRows}
+use Rattle.cells.specs.Listed.{tableRows}
 use Rattle.positions.specs.Positions.{allRows, entryCount}
 use Rattle.positions.proofs.Asked.{askedBy, AtCells, held-asked}
 use Rattle.grid.specs.Facts.{CellOf}
@@ -77,7 +77,7 @@ cell-asks l e = here (l .kind) e
 
 -- the tables of a sparse sheet have few entries
 pub held-sparse : {ks : List Kept} {most : ℕ} → Lined ks → Nests ks → Sparse most ks → (t : ℕ) → t < length ks → getD ks t noKept .kind ≡ tableKind
-    → entryCount (allRows (heldRows ks t)) ≤ most
+    → entryCount (allRows (tableRows ks t)) ≤ most
 held-sparse {ks} l z s t h e =
     let a = from-cells ks t (λ k. askedBy (k .rows) ≤ rowsAsked k) (λ i c. cell-asks (getD ks i noKept) (cell-kind ks (l .step) z t i c e)) (length ks - (t + 1)) (t + 1) (omega arith) (omega arith)
     (λ k u v. absurd (omega arith)) in

@@ -7,14 +7,14 @@ use lib.ListN.{length, getD}
 use Rattle.lists.specs.Refusals.{verdictOf}
 use Rattle.lists.specs.declared.Verdict.{Verdict}
 use Rattle.lists.specs.declared.Verdict.the-variants.{Accepted}
-use Rattle.line.specs.Kinds.{tableKind, mayHold}
+use Rattle.lists.specs.Lists.{All}
+use Rattle.kinds.specs.Kinds.{tableKind, mayHold}
 use Rattle.records.specs.Parents.{Parent}
 use Rattle.records.specs.Kept.{noKept, noPlace, tablePlace}
 use Rattle.records.specs.declared.Kept.{Kept}
 use Rattle.records.specs.declared.Place.{Place}
 use Rattle.cells.specs.Cells as cells
-use Rattle.cells.specs.Listed.{heldRows}
-use Rattle.cells.specs.Facts.{Every}
+use Rattle.cells.specs.Listed.{tableRows}
 use Rattle.grid.specs.Grid.{Entry, gridOf, columnsOf, entriesOf, tablesChecks}
 use Rattle.grid.specs.Facts.{Sound}
 
@@ -36,10 +36,10 @@ KeptEntry ps e = e .filler ≡ false → getD ps (e .owner - 1) noPlace ≡ plac
 pub record KeptTable (table : List cells.Row) (at : ℕ) (ps : List Place) : Type 0 where
   pub sound : Sound table
   pub shape : getD ps at noPlace ≡ tablePlace (length (gridOf table)) (columnsOf table)
-  pub entries : Every (KeptEntry ps) (entriesOf (gridOf table))
+  pub entries : All (KeptEntry ps) (entriesOf (gridOf table))
 
 pub record TablesKept (ks : List Kept) (ps : List Place) : Type 0 where
-  pub table : (t : ℕ) → t < length ks → getD ks t noKept .kind ≡ tableKind → KeptTable (heldRows ks t) t ps
+  pub table : (t : ℕ) → t < length ks → getD ks t noKept .kind ≡ tableKind → KeptTable (tableRows ks t) t ps
 
 -- each line's parent may hold it
 pub record Nests (ks : List Kept) : Type 0 where

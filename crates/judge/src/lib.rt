@@ -9,9 +9,9 @@ ghost use mathlib.Core.Path.{_≡_};
 ghost use mathlib.Core.Bool.{true};
 ghost use Prim.Native.Nat.{_≤_, _<_};
 ghost use lib.ListN.{length, getD, take};
-ghost use Rattle.line.specs.Kinds.{tableKind};
+ghost use Rattle.kinds.specs.Kinds.{tableKind};
 ghost use Rattle.records.specs.Kept.{noKept, keptsOf, entriesOf, rowsOf, placesOf};
-ghost use Rattle.cells.specs.Listed.{heldRows};
+ghost use Rattle.cells.specs.Listed.{tableRows};
 ghost use Rattle.grid.specs.Judging.{Lined};
 ghost use Rattle.judge.specs.Places.{Nests, TablesJudged};
 ghost use Rattle.judge.specs.inner.Keeping.{storedIn, EntriesFit, JudgedFits, JudgedStored, TableKept, Roomy, Sparse};
@@ -90,7 +90,7 @@ fn keep_table(
     requires { ⌜ getD (keptsOf (now lines)) at noKept .kind ≡ tableKind ⌝ }
     requires { ⌜ Lined (keptsOf (now lines)) ⌝ }
     requires { ⌜ Roomy (keptsOf (now lines)) (length (entriesOf (now entries))) (length (rowsOf (now rows))) (length (placesOf (now places))) ⌝ }
-    ensures { λ r. ⌜ TableKept (heldRows (keptsOf (now (lines .entry))) at) at r (placesOf (now (places .entry))) (placesOf (now (places .exit))) ⌝ }
+    ensures { λ r. ⌜ TableKept (tableRows (keptsOf (now (lines .entry))) at) at r (placesOf (now (places .entry))) (placesOf (now (places .exit))) ⌝ }
 {
     let judged = gridding::make(lines, at, entries, rows);
     keep_grid(judged, at, entries, places);
@@ -108,7 +108,7 @@ fn judge_in(lines: &[u32], entries: &mut [u32], rows: &mut [u32], places: &mut [
     let mut t = 0;
     while t < n {
         let here = records::kept_at(lines, t);
-        if here.kind == line::kinds::TABLE {
+        if here.kind == kinds::TABLE {
             let judged = keep_table(lines, t, entries, rows, places);
             match judged {
                 Judged::Refused(number) => {
@@ -144,7 +144,7 @@ pub fn is_sparse(lines: &[u32], most: u32) -> bool
     let mut i = 0;
     while i < n {
         let here = records::kept_at(lines, i);
-        let asked = gridding::rows_asked(here.kind == line::kinds::CELL, here.rows);
+        let asked = gridding::rows_asked(here.kind == kinds::CELL, here.rows);
         if asked > left {
             return false;
         }

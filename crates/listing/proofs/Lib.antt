@@ -1,2 +1,2 @@
--- What the functions that lay out and list a sheet need of its tables and of the slices they are laid out in.
+-- What the functions that lay out and list a sheet need of it and of its tables.
 pub mod Ready

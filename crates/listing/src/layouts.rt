@@ -1,67 +1,17 @@
 // How each table of a measured sheet is laid out.
 ghost use mathlib.Core.Path.{_≡_};
+ghost use lib.ListN.{length};
 ghost use Rattle.records.specs.Kept.{keptsOf};
 ghost use Rattle.estimates.specs.inner.Figures.{figuresOf};
-ghost use Rattle.listing.specs.Listing.{Place, wayLetter, Listable};
-ghost use Rattle.listing.specs.inner.Rooms.{LayRooms, TableAt};
-use super::entries::entries;
-use super::entries::numbered;
-use super::lines::number;
-use super::lines::two;
-use super::lines::words;
-use line::kinds::TABLE;
+ghost use Rattle.walking.specs.inner.Steps.{Rooms};
+ghost use Rattle.writing.specs.Writing.{Place};
+ghost use Rattle.listing.specs.Listing.{Listable};
+ghost use Rattle.listing.specs.inner.Read.{TableAt, WalkNarrow};
+use kinds::TABLE;
+use passing::Width;
 use settings::Given;
-use widths::Way;
-
-// The letter of a way.
-fn letter_of(way: Way) -> u8
-    ensures { λ r. ⌜ r ≡ wayLetter way ⌝ }
-{
-    match way {
-        Way::Sideways => b'h',
-        Way::Down => b'v',
-    }
-}
-
-// Puts it between two spaces.
-fn letter(out: &mut [u8], at: usize, way: Way) -> usize
-    requires { ⌜ Place (now out) at ⌝ }
-    ensures { λ r. ⌜ Place (now (out .exit)) r ⌝ }
-{
-    words(out, at, &[b' ', letter_of(way), b' '])
-}
-
-// Puts the first two lines of a table: its line, its way, its columns and its width.
-pub fn heading(out: &mut [u8], at: usize, line: u32, way: Way, columns: u32, width: u32) -> usize
-    requires { ⌜ Place (now out) at ⌝ }
-    ensures { λ r. ⌜ Place (now (out .exit)) r ⌝ }
-{
-    let at_line = words(out, at, b"table way cols wide\n");
-    let at_way = number(out, at_line, line);
-    let at_columns = letter(out, at_way, way);
-    two(out, at_columns, columns, width)
-}
-
-// Puts the columns' widths, and each entry that is printed with its start and its width.
-pub fn cells(
-    out: &mut [u8],
-    at: usize,
-    rows: &[u32],
-    count: usize,
-    grid: &[u32],
-    columns: u32,
-    column: &[u32],
-    x: &[u32],
-    wide: &[u32],
-) -> usize
-    requires { ⌜ Place (now out) at ⌝ }
-    ensures { λ r. ⌜ Place (now (out .exit)) r ⌝ }
-{
-    let at_columns = words(out, at, b"column width\n");
-    let at_heading = numbered(out, at_columns, column, columns);
-    let at_entries = words(out, at_heading, b"row cell x width\n");
-    entries(out, at_entries, rows, count, grid, x, wide)
-}
+use writing::tables::cells;
+use writing::tables::heading;
 
 // Puts the layout of the table at a place. The sheet is accepted, so none of its tables is refused.
 fn table(
@@ -80,7 +30,7 @@ fn table(
     requires { ⌜ Place (now out) at ⌝ }
     requires { ⌜ TableAt (keptsOf (now lines)) place ⌝ }
     requires { ⌜ Listable (keptsOf (now lines)) (figuresOf (now figures)) (given .width) ⌝ }
-    requires { ⌜ LayRooms (now grid) (now rows) (now column) (now x) (now wide) ⌝ }
+    requires { ⌜ Rooms (now grid) (now rows) (now column) (now x) (now wide) ⌝ }
     ensures { λ r. ⌜ Place (now (out .exit)) r ⌝ }
 {
     let arranged = table::arrange(
@@ -103,7 +53,59 @@ fn table(
     cells(out, next, rows, counts.rows, grid, columns, column, x, wide)
 }
 
-// Puts the layout of every table of a sheet, in the order of their lines. Every table is laid out in the same room, of which nothing is
+// The settings with another width.
+pub fn given_at(given: Given, width: u32) -> Given
+    ensures { λ r. ⌜ r .width ≡ width ⌝ }
+{
+    Given {
+        wrap: given.wrap,
+        raw: given.raw,
+        width: width,
+        sheet: given.sheet,
+    }
+}
+
+// Puts the layout of the table at a place, at the width that the walk gives it; if it gives none, nothing.
+fn walked_table(
+    out: &mut [u8],
+    at: usize,
+    place: usize,
+    given: Given,
+    lines: &[u32],
+    figures: &[u32],
+    walk: &[u32],
+    grid: &mut [u32],
+    rows: &mut [u32],
+    column: &mut [u32],
+    x: &mut [u32],
+    wide: &mut [u32],
+) -> usize
+    requires { ⌜ Place (now out) at ⌝ }
+    requires { ⌜ TableAt (keptsOf (now lines)) place ⌝ }
+    requires { ⌜ Listable (keptsOf (now lines)) (figuresOf (now figures)) (given .width) ⌝ }
+    requires { ⌜ WalkNarrow (length (keptsOf (now lines))) (now walk) ⌝ }
+    requires { ⌜ Rooms (now grid) (now rows) (now column) (now x) (now wide) ⌝ }
+    ensures { λ r. ⌜ Place (now (out .exit)) r ⌝ }
+{
+    let Width::Wide(v) = passing::width_of(records::place_at(walk, place)) else {
+        return at;
+    };
+    table(
+        out,
+        at,
+        place,
+        given_at(given, v),
+        lines,
+        figures,
+        grid,
+        rows,
+        column,
+        x,
+        wide,
+    )
+}
+
+// Puts the layout of every table of a sheet that has a width, in the order of their lines. Every table is laid out in the same room, of which nothing is
 // cleared in between.
 pub fn layouts(
     out: &mut [u8],
@@ -111,6 +113,7 @@ pub fn layouts(
     given: Given,
     lines: &[u32],
     figures: &[u32],
+    walk: &[u32],
     grid: &mut [u32],
     rows: &mut [u32],
     column: &mut [u32],
@@ -119,7 +122,8 @@ pub fn layouts(
 ) -> usize
     requires { ⌜ Place (now out) at ⌝ }
     requires { ⌜ Listable (keptsOf (now lines)) (figuresOf (now figures)) (given .width) ⌝ }
-    requires { ⌜ LayRooms (now grid) (now rows) (now column) (now x) (now wide) ⌝ }
+    requires { ⌜ WalkNarrow (length (keptsOf (now lines))) (now walk) ⌝ }
+    requires { ⌜ Rooms (now grid) (now rows) (now column) (now x) (now wide) ⌝ }
     ensures { λ r. ⌜ Place (now (out .exit)) r ⌝ }
 {
     let n = records::count(lines);
@@ -128,13 +132,14 @@ pub fn layouts(
     while i < n {
         let here = records::kept_at(lines, i);
         if here.kind == TABLE {
-            next = table(
+            next = walked_table(
                 out,
                 next,
                 i,
                 given,
                 lines,
                 figures,
+                walk,
                 grid,
                 rows,
                 column,

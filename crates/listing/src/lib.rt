@@ -1,46 +1,35 @@
 // What the program `layout` prints of an input, which holds settings and a sheet. The format is our own: the Rust has no counterpart.
-pub mod lines; // lines.rt: one line of a listing
-pub mod entries; // entries.rt: the entries of a grid, row by row
 pub mod layouts; // layouts.rt: how each table is laid out
 
 ghost use Prim.Native.Nat.{_≤_};
+ghost use lib.ListN.{length};
 ghost use Rattle.lists.specs.Limits.{maxSize};
 ghost use Rattle.records.specs.Kept.{keptsOf};
 ghost use Rattle.estimates.specs.inner.Figures.{figuresOf};
-ghost use Rattle.listing.specs.Listing.{Place, Listable};
-ghost use Rattle.listing.specs.inner.Rooms.{ReadListable};
+ghost use Rattle.writing.specs.Writing.{Place};
+ghost use Rattle.listing.specs.Listing.{Listable};
+ghost use Rattle.listing.specs.inner.Read.{WalkNarrow, ReadListable};
 use lists::MAX_ENTRIES;
 use lists::MAX_LINES;
 use lists::MAX_POSITION;
-use lists::Verdict;
 use settings::Given;
 use settings::Settled;
 use sheet::Reading;
+use writing::refusal;
+use writing::verdict;
 
-// Puts a refusal.
-pub fn refusal(out: &mut [u8], at: usize, number: u32, line: u32) -> usize
-    requires { ⌜ Place (now out) at ⌝ }
-    ensures { λ r. ⌜ Place (now (out .exit)) r ⌝ }
-{
-    let next = lines::words(out, at, b"refusal line\n");
-    lines::two(out, next, number, line)
-}
-
-// Puts a refusal, if the verdict is one.
-pub fn verdict(out: &mut [u8], at: usize, v: Verdict) -> usize
-    requires { ⌜ Place (now out) at ⌝ }
-    ensures { λ r. ⌜ Place (now (out .exit)) r ⌝ }
-{
-    match v {
-        Verdict::Accepted => at,
-        Verdict::Refused { number, line } => refusal(out, at, number, line),
-    }
-}
-
-// Puts the layout of every table of a measured sheet. All tables are laid out in the same arrays.
-fn laid(out: &mut [u8], at: usize, given: Given, kept: &[u32], figures: &[u32]) -> usize
+// Puts the layout of every table of a walked sheet. All tables are laid out in the same arrays.
+fn laid(
+    out: &mut [u8],
+    at: usize,
+    given: Given,
+    kept: &[u32],
+    figures: &[u32],
+    walk: &[u32],
+) -> usize
     requires { ⌜ Place (now out) at ⌝ }
     requires { ⌜ Listable (keptsOf (now kept)) (figuresOf (now figures)) (given .width) ⌝ }
+    requires { ⌜ WalkNarrow (length (keptsOf (now kept))) (now walk) ⌝ }
     ensures { λ r. ⌜ Place (now (out .exit)) r ⌝ }
 {
     let mut grid = [0u32; 3 * MAX_ENTRIES];
@@ -54,6 +43,7 @@ fn laid(out: &mut [u8], at: usize, given: Given, kept: &[u32], figures: &[u32]) 
         given,
         kept,
         figures,
+        walk,
         &mut grid,
         &mut rows,
         &mut column,
@@ -62,7 +52,7 @@ fn laid(out: &mut [u8], at: usize, given: Given, kept: &[u32], figures: &[u32]) 
     )
 }
 
-// Puts the layouts of a sheet that was measured, whose lines are the first records, or why it is refused.
+// Puts the layouts of a sheet that was walked, whose lines are the first records, or why it is refused.
 fn told(
     out: &mut [u8],
     at: usize,
@@ -70,42 +60,46 @@ fn told(
     read: Reading,
     kept: &[u32],
     figures: &[u32],
+    walk: &[u32],
 ) -> usize
     requires { ⌜ Place (now out) at ⌝ }
-    requires { ⌜ ReadListable read (now kept) (figuresOf (now figures)) (given .width) ⌝ }
+    requires { ⌜ ReadListable read (now kept) (figuresOf (now figures)) (given .width) (now walk) ⌝ }
     ensures { λ r. ⌜ Place (now (out .exit)) r ⌝ }
 {
     match read {
         Reading::Refused { number, line } => refusal(out, at, number, line),
         Reading::Lines(n) => {
             let end = records::WIDTH * n;
-            laid(out, at, given, &kept[..end], figures)
+            laid(out, at, given, &kept[..end], figures, walk)
         }
     }
 }
 
-// Puts the layout of every table of a sheet at its settings, or why it is refused. The sheet is read and measured once, however many tables it
-// has.
+// Puts the layout of every table of a sheet at the width that the walk gives it, or why it is refused. The sheet is read, measured and walked once,
+// however many tables it has; no width overflows.
 fn opened(out: &mut [u8], at: usize, sheet: &[u8], given: Given) -> usize
     requires { ⌜ Place (now out) at ⌝ }
-    requires { ⌜ given .width ≤ maxSize ⌝ }
+    requires { ⌜ (given .raw ≤ 1) × (given .width ≤ maxSize) ⌝ }
     ensures { λ r. ⌜ Place (now (out .exit)) r ⌝ }
 {
     let mut kept = [0u32; 6 * MAX_LINES];
-    let mut places = [0u32; 2 * MAX_LINES];
     let mut figures = [0u32; 3 * MAX_LINES];
+    let mut walk = [0u32; 2 * MAX_LINES];
     let mut leasts = [0u32; MAX_POSITION];
-    let read = opening::measuring::measure_sheet(
+    let read = pacing::walk_sheet(
         sheet,
         false,
         0,
         given.wrap,
+        given.raw,
+        given.width,
+        0,
         &mut kept,
-        &mut places,
         &mut figures,
+        &mut walk,
         &mut leasts,
     );
-    told(out, at, given, read, &kept, &figures)
+    told(out, at, given, read, &kept, &figures, &walk)
 }
 
 // Puts what `layout` prints of an input, settings and sheet, at a place of the buffer, and answers the place after it. What no longer fits the

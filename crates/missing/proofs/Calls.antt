@@ -9,7 +9,7 @@ use lib.ListN.{length, take}
 use borrow.Author.Tests.{ltb-false}
 use Rattle.lists.specs.Lists.{padded}
 use Rattle.lists.specs.Limits.{maxLines, maxEntries, maxWrap, maxWidth, maxSize}
-use Rattle.lists.specs.Refusals.{Check, first, verdictOf, ifPasses}
+use Rattle.lists.specs.Refusals.{Check, firstAnswer, verdictOf, ifPasses}
 use Rattle.lists.specs.declared.Verdict.{Verdict}
 use Rattle.lists.specs.declared.Verdict.the-variants.{Accepted, Refused as Refuses}
 use Rattle.sheet.proofs.First.{neither}
@@ -28,14 +28,14 @@ use Rattle.missing.specs.inner.Found.{ExplainRoom, missedTotal, columnTo
 -- refused for the arguments
 pub missing-early : (number at : ℕ) (cs : List Check) (s : List ℕ) (line wrap raw width : ℕ) (entry cause : List ℕ)
     → MissingFound (early (Refuses number at) ∷ cs) s line wrap raw width (Refused number at) entry cause
-unfolding first early ifPasses missedTotal columnTotal
+unfolding firstAnswer early ifPasses missedTotal columnTotal
 missing-early number at cs s line wrap raw width entry cause =
     record { answer = refl; few-entries = omega arith; few-columns = omega arith; entries = refl; causes = refl }
 
 -- not refused for the arguments
 pub missing-late : {v : Verdict} {cs : List Check} {s : List ℕ} {line wrap raw width : ℕ} {r : Explained} {entry cause : List ℕ} → v ≡ Accepted
     → MissingFound cs s line wrap raw width r entry cause → MissingFound (early v ∷ cs) s line wrap raw width r entry cause
-unfolding first early ifPasses
+unfolding firstAnswer early ifPasses
 missing-late z f =
     rw z (record {
       answer = f .answer;
@@ -89,7 +89,7 @@ module _ {s : List ℕ} {line wrap raw width : ℕ} {v : Verdict} {entry₀ caus
       → MissingAnswer s line wrap raw width entry₀ cause₀ r a b
   unfolding explainedOf asked ifPasses
   missing-answered k l ka kb a b =
-      let f : (xs : List ℕ) → first (λ number line. []) xs (early v ∷ openChecks true s line) ≡ first (λ number line. []) xs (missingChecks s line wrap raw width (forOne entry₀) (forOne cause₀)) =
+      let f : (xs : List ℕ) → firstAnswer (λ number line. []) xs (early v ∷ openChecks true s line) ≡ firstAnswer (λ number line. []) xs (missingChecks s line wrap raw width (forOne entry₀) (forOne cause₀)) =
       λ xs. early-nines (λ number line. []) xs v (openChecks true s line) _ _ judged in
       let told = Causes (length (missingAt s line wrap raw width)) (columnsAt s line) in
       record {

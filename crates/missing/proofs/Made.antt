@@ -14,7 +14,7 @@ use Rattle.records.specs.declared.Entry.{Entry}
 use Rattle.records.specs.declared.Row.{Row}
 use Rattle.columns.specs.Boxes.{Box, flat, TilesAll}
 use Rattle.columns.specs.Columns.{sizeOf, leastOf, largest}
-use Rattle.cells.specs.Listed.{heldRows}
+use Rattle.cells.specs.Listed.{tableRows}
 use Rattle.grid.proofs.GridFacts.{grid-entries, grid-columns}
 use Rattle.gridding.specs.Packed.{TableReady, TableMade}
 use Rattle.gridding.specs.declared.Counts.{Counts}
@@ -63,7 +63,7 @@ module _ (es : List Entry) (figures : List Estimate) (rows : List (List Box)) (e
 -- ---- the table in a line
 
 module _ {ks : List Kept} {line : ℕ} (a : Asked ks line) {figures : List Estimate} (m : AllMeasured ks figures) (entries rows : List ℕ) {counts : Counts}
-    (w : TableMade (heldRows ks (line - 1)) counts (entriesOf entries) (rowsOf rows)) (he : maxEntries ≤ length entries / 3) (hr : maxLines ≤ length rows / 2)
+    (w : TableMade (tableRows ks (line - 1)) counts (entriesOf entries) (rowsOf rows)) (he : maxEntries ≤ length entries / 3) (hr : maxLines ≤ length rows / 2)
     {width : ℕ} (small : width ≤ maxSize) {entry₀ cause₀ : List ℕ} (room : ExplainRoom entry₀ cause₀) where
   abbrev es : List Entry
   es = entriesOf entries
@@ -83,14 +83,14 @@ module _ {ks : List Kept} {line : ℕ} (a : Asked ks line) {figures : List Estim
   front-count = length-take-le (counts .columns) cause₀ (layable .column-in)
 
   few : counts .entries ≤ maxEntries
-  few = omega (arith, w .entries-are, grid-entries (heldRows ks (line - 1)) (a .sound))
+  few = omega (arith, w .entries-are, grid-entries (tableRows ks (line - 1)) (a .sound))
 
   pub made-ready : FrontReady (counts .entries) (counts .columns) es figures entry₀ cause₀
   made-ready =
       record {
         entries-in = layable .entries-in;
         entries-few = few;
-        columns-few = omega (arith, w .columns-are, grid-columns (heldRows ks (line - 1)) (a .sound));
+        columns-few = omega (arith, w .columns-are, grid-columns (tableRows ks (line - 1)) (a .sound));
         entry-in = layable .x-in;
         cause-in = layable .column-in;
         entered = rw front-count at (entered (layable .table));

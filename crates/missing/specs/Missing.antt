@@ -3,7 +3,7 @@ use mathlib.Core.Path.{_≡_}
 use mathlib.Core.List.{List, [], _∷_, _++_}
 use Prim.Native.Nat.{ℕ}
 use lib.ListN.{length}
-use Rattle.lists.specs.Refusals.{Check, first}
+use Rattle.lists.specs.Refusals.{Check, firstAnswer}
 use Rattle.sheet.specs.Sheet.{sheetChecks}
 use Rattle.arguments.specs.Arguments.{missingArguments}
 use Rattle.opening.specs.Opening.{keptLines, lineCheck}
@@ -22,7 +22,7 @@ missingChecks s line wrap raw width entries columns =
 -- how many entries are missing, and how many columns there are
 unfoldable pub explainedOf : List ℕ → ℕ → ℕ → ℕ → ℕ → List ℕ → List ℕ → Explained
 explainedOf s line wrap raw width entries columns =
-    first Refused (Causes (length (missingAt s line wrap raw width)) (columnsAt s line)) (missingChecks s line wrap raw width entries columns)
+    firstAnswer Refused (Causes (length (missingAt s line wrap raw width)) (columnsAt s line)) (missingChecks s line wrap raw width entries columns)
 
 -- the length of the buffer that is lent for entries or for columns
 abbrev pub forOne : List ℕ → List ℕ

@@ -7,10 +7,10 @@ use native.Mathlib.Omega.{arith}
 use lib.Dec.{leb, eqb}
 use lib.ListN.{length, getD}
 use borrow.Author.Tests.{not-true, not-false, le-leb, lt-leb, leb-true, eqb-true}
-use Rattle.lists.specs.Refusals.{Check, first, verdictOf}
+use Rattle.lists.specs.Refusals.{Check, firstAnswer, verdictOf}
 use Rattle.lists.specs.declared.Verdict.{Verdict}
 use Rattle.lists.specs.declared.Verdict.the-variants.{Accepted, Refused as Refuses}
-use Rattle.line.specs.Kinds.{tableKind}
+use Rattle.kinds.specs.Kinds.{tableKind}
 use Rattle.records.specs.Kept.{noKept}
 use Rattle.records.specs.declared.Kept.{Kept}
 use Rattle.records.specs.declared.Place.{Place}
@@ -45,13 +45,13 @@ module _ (ks : List Kept) (line : ℕ) where
   unasked asks e = rw e
 
 module _ {A : Type 0} (refused : ℕ → ℕ → A) (accepted : A) (ks : List Kept) (line : ℕ) where
-  amiss : (asks : Bool) → asksAmiss asks ks line ≡ true → first refused accepted (asked asks ks line) ≡ refused 10 0
-  unfolding asksAmiss asked first
+  amiss : (asks : Bool) → asksAmiss asks ks line ≡ true → firstAnswer refused accepted (asked asks ks line) ≡ refused 10 0
+  unfolding asksAmiss asked firstAnswer
   amiss true h = rw (not-true (isTable ks line) h)
   amiss false h = let z : _≡_ {A = ℕ} 0 1 = cc in absurd (omega arith)
 
-  apt : (asks : Bool) → asksAmiss asks ks line ≡ false → first refused accepted (asked asks ks line) ≡ first refused accepted (tablesChecks 1 ks)
-  unfolding asksAmiss asked first
+  apt : (asks : Bool) → asksAmiss asks ks line ≡ false → firstAnswer refused accepted (asked asks ks line) ≡ firstAnswer refused accepted (tablesChecks 1 ks)
+  unfolding asksAmiss asked firstAnswer
   apt true h = rw (not-false (isTable ks line) h)
   apt false h = refl
 
@@ -73,7 +73,7 @@ abbrev pub toldAs : ℕ → Verdict → Reading
 toldAs n Accepted = Lines n
 toldAs n (Refuses number line) = Refused number line
 
-told-first : (n : ℕ) (cs : List Check) → toldAs n (verdictOf cs) ≡ first Refused (Lines n) cs
+told-first : (n : ℕ) (cs : List Check) → toldAs n (verdictOf cs) ≡ firstAnswer Refused (Lines n) cs
 unfolding verdictOf
 told-first n cs = first-told (toldAs n) Refuses Accepted cs
 

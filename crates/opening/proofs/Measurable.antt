@@ -8,9 +8,10 @@ use native.Mathlib.Omega.{arith}
 use lib.ListN.{length, getD, take, length-map}
 use lib.Seq.{take-at}
 use Rattle.lists.specs.Lists.{sum}
+use Rattle.lists.proofs.All.{at-all}
 use Rattle.text.specs.Decimal.{shift}
 use Rattle.text.specs.declared.Estimate.{Estimate}
-use Rattle.line.specs.Kinds.{headKind, olKind}
+use Rattle.kinds.specs.Kinds.{headKind, olKind}
 use Rattle.line.specs.Fields.{Line, noLine, ownSize}
 use Rattle.records.specs.Kept.{noKept, keptCount, keptsOf, placesOf, keptColumns}
 use Rattle.records.specs.declared.Kept.{Kept}
@@ -22,13 +23,10 @@ use Rattle.sheet.specs.declared.Reading.{Reading}
 use Rattle.sheet.specs.declared.Reading.the-variants.{Lines, Refused}
 use Rattle.sheet.proofs.Nests.{lines-ranged, accepted-nested}
 use Rattle.sheet.proofs.Bounds.{accepted-room, accepted-own}
-use Rattle.cells.specs.Listed.{heldRows}
-use Rattle.cells.proofs.Facts.{every-at}
+use Rattle.cells.specs.Listed.{tableRows}
 use Rattle.grid.specs.Facts.{Sound}
 use Rattle.grid.proofs.GridFacts.{grid-within, grid-columns, held-spanned}
 use Rattle.judge.specs.Places.{TablesKept}
-use Rattle.judge.proofs.JudgeLoop.{rows-here}
-use Rattle.judge.proofs.KeptFacts.{kept-rows}
 use Rattle.estimates.specs.Estimates.{measured, estOf, estimates}
 use Rattle.estimates.specs.Held.{noEntry, GridFacts, Held, AllGrids}
 use Rattle.estimates.specs.Sheet.{ownOf, Sheet}
@@ -53,7 +51,7 @@ owns-same : (ls : List Line) → map ownOf (map keptOf ls) ≡ map ownSize ls
 owns-same [] = refl
 owns-same (l ∷ ls) = ap (λ (xs : List ℕ). ownSize l ∷ xs) (owns-same ls)
 
-sheet-of : (s : List ℕ) (n : ℕ) → readingOf s ≡ Lines n → Sheet (keptLines s)
+pub sheet-of : (s : List ℕ) (n : ℕ) → readingOf s ≡ Lines n → Sheet (keptLines s)
 sheet-of s n e =
     let z = accepted-nested s n e in
     let ls = sheetLines s in
@@ -76,19 +74,19 @@ sheet-of s n e =
 
 -- ---- the grids
 
-grid-facts : (ks : List Kept) (t : ℕ) → Sound (heldRows ks t) → GridFacts (heldRows ks t)
+grid-facts : (ks : List Kept) (t : ℕ) → Sound (tableRows ks t) → GridFacts (tableRows ks t)
 grid-facts ks t z =
-    let all = grid-within (heldRows ks t) z (held-spanned ks t) in
-    record { wide = λ k h. every-at all noEntry k h .0; ends = λ k h. every-at all noEntry k h .1; few = grid-columns (heldRows ks t) z }
+    let all = grid-within (tableRows ks t) z (held-spanned ks t) in
+    record { wide = λ k h. at-all _ noEntry _ k all h .0; ends = λ k h. at-all _ noEntry _ k all h .1; few = grid-columns (tableRows ks t) z }
 
 module _ {ks : List Kept} {ps : List Place} (k : TablesKept ks ps) where
   all-grids : AllGrids ks
-  all-grids t h e = rw (rows-here ks t h) (grid-facts ks t (k .table t h e .sound))
+  all-grids t h e = grid-facts ks t (k .table t h e .sound)
 
   held-of : Held ks ps
   held-of = record {
-    columns = λ t h e. ap keptColumns (kept-rows k t h e .shape);
-    cells = λ t h e i l f. every-at (kept-rows k t h e .entries) noEntry i l f;
+    columns = λ t h e. ap keptColumns (k .table t h e .shape);
+    cells = λ t h e i l f. at-all _ noEntry _ i (k .table t h e .entries) l f;
   }
 
 -- ---- a sheet

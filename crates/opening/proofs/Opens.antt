@@ -5,7 +5,7 @@ use mathlib.Core.List.{List, _++_}
 use Prim.Native.Nat.{ℕ}
 use native.Mathlib.Omega.{arith}
 use lib.ListN.{length, take}
-use Rattle.lists.specs.Refusals.{first, passes}
+use Rattle.lists.specs.Refusals.{firstAnswer, passes}
 use Rattle.records.specs.Kept.{keptsOf, placesOf}
 use Rattle.sheet.specs.Sheet.{sheetLines, sheetChecks}
 use Rattle.sheet.specs.Reading.{readingOf, Reads}
@@ -74,7 +74,7 @@ module _ {asks : Bool} {s : List ℕ} {line : ℕ} {lines places : List ℕ} {q 
       let t : TablesOpened asks line (keptLines s) r (placesOf places) = rw (w .stored n e) at t₀ in
       let answer : r ≡ openedOf asks s line
       = t .answer
-      ∙ ap (λ (m : ℕ). first Refused (Lines m) (asked asks (keptLines s) line)) (sym (kept-count s n a) ∙ accepted-lines s n a .0)
+      ∙ ap (λ (m : ℕ). firstAnswer Refused (Lines m) (asked asks (keptLines s) line)) (sym (kept-count s n a) ∙ accepted-lines s n a .0)
       ∙ sym (accepted-leaves Refused (Lines (length (sheetLines s))) s n (asked asks (keptLines s) line) a) in
       record {
         answer = answer;

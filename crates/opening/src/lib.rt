@@ -24,7 +24,7 @@ fn is_table(lines: &[u32], line: u32) -> bool
         return false;
     }
     let here = records::kept_at(lines, at);
-    here.kind == line::kinds::TABLE
+    here.kind == kinds::TABLE
 }
 
 // Whether a line is asked for that is no table.

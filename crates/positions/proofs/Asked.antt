@@ -17,7 +17,7 @@ use Rattle.records.specs.Kept.{noKept}
 use Rattle.records.specs.declared.Kept.{Kept}
 use Rattle.cells.specs.Cells.{Cell, Frame, frame, bodiesOf, widest, resolveRow, fillBody, taken, cutCell, cutRow, cutBody, resolveBody, resolved}
 use Rattle.cells.specs.Cells as cells
-use Rattle.cells.specs.Listed.{allCells, heldRows}
+use Rattle.cells.specs.Listed.{allCells, tableRows}
 use Rattle.cells.proofs.Rows.{cells-append, kept-resolved, length-body}
 use Rattle.cells.proofs.Facts.{rows-few}
 use Rattle.rows.specs.Row.{Item, itemOf, hangs, nexts}
@@ -173,8 +173,8 @@ module _ (weight : Kept → ℕ) (d : ℕ) where
 -- no table has more entries than its lines ask for, where each that is a cell asks for its rows, and with rows 0 for as many as there can be
 pub held-asked : (weight : Kept → ℕ) (ks : List Kept) (at : ℕ) → length ks ≤ maxLines
     → AtCells (λ l. askedBy (l .rows) ≤ weight l) (getD ks at noKept .depth) (drop (at + 1) ks)
-    → entryCount (allRows (heldRows ks at)) ≤ sum (map weight (drop (at + 1) ks))
-unfolding heldRows
+    → entryCount (allRows (tableRows ks at)) ≤ sum (map weight (drop (at + 1) ks))
+unfolding tableRows
 held-asked weight ks at h a =
     let d = getD ks at noKept .depth in
     let ls = drop (at + 1) ks in

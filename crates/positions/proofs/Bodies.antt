@@ -11,14 +11,15 @@ use native.Mathlib.Omega.{arith}
 use lib.Dec.{eqb}
 use lib.ListN.{length, getD}
 use borrow.Author.Tests.{eq-eqb}
-use Rattle.lists.specs.Lists.{mem}
+use Rattle.lists.specs.Lists.{mem, All}
+use Rattle.lists.proofs.All.{all-map, all-weaken}
 use Rattle.cells.specs.Cells.{Cell, resolveBody, resolved}
 use Rattle.cells.specs.Cells as cells
 use Rattle.cells.specs.Listed as listed
-use Rattle.cells.specs.Facts.{Every, none, and, Ending}
+use Rattle.cells.specs.Facts.{Ending}
 use Rattle.cells.proofs.Facts.{body-ends, filledRows, resolved-same}
 use Rattle.rows.specs.Row.{Item, itemOf, nexts}
-use Rattle.rows.proofs.Merging.{Each, Filler, Hangs, row-each, nexts-each, nexts-fillers, nexts-hang}
+use Rattle.rows.proofs.Merging.{Filler, Hangs, row-each, nexts-each, nexts-fillers, nexts-hang}
 use Rattle.positions.specs.Positions.{Row, row, originals, hangBelow, allRows}
 use Rattle.positions.proofs.Written.{written}
 use Rattle.positions.proofs.TableFacts.{entries, ownerOf, entries-owners}
@@ -29,21 +30,21 @@ use Rattle.positions.proofs.TableFacts.{entries, ownerOf, entries-owner
 abbrev Within : ℕ → Item → Type 0
 Within n x = x .left ≤ n
 
-cells-within : (n : ℕ) {cs : List Cell} → Every (λ c. (1 ≤ c .rows) × (c .rows ≤ suc n)) cs → Each (Within (suc n)) (map itemOf cs)
-cells-within n none = tt
-cells-within n (and p ps) = (omega (arith, p), cells-within n ps)
+cells-within : (n : ℕ) (cs : List Cell) → All (λ c. (1 ≤ c .rows) × (c .rows ≤ suc n)) cs → All (Within (suc n)) (map itemOf cs)
+cells-within n cs e = all-map (λ c. (1 ≤ c .rows) × (c .rows ≤ suc n)) (Within (suc n)) itemOf (λ c p. omega (arith, p)) cs e
 
-nexts-within : (n : ℕ) (xs : List Item) → Each (Within (suc n)) xs → Each (Within n) (nexts xs)
+nexts-within : (n : ℕ) (xs : List Item) → All (Within (suc n)) xs → All (Within n) (nexts xs)
 nexts-within n xs a = nexts-each (Within (suc n)) (Within n) (λ x m w. omega (arith, w)) xs a
 
-entries-within : (n : ℕ) (hs : List Item) (r : cells.Row) → Each (Within (suc n)) hs → Every (λ c. (1 ≤ c .rows) × (c .rows ≤ suc n)) (r .cells) → Each (Within (suc n)) (entries hs r)
-entries-within n hs r a e = row-each (Within (suc n)) (λ c q w. w) 0 hs (map itemOf (r .cells)) a (cells-within n e)
+entries-within : (n : ℕ) (hs : List Item) (r : cells.Row) → All (Within (suc n)) hs → All (λ c. (1 ≤ c .rows) × (c .rows ≤ suc n)) (r .cells) → All (Within (suc n)) (entries hs r)
+entries-within n hs r a e = row-each (Within (suc n)) (λ c q w. w) 0 hs (map itemOf (r .cells)) a (cells-within n (r .cells) e)
 
-none-left : (hs : List Item) → Each Hangs hs → Each (Within 0) hs → hs ≡ []
+none-left : (hs : List Item) → All Hangs hs → All (Within 0) hs → hs ≡ []
+unfolding All
 none-left [] a b = refl
 none-left (h ∷ hs) a b = absurd (omega (arith, a .0, b .0))
 
-ending-none : (hs : List Item) (rs : List cells.Row) → Each Hangs hs → Each (Within (length rs)) hs → Ending rs → hangBelow hs rs ≡ []
+ending-none : (hs : List Item) (rs : List cells.Row) → All Hangs hs → All (Within (length rs)) hs → Ending rs → hangBelow hs rs ≡ []
 unfolding hangBelow
 ending-none hs [] a b e = none-left hs a b
 ending-none hs (r ∷ rs) a b e =
@@ -51,6 +52,7 @@ ending-none hs (r ∷ rs) a b e =
 
 -- at each body's end nothing hangs
 pub body-none : (b : List cells.Row) → hangBelow [] (resolveBody b) ≡ []
+unfolding All
 body-none b = ending-none [] (resolveBody b) tt tt (body-ends b)
 
 -- ---- rows after rows
@@ -93,7 +95,7 @@ rows-together (b ∷ bs) =
 -- every filler's owner is one of the cells of the rows before it; `above` are the lines of those before the first row
 abbrev pub Owned : List ℕ → List Row → Type 0
 Owned above [] = Unit {0}
-Owned above (r ∷ rs) = Each (λ x. Filler x → mem (x .owner) above ≡ true) (r .items) × Owned (map ownerOf (written (r .items)) ++ above) rs
+Owned above (r ∷ rs) = All (λ x. Filler x → mem (x .owner) above ≡ true) (r .items) × Owned (map ownerOf (written (r .items)) ++ above) rs
 
 mem-here : (x : ℕ) (xs : List ℕ) → mem x (x ∷ xs) ≡ true
 unfolding mem
@@ -115,33 +117,33 @@ mem-behind x (y ∷ xs) ys e = mem-after x y (xs ++ ys) (mem-behind x xs ys e)
 abbrev Known : List ℕ → Item → Type 0
 Known above x = mem (x .owner) above ≡ true
 
-each-known : (xs above : List ℕ) (hs : List Item) → Each (Known above) hs → Each (Known (xs ++ above)) hs
-each-known xs above [] a = tt
-each-known xs above (h ∷ hs) a = (mem-behind (h .owner) xs above (a .0), each-known xs above hs (a .1))
+each-known : (xs above : List ℕ) (hs : List Item) → All (Known above) hs → All (Known (xs ++ above)) hs
+each-known xs above hs a = all-weaken (Known above) (Known (xs ++ above)) (λ h k. mem-behind (h .owner) xs above k) hs a
 
-cells-known : (cs : List Cell) (above : List ℕ) → Each (Known (map listed.cellLine cs ++ above)) (map itemOf cs)
+cells-known : (cs : List Cell) (above : List ℕ) → All (Known (map listed.cellLine cs ++ above)) (map itemOf cs)
+unfolding All
 cells-known [] above = tt
 cells-known (c ∷ cs) above = (mem-here (c .line) (map listed.cellLine cs ++ above), each-known (c .line ∷ []) (map listed.cellLine cs ++ above) (map itemOf cs) (cells-known cs above))
 
 abbrev Shown : List ℕ → Item → Type 0
 Shown above x = Filler x → mem (x .owner) above ≡ true
 
-each-shown : (above : List ℕ) (hs : List Item) → Each (Known above) hs → Each (Shown above) hs
-each-shown above [] a = tt
-each-shown above (h ∷ hs) a = ((λ f. a .0), each-shown above hs (a .1))
+each-shown : (above : List ℕ) (hs : List Item) → All (Known above) hs → All (Shown above) hs
+each-shown above hs a = all-weaken (Known above) (Shown above) (λ h k f. k) hs a
 
-cells-shown : (above : List ℕ) (cs : List Cell) → Each (Shown above) (map itemOf cs)
+cells-shown : (above : List ℕ) (cs : List Cell) → All (Shown above) (map itemOf cs)
+unfolding All
 cells-shown above [] = tt
 cells-shown above (c ∷ cs) = ((λ f. absurd (let z : _≡_ {A = ℕ} 0 1 = cc in omega arith)), cells-shown above cs)
 
-rows-owned : (above : List ℕ) (hs : List Item) (rs : List cells.Row) → Each Filler hs → Each (Known above) hs → Owned above (originals hs rs)
-unfolding originals
+rows-owned : (above : List ℕ) (hs : List Item) (rs : List cells.Row) → All Filler hs → All (Known above) hs → Owned above (originals hs rs)
+unfolding All originals
 rows-owned above hs [] f a = tt
 rows-owned above hs (r ∷ rs) f a =
     let X = entries hs r in
     let lines = map listed.cellLine (r .cells) in
     let e : map ownerOf (written X) ≡ lines = entries-owners hs r f in
-    let k : Each (Known (lines ++ above)) X =
+    let k : All (Known (lines ++ above)) X =
     row-each (Known (lines ++ above)) (λ c q w. w) 0 hs (map itemOf (r .cells)) (each-known lines above hs a) (cells-known (r .cells) above) in (
       row-each (Shown above) (λ c q w. w) 0 hs (map itemOf (r .cells)) (each-shown above hs a) (cells-shown above (r .cells)),
       subst (λ (l : List ℕ). Owned (l ++ above) (originals (nexts X) rs)) (sym e)
@@ -149,14 +151,14 @@ rows-owned above hs (r ∷ rs) f a =
     )
 
 -- in each body every filler's owner is a cell of an earlier row of that body
-pub bodies-owned : (bs : List (List cells.Row)) → Each (Owned []) (bodyRows bs)
-unfolding bodyRows
+pub bodies-owned : (bs : List (List cells.Row)) → All (Owned []) (bodyRows bs)
+unfolding All bodyRows
 bodies-owned [] = tt
 bodies-owned (b ∷ bs) = (rows-owned [] [] (resolveBody b) tt tt, bodies-owned bs)
 
 -- ---- where no cell has rows 0 and no span leaves its body, the rows are those of the cells' rows as they are written, and none are left over
 
-pub rows-same : (bs : List (List cells.Row)) → Every Ending bs → (allRows (resolved bs) ≡ allRows (filledRows bs)) × (hangBelow [] (filledRows bs) ≡ [])
+pub rows-same : (bs : List (List cells.Row)) → All Ending bs → (allRows (resolved bs) ≡ allRows (filledRows bs)) × (hangBelow [] (filledRows bs) ≡ [])
 rows-same bs e =
     let s : resolved bs ≡ filledRows bs = resolved-same bs e in
     (ap (λ (t : List cells.Row). allRows t) s, ap (hangBelow []) (sym s) ∙ table-none bs)
@@ -181,10 +183,6 @@ mem-split x (y ∷ xs) ys e = go (eqb x y) (mem-split x xs ys) e
     go true ih h = inl refl
     go false ih h = ih h
 
-each-weaken : {A : Type 0} (P Q : A → Type 0) → ((x : A) → P x → Q x) → (xs : List A) → Each P xs → Each Q xs
-each-weaken P Q f [] a = tt
-each-weaken P Q f (x ∷ xs) a = (f x (a .0), each-weaken P Q f xs (a .1))
-
 earlier-found : (r : Row) (rs : List Row) (i o : ℕ) (above : List ℕ) → (mem o (map ownerOf (written (r .items)) ++ above) ≡ true) ⊎ Earlier rs i o → (mem o above ≡ true) ⊎ Earlier (r ∷ rs) (suc i) o
 earlier-found r rs i o above (inl h) = by (mem-split o (map ownerOf (written (r .items))) above h)
   where
@@ -194,21 +192,21 @@ earlier-found r rs i o above (inl h) = by (mem-split o (map ownerOf (written (r 
 earlier-found r rs i o above (inr e) = inr (record { place = suc (e .place); before = omega (arith, e .before); there = e .there })
 
 owned-at : (above : List ℕ) (rs : List Row) → Owned above rs → (i : ℕ) → i < length rs
-    → Each (λ x. Filler x → (mem (x .owner) above ≡ true) ⊎ Earlier rs i (x .owner)) (getD rs i noRow .items)
+    → All (λ x. Filler x → (mem (x .owner) above ≡ true) ⊎ Earlier rs i (x .owner)) (getD rs i noRow .items)
 owned-at above [] w i h = absurd (not-suc-le-zero h)
-owned-at above (r ∷ rs) w zero h = each-weaken (Shown above) (λ x. Filler x → (mem (x .owner) above ≡ true) ⊎ Earlier (r ∷ rs) 0 (x .owner)) (λ x s f. inl (s f)) (r .items) (w .0)
+owned-at above (r ∷ rs) w zero h = all-weaken (Shown above) (λ x. Filler x → (mem (x .owner) above ≡ true) ⊎ Earlier (r ∷ rs) 0 (x .owner)) (λ x s f. inl (s f)) (r .items) (w .0)
 owned-at above (r ∷ rs) w (suc i) h =
-    each-weaken (λ x. Filler x → (mem (x .owner) (map ownerOf (written (r .items)) ++ above) ≡ true) ⊎ Earlier rs i (x .owner))
+    all-weaken (λ x. Filler x → (mem (x .owner) (map ownerOf (written (r .items)) ++ above) ≡ true) ⊎ Earlier rs i (x .owner))
     (λ x. Filler x → (mem (x .owner) above ≡ true) ⊎ Earlier (r ∷ rs) (suc i) (x .owner))
     (λ x s f. earlier-found r rs i (x .owner) above (s f)) (getD rs i noRow .items)
     (owned-at (map ownerOf (written (r .items)) ++ above) rs (w .1) i (le-of-suc-le-suc h))
 
 -- a filler in a body's row at place i continues a cell of an earlier row of that body
 pub owner-earlier : (b : List cells.Row) (i : ℕ) → i < length (allRows (resolveBody b))
-    → Each (λ x. Filler x → Earlier (allRows (resolveBody b)) i (x .owner)) (getD (allRows (resolveBody b)) i noRow .items)
-unfolding mem
+    → All (λ x. Filler x → Earlier (allRows (resolveBody b)) i (x .owner)) (getD (allRows (resolveBody b)) i noRow .items)
+unfolding All mem
 owner-earlier b i h =
-    each-weaken (λ x. Filler x → (mem (x .owner) [] ≡ true) ⊎ Earlier (allRows (resolveBody b)) i (x .owner)) (λ x. Filler x → Earlier (allRows (resolveBody b)) i (x .owner))
+    all-weaken (λ x. Filler x → (mem (x .owner) [] ≡ true) ⊎ Earlier (allRows (resolveBody b)) i (x .owner)) (λ x. Filler x → Earlier (allRows (resolveBody b)) i (x .owner))
     (λ x s f. only (x .owner) (s f)) (getD (allRows (resolveBody b)) i noRow .items)
     (owned-at [] (allRows (resolveBody b)) (rows-owned [] [] (resolveBody b) tt tt) i h)
   where

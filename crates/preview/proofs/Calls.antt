@@ -11,7 +11,7 @@ use borrow.Author.Tests.{ltb-false}
 use Rattle.lists.specs.Lists.{padded}
 use Rattle.lists.proofs.Over.{over-front}
 use Rattle.lists.specs.Limits.{maxEntries, maxWrap, maxWidth, maxSize}
-use Rattle.lists.specs.Refusals.{Check, first, passes, verdictOf, ifPasses}
+use Rattle.lists.specs.Refusals.{Check, firstAnswer, passes, verdictOf, ifPasses}
 use Rattle.lists.specs.declared.Verdict.{Verdict}
 use Rattle.lists.specs.declared.Verdict.the-variants.{Accepted, Refused as Refuses}
 use Rattle.sheet.proofs.First.{neither, first-append, first-accepts, first-refuses, first-told, passes-both, accepted-passes}
@@ -38,34 +38,34 @@ use Rattle.preview.specs.inner.Said.{RowFits, SpotFits, SpotRoom, pointe
 
 module _ {A : Type 0} (refused : ℕ → ℕ → A) where
   -- what is accepted matters only where all pass
-  first-agree : (a b : A) (cs : List Check) → (passes cs ≡ true → a ≡ b) → first refused a cs ≡ first refused b cs
+  first-agree : (a b : A) (cs : List Check) → (passes cs ≡ true → a ≡ b) → firstAnswer refused a cs ≡ firstAnswer refused b cs
   first-agree a b cs h = go (passes cs) refl
     where
-      go : (p : Bool) → passes cs ≡ p → first refused a cs ≡ first refused b cs
-      go true e = ap (λ (z : A). first refused z cs) (h e)
+      go : (p : Bool) → passes cs ≡ p → firstAnswer refused a cs ≡ firstAnswer refused b cs
+      go true e = ap (λ (z : A). firstAnswer refused z cs) (h e)
       go false e = first-refuses refused a b cs e
 
   -- a verdict that was asked for before the rest
-  first-early : (a : A) (args ds : List Check) → first refused a (early (verdictOf args) ∷ ds) ≡ first refused a (args ++ ds)
-  unfolding first verdictOf early
+  first-early : (a : A) (args ds : List Check) → firstAnswer refused a (early (verdictOf args) ∷ ds) ≡ firstAnswer refused a (args ++ ds)
+  unfolding firstAnswer verdictOf early
   first-early a [] ds = refl
   first-early a (c ∷ args) ds = go (c .applies) (first-early a args ds)
     where
-      go : (b : Bool) → first refused a (early (first Refuses Accepted args) ∷ ds) ≡ first refused a (args ++ ds)
-          → first refused a (early (cond b (Refuses (c .number) (c .line)) (first Refuses Accepted args)) ∷ ds)
-          ≡ cond b (refused (c .number) (c .line)) (first refused a (args ++ ds))
+      go : (b : Bool) → firstAnswer refused a (early (firstAnswer Refuses Accepted args) ∷ ds) ≡ firstAnswer refused a (args ++ ds)
+          → firstAnswer refused a (early (cond b (Refuses (c .number) (c .line)) (firstAnswer Refuses Accepted args)) ∷ ds)
+          ≡ cond b (refused (c .number) (c .line)) (firstAnswer refused a (args ++ ds))
       go true h = refl
       go false h = h
 
   -- the row is asked last
   row-last : (a : A) (v : Verdict) (args : List Check) (s : List ℕ) (line wrap raw width row : ℕ) → v ≡ verdictOf args
-      → first refused (first refused a (lateCheck s line wrap raw width row ∷ [])) (early v ∷ openChecks true s line)
-      ≡ first refused a (args ++ rowChecks s line wrap raw width row)
+      → firstAnswer refused (firstAnswer refused a (lateCheck s line wrap raw width row ∷ [])) (early v ∷ openChecks true s line)
+      ≡ firstAnswer refused a (args ++ rowChecks s line wrap raw width row)
   unfolding asked
   row-last a v args s line wrap raw width row e =
       let late = lateCheck s line wrap raw width row ∷ [] in
       sym (first-append refused a (early v ∷ openChecks true s line) late)
-      ∙ ap (λ (w : Verdict). first refused a (early w ∷ (openChecks true s line ++ late))) e
+      ∙ ap (λ (w : Verdict). firstAnswer refused a (early w ∷ (openChecks true s line ++ late))) e
       ∙ first-early a args (openChecks true s line ++ late)
 
 -- ---- the arguments
@@ -101,15 +101,15 @@ module _ (v : Verdict) {s : List ℕ} {line wrap raw width row : ℕ} {r : Spot}
 
   -- what is said of it, where all checks pass
   said : {A : Type 0} (f : Spot → A) (a : A) (args : List Check) → v ≡ verdictOf args → (Told → f there ≡ a)
-      → f r ≡ first (λ number at. f (Refused number at)) a (args ++ rowChecks s line wrap raw width row)
+      → f r ≡ firstAnswer (λ number at. f (Refused number at)) a (args ++ rowChecks s line wrap raw width row)
   unfolding spotIn
   said f a args judged same =
       let cs = early v ∷ openChecks true s line in
       let late = lateCheck s line wrap raw width row ∷ [] in
       ap f (found .answer)
       ∙ first-told f Refused (spotIn (wayAt s line wrap raw width) (rowsAt s line) row) cs
-      ∙ first-agree (λ number at. f (Refused number at)) _ (first (λ number at. f (Refused number at)) a late) cs
-      (λ p. first-told f Refused there late ∙ ap (λ (z : _). first (λ number at. f (Refused number at)) z late) (same (found .told p)))
+      ∙ first-agree (λ number at. f (Refused number at)) _ (firstAnswer (λ number at. f (Refused number at)) a late) cs
+      (λ p. first-told f Refused there late ∙ ap (λ (z : _). firstAnswer (λ number at. f (Refused number at)) z late) (same (found .told p)))
       ∙ row-last (λ number at. f (Refused number at)) a v args s line wrap raw width row judged
 
   -- a row is found only if all checks pass

@@ -11,7 +11,7 @@ use lib.ListN.{length, getD, length-map, List·getD-eq-default}
 use borrow.Author.Tests.{not-false, ltb-false, leb-false, le-ltb, lt-leb}
 use Rattle.lists.specs.Lists.{padded}
 use Rattle.lists.specs.Limits.{maxWrap, maxWidth, maxEntries}
-use Rattle.lists.specs.Refusals.{Check, first, passes}
+use Rattle.lists.specs.Refusals.{Check, firstAnswer, passes}
 use Rattle.sheet.specs.Sheet.{sheetChecks}
 use Rattle.sheet.proofs.First.{neither, both-true, passes-cons, passes-both, passes-append, first-passes, figures-pass, accepted-passes, passes-accepted}
 use Rattle.widths.specs.Share.{shares}
@@ -46,7 +46,7 @@ pass-append : (cs ds : List Check) → passes cs ≡ true → passes ds ≡ true
 pass-append cs ds p q = passes-append cs ds ∙ (rw (p, q))
 
 pass-nil : passes [] ≡ true
-unfolding passes first
+unfolding passes firstAnswer
 pass-nil = refl
 
 side-way : (way : Way) → goesDown way ≡ false → way ≡ Sideways

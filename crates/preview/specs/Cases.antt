@@ -4,26 +4,27 @@ use mathlib.Core.List.{List, [], _∷_, _++_}
 use Prim.Native.Nat.{ℕ}
 use Prim.Native.String.{String}
 use Rattle.lists.specs.Lists.{sum, mem}
-use Rattle.lists.specs.Refusals.{first}
+use Rattle.lists.specs.Refusals.{firstAnswer}
 use Rattle.text.specs.Bytes.{classOf}
 use Rattle.text.specs.Text.{textSize, readable, trimStart, trimEnd, widths, runs, begins}
 use Rattle.text.specs.Decimal.{shifted, writing, digits, digitsIn}
 use Rattle.text.specs.Prefix.{lastNumber, olPrefix}
-use Rattle.line.specs.Kinds.{same, place, kindOf, mayHold}
-use Rattle.line.specs.Lines.{feed, feeds, pieces, headed}
-use Rattle.line.specs.Names.{word, firstCodes}
-use Rattle.line.specs.Numbers.{allDigits, valueFrom, isNatural, naturalOf, negativeOf, numberOf}
-use Rattle.line.specs.Fields.{untilBlank, thenNumber, thenKind, parse, nFits, spansFit, textFits, fits, readParsed, readLine, ownSize}
+use Rattle.kinds.specs.Kinds.{same, place, kindOf, mayHold}
+use Rattle.fields.specs.Lines.{feed, feeds, pieces, headed}
+use Rattle.kinds.specs.Names.{word, firstCodes}
+use Rattle.fields.specs.Numbers.{allDigits, valueFrom, isNatural, naturalOf, negativeOf, numberOf}
+use Rattle.fields.specs.Blanks.{untilBlank}
+use Rattle.line.specs.Fields.{thenNumber, thenKind, parse, nFits, spansFit, textFits, fits, readParsed, readLine, ownSize}
 use Rattle.sheet.specs.Nesting.{nearest, depthFits, placeFits, childless}
 use Rattle.sheet.specs.Sheet.{sheetChecks, linesChecks, linesOf, emptyChecks, sheetLines}
 use Rattle.columns.specs.Boxes.{flat}
 use Rattle.columns.specs.Columns.{upTo, sumAt, largestAt}
 use Rattle.edges.specs.Edges.{countBelow, endsFrom}
 use Rattle.cells.specs.Cells.{frame, rowSum, widest, resolveRow, fillBody, cutRow, cutBody, resolveBody, resolved}
-use Rattle.cells.specs.Listed.{heldRows}
+use Rattle.cells.specs.Listed.{tableRows}
 use Rattle.rows.specs.Row.{fillers, later, rowFrom, hangOf, nexts}
 use Rattle.positions.specs.Positions.{entryCount, originals, endsPast}
-use Rattle.grid.specs.Grid.{endsOf, entriesFrom, longest, gridOf, columnsOf, tableChecks, tableRows, tablesChecks}
+use Rattle.grid.specs.Grid.{endsOf, entriesFrom, longest, gridOf, columnsOf, tableChecks, tablesChecks}
 use Rattle.estimates.specs.Estimates.{measured, estimateOf, leafOf, holderOf, gather, prefixOf, boxOf, tabled}
 use Rattle.cutting.specs.Cut.{pick, cutOnce, cutBy, cut}
 use Rattle.widths.specs.Share.{share, sharesOf}
@@ -101,7 +102,7 @@ pub record Pointings : Type 0 where
   pub no-gap : joinedOf gapped 1 3 0 9 0 3 ≡ joining.Character Plain
 
 pub pointings : Pointings
-unfolding firstCodes sum mem first classOf textSize readable trimStart trimEnd widths runs begins shifted writing digits digitsIn lastNumber olPrefix same place kindOf mayHold feeds pieces headed allDigits valueFrom isNatural naturalOf negativeOf numberOf untilBlank thenNumber thenKind parse nFits spansFit textFits fits readParsed readLine ownSize nearest depthFits placeFits childless sheetChecks linesChecks linesOf emptyChecks sheetLines flat upTo sumAt largestAt countBelow endsFrom frame rowSum widest resolveRow resolveBody fillBody cutRow cutBody resolved heldRows fillers later rowFrom hangOf nexts originals endsOf entriesFrom longest gridOf columnsOf endsPast entryCount tableChecks tableRows tablesChecks measured estimateOf leafOf holderOf gather prefixOf boxOf tabled pick cutOnce cutBy cut share sharesOf wayOf finalWidths nonzero tableWidth placeSide placeDown placeRow placeRows isTable anyShorter entriesOf somePrinted gapBefore pointed isGap gapAt listed jointOf goesDown pointedIn pointedOf listedOf joinedOf
+unfolding firstCodes sum mem firstAnswer classOf textSize readable trimStart trimEnd widths runs begins shifted writing digits digitsIn lastNumber olPrefix same place kindOf mayHold feeds pieces headed allDigits valueFrom isNatural naturalOf negativeOf numberOf untilBlank thenNumber thenKind parse nFits spansFit textFits fits readParsed readLine ownSize nearest depthFits placeFits childless sheetChecks linesChecks linesOf emptyChecks sheetLines flat upTo sumAt largestAt countBelow endsFrom frame rowSum widest resolveRow resolveBody fillBody cutRow cutBody resolved tableRows fillers later rowFrom hangOf nexts originals endsOf entriesFrom longest gridOf columnsOf endsPast entryCount tableChecks tablesChecks measured estimateOf leafOf holderOf gather prefixOf boxOf tabled pick cutOnce cutBy cut share sharesOf wayOf finalWidths nonzero tableWidth placeSide placeDown placeRow placeRows isTable anyShorter entriesOf somePrinted gapBefore pointed isGap gapAt listed jointOf goesDown pointedIn pointedOf listedOf joinedOf
 pointings =
     record {
       first-cell = refl;

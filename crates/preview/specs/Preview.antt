@@ -4,7 +4,7 @@ use mathlib.Core.Path.{_≡_}
 use mathlib.Core.List.{List, [], _∷_, _++_}
 use Prim.Native.Nat.{ℕ, _+_}
 use lib.ListN.{length}
-use Rattle.lists.specs.Refusals.{Check, first}
+use Rattle.lists.specs.Refusals.{Check, firstAnswer}
 use Rattle.sheet.specs.Sheet.{sheetChecks}
 use Rattle.pointing.specs.Point.{pointed, listed, joined}
 use Rattle.pointing.specs.declared.Under.{Under}
@@ -49,7 +49,7 @@ pointedIn under.Nothing = Nothing
 -- what lies at the column x of the row
 unfoldable pub pointedOf : List ℕ → ℕ → ℕ → ℕ → ℕ → ℕ → ℕ → Pointed
 pointedOf s line wrap raw width row x =
-    first Refused (pointedIn (pointed (rowStart s line row) x (rowPlaces s line wrap raw width row))) (pointChecks s line wrap raw width row)
+    firstAnswer Refused (pointedIn (pointed (rowStart s line row) x (rowPlaces s line wrap raw width row))) (pointChecks s line wrap raw width row)
 
 -- ---- `within`
 
@@ -60,7 +60,7 @@ listedAt s line wrap raw width row from to = listed (rowStart s line row) from t
 -- how many they are
 unfoldable pub listedOf : List ℕ → ℕ → ℕ → ℕ → ℕ → ℕ → ℕ → ℕ → List ℕ → Listed
 listedOf s line wrap raw width row from to entries =
-    first listing.Refused (listing.Entries (length (listedAt s line wrap raw width row from to))) (withinChecks s line wrap raw width row entries)
+    firstAnswer listing.Refused (listing.Entries (length (listedAt s line wrap raw width row from to))) (withinChecks s line wrap raw width row entries)
 
 -- the length of the lent buffer
 abbrev pub forOne : List ℕ → List ℕ
@@ -80,7 +80,7 @@ pub record WithinAnswer (s : List ℕ) (line wrap raw width row from to : ℕ) (
 -- the joining character at the column x between the row and the next; below the last row stands no gap
 unfoldable pub joinedOf : List ℕ → ℕ → ℕ → ℕ → ℕ → ℕ → ℕ → Joined
 joinedOf s line wrap raw width row x =
-    first joining.Refused (joining.Character (joined x (rowPlaces s line wrap raw width row) (rowPlaces s line wrap raw width (row + 1))))
+    firstAnswer joining.Refused (joining.Character (joined x (rowPlaces s line wrap raw width row) (rowPlaces s line wrap raw width (row + 1))))
     (pointChecks s line wrap raw width row)
 
 -- ---- the answers in numbers

@@ -1,10 +1,10 @@
 // A line for each column of a table: its size, its least width, its share, its final width and its cause.
-ghost use Rattle.listing.specs.Listing.{Place};
+ghost use Rattle.writing.specs.Writing.{Place};
 ghost use Rattle.reasons.specs.inner.Figured.{Figured};
 use causes::Cause;
-use listing::lines::number;
-use listing::lines::words;
 use widths::Way;
+use writing::lines::number;
+use writing::lines::words;
 
 // Puts the word of a cause, and ends the line.
 fn word(out: &mut [u8], at: usize, cause: Cause) -> usize

@@ -8,13 +8,13 @@ ghost use Rattle.lists.specs.Limits.{maxEntries};
 ghost use Rattle.records.specs.Kept.{entriesOf};
 ghost use Rattle.estimates.specs.inner.Figures.{figuresOf};
 ghost use Rattle.causes.specs.inner.Telling.{Tellable};
-ghost use Rattle.listing.specs.Listing.{Place};
+ghost use Rattle.writing.specs.Writing.{Place};
 ghost use Rattle.reasons.specs.inner.Figured.{Figured};
 use columns_told::columns;
-use listing::layouts::heading;
 use losses::losses;
 use settings::Given;
 use widths::Laid;
+use writing::tables::heading;
 
 // Puts what is told of a table, whose columns' figures are told already.
 fn shown(

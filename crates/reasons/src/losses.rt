@@ -2,12 +2,12 @@
 ghost use Prim.Native.Nat.{_≤_, _/_};
 ghost use lib.ListN.{length};
 ghost use Rattle.lists.specs.Limits.{maxEntries};
-ghost use Rattle.listing.specs.Listing.{Place};
+ghost use Rattle.writing.specs.Writing.{Place};
 use super::columns_told::four_spaced;
-use listing::lines::number;
-use listing::lines::two;
-use listing::lines::words;
 use records::Entry;
+use writing::lines::number;
+use writing::lines::two;
+use writing::lines::words;
 
 // Whether all columns of an entry are 0 wide.
 fn is_missing(wide: &[u32], e: Entry) -> bool {

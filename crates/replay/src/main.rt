@@ -3,9 +3,9 @@
 ghost use mathlib.Core.Path.{_≡_};
 ghost use Prim.Native.Nat.{_+_, _-_, _*_, _≤_};
 ghost use lib.ListN.{length};
-ghost use Rattle.listing.specs.Listing.{Place};
+ghost use Rattle.writing.specs.Writing.{Place};
 ghost use Rattle.replay.specs.Frames.{Within};
-use listing::lines;
+use writing::lines;
 
 const INPUT_BYTES: usize = 1048576;
 

@@ -6,9 +6,9 @@ use mathlib.Core.List.{List}
 use Prim.Native.Nat.{ℕ}
 use lib.ListN.{length, drop}
 use Rattle.lists.specs.Limits.{maxWrap, maxWidth}
-use Rattle.line.specs.Lines.{feed}
-use Rattle.line.specs.declared.FieldRead.{FieldRead}
-use Rattle.line.specs.declared.FieldRead.the-variants.{Sound, Unsound}
+use Rattle.fields.specs.Lines.{feed}
+use Rattle.fields.specs.declared.FieldRead.{FieldRead}
+use Rattle.fields.specs.declared.FieldRead.the-variants.{Sound, Unsound}
 use Rattle.settings.specs.Settings.{settingsHeading, settingsIn, settingsOf}
 use Rattle.settings.specs.Reading.{startsWith, settingRead}
 use Rattle.settings.specs.declared.Settled.the-variants.{Set, Malformed}

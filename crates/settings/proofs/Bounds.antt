@@ -9,9 +9,9 @@ use lib.ListN.{length, take, drop}
 use borrow.Author.Tests.{leb-true}
 use Rattle.lists.specs.Limits.{maxWrap, maxWidth}
 use Rattle.text.specs.Decimal.{plain, minus}
-use Rattle.line.specs.Kinds.{same}
-use Rattle.line.specs.Lines.{feed}
-use Rattle.line.specs.Numbers.{Numeral, numeral, unwritten, numberOf}
+use Rattle.kinds.specs.Kinds.{same}
+use Rattle.fields.specs.Lines.{feed}
+use Rattle.fields.specs.Numbers.{Numeral, numeral, unwritten, numberOf}
 use Rattle.settings.specs.Settings.{Part, part, unstopped, until, withPart, withNumeral, thenSetting, settingsHeading, settingsIn, settingsOf}
 use Rattle.settings.specs.declared.Given.{Given}
 use Rattle.settings.specs.declared.Settled.{Settled}
@@ -23,29 +23,29 @@ pub record InRange (all : ℕ) (g : Given) : Type 0 where
   pub width : g .width ≤ maxWidth
   pub sheet : g .sheet ≤ all
 
-abbrev Sound : ℕ → Settled → Type 0
-Sound all (Set g) = InRange all g
-Sound all Malformed = Unit {0}
+abbrev SettledIn : ℕ → Settled → Type 0
+SettledIn all (Set g) = InRange all g
+SettledIn all Malformed = Unit {0}
 
-module _ (all most : ℕ) (f : ℕ → List ℕ → Settled) (h : (v : ℕ) (r : List ℕ) → v ≤ most → Sound all (f v r)) where
-  sound-numeral : (x : Numeral) (r : List ℕ) → Sound all (withNumeral x most (λ n. f n r))
+module _ (all most : ℕ) (f : ℕ → List ℕ → Settled) (h : (v : ℕ) (r : List ℕ) → v ≤ most → SettledIn all (f v r)) where
+  sound-numeral : (x : Numeral) (r : List ℕ) → SettledIn all (withNumeral x most (λ n. f n r))
   sound-numeral unwritten r = tt
   sound-numeral (numeral (minus v)) r = tt
   sound-numeral (numeral (plain v)) r = go (leb v most) refl
     where
-      go : (t : Bool) → leb v most ≡ t → Sound all (cond t (f v r) Malformed)
+      go : (t : Bool) → leb v most ≡ t → SettledIn all (cond t (f v r) Malformed)
       go true e = h v r (leb-true v most e)
       go false e = tt
 
-  sound-part : (x : Part) → Sound all (withPart x (λ b r. withNumeral (numberOf b) most (λ n. f n r)))
+  sound-part : (x : Part) → SettledIn all (withPart x (λ b r. withNumeral (numberOf b) most (λ n. f n r)))
   sound-part (part b r) = sound-numeral (numberOf b) r
   sound-part unstopped = tt
 
-  sound-setting : (stop : ℕ) (s : List ℕ) → Sound all (thenSetting stop most s f)
+  sound-setting : (stop : ℕ) (s : List ℕ) → SettledIn all (thenSetting stop most s f)
   unfolding thenSetting
   sound-setting stop s = sound-part (until stop s)
 
-sound-in : (all : ℕ) (s : List ℕ) → Sound all (settingsIn all s)
+sound-in : (all : ℕ) (s : List ℕ) → SettledIn all (settingsIn all s)
 unfolding settingsIn
 sound-in all s =
     sound-setting all maxWrap _
@@ -58,8 +58,8 @@ sound-in all s =
 
 pub settings-in-range : (s : List ℕ) (g : Given) → settingsOf s ≡ Set g → InRange (length s) g
 unfolding settingsOf
-settings-in-range s g e = subst (Sound (length s)) e (go (same (take 15 s) settingsHeading))
+settings-in-range s g e = subst (SettledIn (length s)) e (go (same (take 15 s) settingsHeading))
   where
-    go : (t : Bool) → Sound (length s) (cond t (settingsIn (length s) (drop 15 s)) Malformed)
+    go : (t : Bool) → SettledIn (length s) (cond t (settingsIn (length s) (drop 15 s)) Malformed)
     go true = sound-in (length s) (drop 15 s)
     go false = tt

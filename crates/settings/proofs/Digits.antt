@@ -1,6 +1,6 @@
 -- A whole field as a number: the turns of the loop over digits, and what its answer, or a 0 at the front, says of the field. Assumes nothing.
 use mathlib.Core.Path.{_≡_, refl, sym, ap, _∙_}
-use mathlib.Core.Bool.{Bool, true, false, not, cond, _&&_, and-true}
+use mathlib.Core.Bool.{Bool, true, false, not, cond, _&&_}
 use mathlib.Core.List.{List, [], _∷_}
 use Prim.Native.Nat.{ℕ, _+_, _-_, _*_, _≤_, _<_}
 use native.Mathlib.Numerals.{add-one}
@@ -8,10 +8,11 @@ use native.Mathlib.Omega.{arith}
 use lib.Dec.{eqb, leb, leb·zero}
 use lib.ListN.{length, getD, drop, drop-of-length-le}
 use lib.Seq.{drop-cons}
-use borrow.Author.Tests.{ne-eqb, eqb-true, le-leb, lt-leb, leb-true, leb-false}
+use borrow.Author.Tests.{eqb-true, le-leb, lt-leb, leb-true, leb-false}
 use Rattle.text.specs.Decimal.{plain, minus}
-use Rattle.line.specs.Numbers.{numeral, unwritten, isDigit, allDigits, valueFrom, isNatural, naturalOf, negativeOf, numberOf}
-use Rattle.line.proofs.OnField.{and-fails}
+use Rattle.fields.specs.Numbers.{numeral, unwritten, isDigit, allDigits, valueFrom, isNatural, naturalOf, negativeOf, numberOf}
+use Rattle.fields.proofs.OnField.{and-fails}
+use Rattle.fields.proofs.Digits.{value-grows, natural-first, natural-digits}
 use Rattle.settings.specs.Reading.{digitsIn, writtenIn}
 use Rattle.settings.specs.declared.Written.{Written}
 use Rattle.settings.specs.declared.Written.the-variants.{Value, Nothing}
@@ -46,12 +47,6 @@ module _ (most v i : ℕ) (s : List ℕ) where
       unfolding digitsIn
       digits-more g = rw (drop-cons s i 0 h, d, le-leb _ _ g) (rw (add-one i))
 
--- digits only make a value larger
-value-grows : (v : ℕ) (f : List ℕ) → v ≤ valueFrom v f
-unfolding valueFrom
-value-grows v [] = omega arith
-value-grows v (b ∷ f) = omega (arith, value-grows (v * 10 + (b - 48)) f)
-
 -- a value that a test lets pass, if it is at most the most
 abbrev bounded : ℕ → Bool → ℕ → Written
 bounded most t v = cond (t && leb v most) (Value v) Nothing
@@ -72,17 +67,6 @@ digits-bounded most v (b ∷ f) h = go (isDigit b) (leb w most) refl (digits-bou
         let past : most < w = leb-false w most e in
         rw (and-fails (allDigits f) _ (lt-leb (valueFrom w f) most (omega (arith, value-grows w f))))
     go true true e more = more (leb-true w most e)
-
--- a byte before digits: no digit, no number
-natural-first : (b : ℕ) (f : List ℕ) → isDigit b ≡ false → isNatural (b ∷ f) ≡ false
-unfolding isNatural
-natural-first b [] e = e
-natural-first b (c ∷ f) e = rw e
-
-natural-digits : (b : ℕ) (f : List ℕ) → (b ≡ 48 → ⊥) → isNatural (b ∷ f) ≡ allDigits (b ∷ f)
-unfolding isNatural allDigits
-natural-digits b [] n = sym (and-true (isDigit b))
-natural-digits b (c ∷ f) n = rw (ne-eqb b 48 n, and-true)
 
 -- a number with a sign is none from 0 on
 natural-written : (most : ℕ) (f : List ℕ) → writtenIn most (numberOf f) ≡ bounded most (isNatural f) (valueFrom 0 f)

@@ -8,9 +8,9 @@ use lib.Dec.{ltb}
 use lib.ListN.{length, take, drop, length-drop}
 use lib.Seq.{drop-drop}
 use borrow.Author.Tests.{ltb-true, lt-ltb, le-ltb}
-use Rattle.line.specs.Numbers.{Numeral, numeral, unwritten, numberOf, upTo, magnitude}
-use Rattle.line.specs.declared.FieldRead.{FieldRead}
-use Rattle.line.specs.declared.FieldRead.the-variants.{Sound, Unsound}
+use Rattle.fields.specs.Numbers.{Numeral, numeral, unwritten, numberOf, upTo, magnitude}
+use Rattle.fields.specs.declared.FieldRead.{FieldRead}
+use Rattle.fields.specs.declared.FieldRead.the-variants.{Sound, Unsound}
 use Rattle.settings.specs.Settings.{part, unstopped, withPart, withNumeral, thenSetting}
 use Rattle.settings.specs.Reading.{countBefore, writtenIn, endedAt, settingRead}
 use Rattle.settings.specs.declared.Settled.{Settled}

@@ -7,7 +7,7 @@ use native.Mathlib.Numerals.{add-one}
 use lib.ListN.{length, getD, take, drop, drop-of-length-le}
 use lib.Seq.{drop-cons}
 use borrow.Author.Tests.{eq-eqb, ne-eqb}
-use Rattle.line.specs.Kinds.{same}
+use Rattle.kinds.specs.Kinds.{same}
 use Rattle.settings.specs.Reading.{startsWith}
 
 module _ (s w : List ℕ) (i : ℕ) where

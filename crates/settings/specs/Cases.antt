@@ -2,8 +2,8 @@
 use mathlib.Core.Path.{_≡_, refl}
 use mathlib.Core.List.{List, [], _∷_, _++_}
 use Prim.Native.Nat.{ℕ}
-use Rattle.line.specs.Kinds.{same}
-use Rattle.line.specs.Numbers.{numberOf, naturalOf, negativeOf, isNatural, allDigits, valueFrom}
+use Rattle.kinds.specs.Kinds.{same}
+use Rattle.fields.specs.Numbers.{numberOf, naturalOf, negativeOf, isNatural, allDigits, valueFrom}
 use Rattle.settings.specs.Settings.{settingsHeading, until, thenSetting, settingsIn, settingsOf}
 use Rattle.settings.specs.declared.Settled.{Settled}
 use Rattle.settings.specs.declared.Settled.the-variants.{Set, Malformed}

@@ -4,9 +4,9 @@ use mathlib.Core.List.{List, [], _∷_}
 use Prim.Native.Nat.{ℕ, suc, _+_, _-_, _*_}
 use lib.Dec.{eqb, leb, ltb}
 use lib.ListN.{length, take}
-use Rattle.line.specs.Numbers.{Numeral, numeral, unwritten, numberOf, isDigit, upTo, magnitude}
-use Rattle.line.specs.declared.FieldRead.{FieldRead}
-use Rattle.line.specs.declared.FieldRead.the-variants.{Sound, Unsound}
+use Rattle.fields.specs.Numbers.{Numeral, numeral, unwritten, numberOf, isDigit, upTo, magnitude}
+use Rattle.fields.specs.declared.FieldRead.{FieldRead}
+use Rattle.fields.specs.declared.FieldRead.the-variants.{Sound, Unsound}
 use Rattle.settings.specs.declared.Written.{Written}
 use Rattle.settings.specs.declared.Written.the-variants.{Value, Nothing}
 

@@ -9,9 +9,9 @@ use Rattle.lists.specs.Limits.{maxWrap, maxWidth}
 use Rattle.lists.specs.declared.Verdict.{Verdict}
 use Rattle.lists.specs.declared.Verdict.the-variants.{Accepted, Refused}
 use Rattle.text.specs.Decimal.{Number}
-use Rattle.line.specs.Kinds.{same}
-use Rattle.line.specs.Lines.{feed}
-use Rattle.line.specs.Numbers.{Numeral, numeral, unwritten, numberOf, upTo, magnitude}
+use Rattle.kinds.specs.Kinds.{same}
+use Rattle.fields.specs.Lines.{feed}
+use Rattle.fields.specs.Numbers.{Numeral, numeral, unwritten, numberOf, upTo, magnitude}
 use Rattle.settings.specs.declared.Given.{Given}
 use Rattle.settings.specs.declared.Settled.{Settled}
 use Rattle.settings.specs.declared.Settled.the-variants.{Set, Malformed}

@@ -2,10 +2,10 @@
 ghost use mathlib.Core.Path.{_≡_};
 ghost use Prim.Native.Nat.{_+_, _-_, _*_, _≤_};
 ghost use lib.ListN.{drop};
-ghost use Rattle.line.specs.Numbers.{isDigit, numberOf};
+ghost use Rattle.fields.specs.Numbers.{isDigit, numberOf};
 ghost use Rattle.settings.specs.Settings.{settledVerdict, settingsOf};
 ghost use Rattle.settings.specs.Reading.{startsWith, countBefore, digitsIn, writtenIn, settingRead};
-use line::FieldRead;
+use fields::FieldRead;
 use lists::Verdict;
 
 // The three settings, and the place where the sheet starts.

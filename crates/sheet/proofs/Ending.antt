@@ -10,7 +10,7 @@ use lib.Dec.{leb}
 use lib.ListN.{length, getD, drop, drop-of-length-le, length-map, List·getD-map}
 use lib.Seq.{drop-cons}
 use borrow.Author.Tests.{le-leb, lt-leb}
-use Rattle.lists.specs.Refusals.{Check, check, first}
+use Rattle.lists.specs.Refusals.{Check, check, firstAnswer}
 use Rattle.records.specs.Kept.{noKept, keptCount, keptsOf}
 use Rattle.records.proofs.Kepts.{length-kepts}
 use Rattle.records.specs.declared.Kept.{Kept}
@@ -57,7 +57,7 @@ pub bare-end : (ls : List Line) → lineEnd (bare (map keptOf ls)) ≡ lineEnd l
 unfolding lineEnd
 bare-end [] = refl
 bare-end (l ∷ ls) =
-    ap₂ (λ (m : ℕ) (cs : List Check). first Refused (Lines m) (check false 4 0 ∷ cs))
+    ap₂ (λ (m : ℕ) (cs : List Check). firstAnswer Refused (Lines m) (check false 4 0 ∷ cs))
     (length-map (map keptOf (l ∷ ls)) bareLine ∙ length-map (l ∷ ls) keptOf)
     (bare-checks 1 (l ∷ ls))
 
@@ -65,10 +65,10 @@ bare-end (l ∷ ls) =
 
 module _ (ls : List Line) where
   unfoldable pub EndsFrom : ℕ → Type 0
-  EndsFrom i = lineEnd ls ≡ first Refused (Lines (length ls)) (emptyChecks (suc i) (drop i ls))
+  EndsFrom i = lineEnd ls ≡ firstAnswer Refused (Lines (length ls)) (emptyChecks (suc i) (drop i ls))
 
   pub ends-none : length ls ≡ 0 → Refused 4 0 ≡ lineEnd ls
-  unfolding lineEnd first
+  unfolding lineEnd firstAnswer
   ends-none e = at ls e
     where
       at : (ms : List Line) → length ms ≡ 0 → Refused 4 0 ≡ lineEnd ms
@@ -76,22 +76,22 @@ module _ (ls : List Line) where
       at (m ∷ ms) e = absurd (omega arith)
 
   pub ends-start : 0 < length ls → EndsFrom 0
-  unfolding EndsFrom lineEnd first
+  unfolding EndsFrom lineEnd firstAnswer
   ends-start h = at ls h
     where
-      at : (ms : List Line) → 0 < length ms → lineEnd ms ≡ first Refused (Lines (length ms)) (emptyChecks 1 ms)
+      at : (ms : List Line) → 0 < length ms → lineEnd ms ≡ firstAnswer Refused (Lines (length ms)) (emptyChecks 1 ms)
       at [] h = absurd (omega arith)
       at (m ∷ ms) h = refl
 
   module _ (i : ℕ) (h : i < length ls) (f : EndsFrom i) where
     pub ends-more : leftEmptyAt ls i ≡ false → EndsFrom (i + 1)
-    unfolding EndsFrom emptyChecks first
+    unfolding EndsFrom emptyChecks firstAnswer
     ends-more e = f ∙ rw (add-one i, drop-cons ls i noLine h, (rw (add-one i) at e))
 
     pub ends-at : leftEmptyAt ls i ≡ true → Refused 4 (i + 1) ≡ lineEnd ls
-    unfolding EndsFrom emptyChecks first
+    unfolding EndsFrom emptyChecks firstAnswer
     ends-at e = sym (f ∙ rw (add-one i, drop-cons ls i noLine h, (rw (add-one i) at e)))
 
   pub ends-all : (i : ℕ) → length ls ≤ i → EndsFrom i → Lines (length ls) ≡ lineEnd ls
-  unfolding EndsFrom emptyChecks first
+  unfolding EndsFrom emptyChecks firstAnswer
   ends-all i h f = sym (f ∙ rw (drop-of-length-le ls h))

@@ -9,10 +9,10 @@ use lib.ListN.{length, getD, take, drop, set, replicate}
 use lib.Seq.{take-all}
 use borrow.Author.Tests.{le-ltb}
 use Rattle.lists.specs.Limits.{maxBytes, maxFeeds, maxDepth}
-use Rattle.lists.specs.Refusals.{first}
+use Rattle.lists.specs.Refusals.{firstAnswer}
 use Rattle.records.specs.Kept.{keptsOf, keptCount}
 use Rattle.records.proofs.Kepts.{length-kepts}
-use Rattle.line.specs.Lines.{Piece, feeds, pieces, headed, nodePieces, headingBytes}
+use Rattle.fields.specs.Lines.{Piece, feeds, pieces, headed, nodePieces, headingBytes}
 use Rattle.line.specs.Fields.{Line, noLine, Read, readLine, isUnread, hasBadByte, notExpression, outOfBounds, orNone}
 use Rattle.line.specs.LineAt.{pieceAt, nodeOf, lineIn, lineAt}
 use Rattle.line.proofs.Pieces.{pieces-at, pieces-end, feeds-at}
@@ -42,13 +42,13 @@ pub record ReadingLoop (s : List ℕ) (a b : List ℕ) (chain : List ℕ) (previ
   pub few : n + 1 + feeds (drop at s) ≤ feeds s
   pub linked : Linked chain n previous (earlier n (sheetLines s))
   pub answer : readingOf s
-      ≡ first Refused (Lines (length (sheetLines s)))
+      ≡ firstAnswer Refused (Lines (length (sheetLines s)))
       (linesChecks (suc n) (earlier n (sheetLines s)) (drop n (nodePieces s)) ++ endChecks (sheetLines s))
   pub stored : take n (keptsOf b) ≡ map keptOf (take n (sheetLines s))
   pub same : length b ≡ length a
 
 pub turns-start : (s a : List ℕ) → Begun s → ReadingLoop s a a (replicate 64 0) 0 headingBytes 0
-unfolding earlier readingOf sheetChecks first
+unfolding earlier readingOf sheetChecks firstAnswer
 turns-start s a g = record {
   within = heading-long s (g .headed);
   place = refl;
@@ -60,7 +60,7 @@ turns-start s a g = record {
   same = refl;
 }
   where
-    start : readingOf s ≡ first Refused (Lines (length (sheetLines s))) (linesChecks 1 [] (nodePieces s) ++ endChecks (sheetLines s))
+    start : readingOf s ≡ firstAnswer Refused (Lines (length (sheetLines s))) (linesChecks 1 [] (nodePieces s) ++ endChecks (sheetLines s))
     start = rw (le-ltb maxBytes (length s) (g .short), le-ltb maxFeeds (feeds s) (g .few), g .headed)
 
 -- what is known of a sound line's figures before they are stored
@@ -145,8 +145,8 @@ module _ {s a b chain : List ℕ} {previous at n : ℕ} (t : ReadingLoop s a b c
       (cond (notExpression (readLine (pieceAt s at))) (Refused 13 (suc n))
       (cond (outOfBounds (readLine (pieceAt s at))) (Refused 14 (suc n))
       (cond (misplaced (earlier n (sheetLines s)) here) (Refused 4 (suc n))
-      (first Refused (Lines (length (sheetLines s))) (linesChecks (suc (suc n)) (here ∷ earlier n (sheetLines s)) after ++ endChecks (sheetLines s)))))))
-  unfolding here linesChecks first
+      (firstAnswer Refused (Lines (length (sheetLines s))) (linesChecks (suc (suc n)) (here ∷ earlier n (sheetLines s)) after ++ endChecks (sheetLines s)))))))
+  unfolding here linesChecks firstAnswer
   asked = t .answer ∙ rw rest
 
   broken : breaksNesting chain n previous (here .depth) (here .kind) ≡ misplaced (earlier n (sheetLines s)) here

@@ -3,7 +3,7 @@ use mathlib.Core.Path.{_≡_}
 use mathlib.Core.List.{List, map}
 use Prim.Native.Nat.{ℕ}
 use lib.ListN.{length, take}
-use Rattle.lists.specs.Refusals.{first}
+use Rattle.lists.specs.Refusals.{firstAnswer}
 use Rattle.records.specs.Kept.{keptsOf}
 use Rattle.records.specs.declared.Kept.{Kept}
 use Rattle.text.specs.Decimal.{shifted}
@@ -14,7 +14,7 @@ use Rattle.sheet.specs.declared.Reading.the-variants.{Lines, Refused}
 
 -- the number of lines, or the first refusal that applies
 unfoldable pub readingOf : List ℕ → Reading
-readingOf s = first Refused (Lines (length (sheetLines s))) (sheetChecks s)
+readingOf s = firstAnswer Refused (Lines (length (sheetLines s))) (sheetChecks s)
 
 -- what is kept of a line, six numbers: its text is not among them, only the size that it takes by itself. The number n of an ol may be below 0, and what is kept is
 -- not: it stands shifted up by 1,000,000,000, the largest that n can lie from 0, so that 0 is kept for the lowest.

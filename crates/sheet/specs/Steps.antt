@@ -6,13 +6,13 @@ use Prim.Native.Nat.{ℕ, _+_, _-_, _≤_, _<_, min}
 use lib.Dec.{leb, eqb}
 use lib.ListN.{length, getD}
 use Rattle.lists.specs.Limits.{maxBytes, maxLines, maxFeeds}
-use Rattle.lists.specs.Refusals.{Check, check, first}
+use Rattle.lists.specs.Refusals.{Check, check, firstAnswer}
 use Rattle.records.specs.Kept.{noKept}
 use Rattle.records.specs.declared.Kept.{Kept}
 use Rattle.text.specs.Bytes.{Classes}
 use Rattle.text.specs.Decimal.{plain}
-use Rattle.line.specs.Kinds.{isFrame, mayHold, tableKind, bodyKind}
-use Rattle.line.specs.Lines.{feeds, headed}
+use Rattle.kinds.specs.Kinds.{isFrame, mayHold, tableKind, bodyKind}
+use Rattle.fields.specs.Lines.{feeds, headed}
 use Rattle.line.specs.Fields.{Line}
 use Rattle.line.specs.declared.Node.{Node}
 use Rattle.line.specs.declared.LineRead.{LineRead}
@@ -52,7 +52,7 @@ abbrev pub endChecks : List Line → List Check
 endChecks ls = check (isEmpty ls) 4 0 ∷ emptyChecks 1 ls
 
 unfoldable pub lineEnd : List Line → Reading
-lineEnd ls = first Refused (Lines (length ls)) (endChecks ls)
+lineEnd ls = firstAnswer Refused (Lines (length ls)) (endChecks ls)
 
 -- lines of these depths and kinds: all that the last checks look at
 abbrev pub bareLine : Kept → Line

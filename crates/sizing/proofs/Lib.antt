@@ -1,3 +1,2 @@
-pub mod Every
 pub mod Raises
 pub mod Columns

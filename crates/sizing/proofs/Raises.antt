@@ -8,6 +8,7 @@ use lib.ListN.{length, getD, take, drop, length-map, List·getD-map}
 use lib.Seq.{take-all}
 use Rattle.lists.specs.Lists.{padded}
 use Rattle.lists.proofs.Write.{length-padded}
+use Rattle.lists.proofs.All.{at-all}
 use Rattle.text.specs.declared.Estimate.{Estimate}
 use Rattle.records.specs.Kept.{noEntry}
 use Rattle.records.specs.declared.Entry.{Entry}
@@ -16,7 +17,6 @@ use Rattle.columns.specs.Columns.{sizeOf, leastOf, largest}
 use Rattle.columns.proofs.Listed.{none}
 use Rattle.columns.proofs.Largest.{largest-length, largest-none, largest-skip, largest-turn}
 use Rattle.sizing.specs.Sizing.{figureAt, entryBox}
-use Rattle.sizing.proofs.Every.{at-all}
 use Rattle.sizing.specs.inner.Room.{Whole, Raisable, Raised}
 
 pub record Sofar (es : List Entry) (figures : List Estimate) (n : ℕ) (sizes leasts : List ℕ) (i : ℕ) : Type 0 where

@@ -13,7 +13,7 @@ use Rattle.records.specs.declared.Kept.{Kept}
 use Rattle.records.specs.declared.Entry as packed
 use Rattle.columns.specs.Boxes.{Box, flat}
 use Rattle.cells.specs.Cells as cells
-use Rattle.cells.specs.Listed.{heldRows}
+use Rattle.cells.specs.Listed.{tableRows}
 use Rattle.grid.specs.Grid.{Entry, GridRow, gridOf, entriesOf}
 use Rattle.grid.proofs.GridFacts.{grid-entries, grid-rows}
 use Rattle.grid.proofs.Rebuilt.{held-few}
@@ -64,7 +64,7 @@ rows-told way ws width f g x wide w few room = record {
 
 module _ {ks : List Kept} {line : ℕ} (a : Asked ks line) where
   abbrev T : List cells.Row
-  T = heldRows ks (line - 1)
+  T = tableRows ks (line - 1)
 
   pub arrange-room : {width : ℕ} {column x wide : List ℕ} → width ≤ maxSize → maxLines ≤ length column → PlacesRoom x wide → LayoutRoom T width column x wide
   arrange-room h c r = layout-room a h (record { column-room = c; x-room = r .x-room; wide-room = r .wide-room })

@@ -9,7 +9,7 @@ use native.Mathlib.Omega.{arith}
 use lib.ListN.{length, getD, take, length-append, length-map}
 use lib.Seq.{length-take-le, take-all, getD-take}
 use borrow.Author.Tests.{le-leb, lt-leb}
-use Rattle.lists.specs.Refusals.{first}
+use Rattle.lists.specs.Refusals.{firstAnswer}
 use Rattle.records.specs.Kept.{noRow, rowBy, rowsOf}
 use Rattle.records.specs.declared.Row.{Row}
 use Rattle.records.proofs.Records.{length-of}
@@ -111,14 +111,14 @@ module _ (n : ℕ) (rows : List ℕ) (room : n ≤ length rows / 2) (g : List Gr
 
 module _ (way : Way) (g : List GridRow) (row : ℕ) where
   pub spot-down : goesDown way ≡ true → spot.Refused 10 0 ≡ spotIn way g row
-  unfolding spotIn first
+  unfolding spotIn firstAnswer
   spot-down d = rw d
 
   module _ (side : goesDown way ≡ false) where
     pub spot-past : length g ≤ row → spot.Refused 10 0 ≡ spotIn way g row
-    unfolding spotIn first
+    unfolding spotIn firstAnswer
     spot-past h = rw (side, le-leb (length g) row h)
 
     pub spot-there : {a b c : ℕ} → row < length g → a ≡ startIn g row → b ≡ startIn g (row + 1) → c ≡ startIn g (row + 2) → spot.Row a b c ≡ spotIn way g row
-    unfolding spotIn first
+    unfolding spotIn firstAnswer
     spot-there h p q r = rw (side, lt-leb (length g) row h, p, q, r)

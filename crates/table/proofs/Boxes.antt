@@ -12,17 +12,17 @@ use borrow.Author.Tests.{ne-eqb}
 use Rattle.lists.specs.Lists.{All}
 use Rattle.text.specs.declared.Estimate.{Estimate}
 use Rattle.records.specs.Kept as packed
-use Rattle.columns.specs.Boxes as boxes
-use Rattle.columns.specs.Boxes.{Box, box, rowsBy, Measures, TilesAll}
+use Rattle.lists.proofs.Tiles.{tiles-map}
+use Rattle.lists.proofs.All.{all-append, all-weaken, at-any, map-same}
+use Rattle.columns.specs.Boxes.{Box, box, boxFirst, boxSpan, rowsBy, BoxesTile, Measures, TilesAll}
 use Rattle.grid.specs.Grid.{Entry, GridRow, entry, shownLine, entriesOf}
-use Rattle.grid.specs.Facts.{Tiles}
+use Rattle.grid.specs.Facts.{EntriesTile}
 use Rattle.estimates.specs.Estimates.{Done, none, undone, estOf, boxOf, boxRow, boxRows}
 use Rattle.placing.specs.inner.Rows.{endOf, Ascends}
 use Rattle.grid.specs.Judging.{shown}
 use Rattle.gridding.specs.Packed.{endedRows}
 use Rattle.sizing.specs.Sizing.{figureAt, entryBox}
 use Rattle.table.specs.inner.Grids.{RowTiles, Later, RowLater, Fits}
-use Rattle.sizing.proofs.Every.{all-append, all-map, at-any, map-same}
 
 -- the rows' ends take a list of all entries apart into the grid's rows
 pub rows-apart : (f : Entry → Box) (n : ℕ) (g : List GridRow) →
@@ -77,7 +77,7 @@ module _ (all : List Done) (figures : List Estimate) (front : take (length all) 
       ap (rowsBy 0 (map endOf (endedRows 0 g))) (map-map (entryBox figures) shown (entriesOf g))
       ∙ rows-apart (boxShown figures) 0 g
       ∙ map-same _ (boxRow t (drop t all)) g
-      (all-map (RowLater t (length all)) (λ r a. map-same _ (boxOf t (drop t all)) (r .entries) (all-map (Later t (length all)) entry-box (r .entries) a)) g l)
+      (all-weaken (RowLater t (length all)) _ (λ r a. map-same _ (boxOf t (drop t all)) (r .entries) (all-weaken (Later t (length all)) _ entry-box (r .entries) a)) g l)
 
 -- each line is one of the sheet's, or 0
 
@@ -104,10 +104,9 @@ lines-within t n g l i =
 -- ---- the rows of a grid's boxes tile the columns, as its entries do, and no box is wider at the least than in full, as no line is
 
 module _ (t : ℕ) (rest : List Done) where
-  row-tiles : (columns p : ℕ) (es : List Entry) → Tiles columns p es → boxes.Tiles columns p (map (boxOf t rest) es)
-  unfolding boxes.Tiles Tiles boxOf
-  row-tiles columns p [] h = h
-  row-tiles columns p (e ∷ es) h = (h .0, h .1, row-tiles columns (p + e .span) es (h .2))
+  row-tiles : (columns p : ℕ) (es : List Entry) → EntriesTile columns p es → BoxesTile columns p (map (boxOf t rest) es)
+  unfolding boxOf
+  row-tiles columns p es h = tiles-map boxFirst boxSpan (boxOf t rest) columns p es h
 
   box-fits : All Fits rest → (e : Entry) → boxOf t rest e .least ≤ boxOf t rest e .size
   unfolding boxOf

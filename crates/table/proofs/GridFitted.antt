@@ -12,7 +12,7 @@ use Rattle.records.specs.declared.Kept.{Kept}
 use Rattle.records.specs.declared.Entry.{Entry}
 use Rattle.records.specs.declared.Row.{Row}
 use Rattle.cells.specs.Cells as cells
-use Rattle.cells.specs.Listed.{heldRows}
+use Rattle.cells.specs.Listed.{tableRows}
 use Rattle.positions.specs.Positions.{allRows}
 use Rattle.grid.specs.Grid.{GridRow, shownLine, gridOf, entriesOf, rowEnds, firstOf, spanOf, rowLine}
 use Rattle.grid.proofs.GridLists.{grid-count}
@@ -62,7 +62,7 @@ ended-ends n (r ∷ rs) = rw (ended-ends (n + length (r .entries)) rs)
 
 module _ {ks : List Kept} {line : ℕ} (a : Asked ks line) where
   abbrev T : List cells.Row
-  T = heldRows ks (line - 1)
+  T = tableRows ks (line - 1)
 
   pub rows-few : length (gridOf T) ≤ length ks
   rows-few = omega (arith, grid-rows T (a .sound), held-few ks (line - 1))

@@ -7,6 +7,7 @@ use native.Mathlib.Omega.{arith}
 use lib.ListN.{length, getD, take, List·getD-map}
 use lib.Seq.{length-take-le}
 use Rattle.lists.specs.Lists.{All}
+use Rattle.lists.proofs.All.{all-at, all-weaken}
 use Rattle.text.specs.declared.Estimate.{Estimate}
 use Rattle.records.specs.Records.{recordsOf}
 use Rattle.records.proofs.Records.{length-of}
@@ -14,12 +15,11 @@ use Rattle.records.specs.declared.Kept.{Kept}
 use Rattle.records.specs.declared.Entry as packed
 use Rattle.records.specs.declared.Row.{Row}
 use Rattle.cells.specs.Cells as cells
-use Rattle.cells.specs.Facts.{Every, none, and}
-use Rattle.cells.specs.Listed.{heldRows}
+use Rattle.cells.specs.Listed.{tableRows}
 use Rattle.grid.specs.Grid.{Entry, GridRow, gridOf, columnsOf, entriesOf}
 use Rattle.positions.specs.Positions.{allRows}
 use Rattle.grid.proofs.GridLists.{grid-count}
-use Rattle.grid.proofs.GridCells.{entries-cells}
+use Rattle.grid.proofs.GridCells.{IsCell, entries-cells}
 use Rattle.grid.proofs.Rebuilt.{held-few}
 use Rattle.grid.proofs.GridFacts.{held-spanned, grid-tiles, grid-rows, grid-columns}
 use Rattle.estimates.specs.Meets as meets
@@ -30,15 +30,9 @@ use Rattle.gridding.specs.declared.Counts.{Counts}
 use Rattle.widths.specs.declared.Laid.{Laid}
 use Rattle.table.specs.Laying.{boxRowsBy, LaidTable}
 use Rattle.table.specs.inner.Grids.{RowTiles, Later, RowLater, Fits, Listed}
-use Rattle.sizing.proofs.Every.{all-at}
 use Rattle.table.proofs.Table.{table-rows, table-layable, table-laid}
 use Rattle.table.specs.Arranging.{AllMeasured, boxesAt, ArrangedAt}
 use Rattle.table.specs.inner.Room.{FrontLayable, LayoutRoom}
-
-every-all : {A : Type 0} {P : A → Type 0} (Q : A → Type 0) → ((x : A) → P x → Q x) → {xs : List A} → Every P xs → All Q xs
-unfolding All
-every-all Q f none = tt
-every-all Q f (and {x = x} p ps) = (f x p, every-all Q f ps)
 
 -- slices of one length hold as many records
 pub same-records : {A : Type 0} (w : ℕ) (make : List ℕ → A) (xs ys : List ℕ) → length ys ≡ length xs → length (recordsOf w make ys) ≡ length (recordsOf w make xs)
@@ -62,19 +56,19 @@ length-measured wrap t (l ∷ ls) = ap suc (length-measured wrap (suc t) ls)
 module _ {ks : List Kept} {at : ℕ} {es₀ : List packed.Entry} {rs₀ : List Row} (a : TableReady ks at es₀ rs₀)
     {figures : List Estimate} (m : AllMeasured ks figures) where
   abbrev table : List cells.Row
-  table = heldRows ks at
+  table = tableRows ks at
 
   abbrev g : List GridRow
   g = gridOf table
 
   tiles : All (RowTiles (columnsOf table)) g
-  tiles = every-all (RowTiles (columnsOf table)) (λ x p. p) (grid-tiles table (a .sound) (held-spanned ks at))
+  tiles = grid-tiles table (a .sound) (held-spanned ks at)
 
   later : All (RowLater (at + 1) (length ks)) g
   later =
       rows-all (Later (at + 1) (length ks)) g
-      (every-all (Later (at + 1) (length ks)) (λ x p f. let (b, c) = p f in (omega (arith, c .before), omega (arith, c .within)))
-      (entries-cells (a .lined) at (a .within)))
+      (all-weaken (IsCell ks at) (Later (at + 1) (length ks)) (λ x p f. let (b, c) = p f in (omega (arith, c .before), omega (arith, c .within)))
+      (entriesOf g) (entries-cells (a .lined) at (a .within)))
 
   later-in : (wrap : ℕ) → All (RowLater (at + 1) (length (measured wrap 1 ks))) g
   later-in wrap = rw (length-measured wrap 1 ks) later

@@ -9,7 +9,7 @@ use Rattle.records.specs.declared.Kept.{Kept}
 use Rattle.records.specs.declared.Entry.{Entry}
 use Rattle.records.specs.declared.Row.{Row}
 use Rattle.cells.specs.Cells as cells
-use Rattle.cells.specs.Listed.{heldRows}
+use Rattle.cells.specs.Listed.{tableRows}
 use Rattle.grid.proofs.GridFacts.{grid-entries, grid-columns}
 use Rattle.table.specs.inner.Room.{LayoutRoom}
 use Rattle.table.specs.Arranging.{ArrangedAt}
@@ -18,7 +18,7 @@ use Rattle.table.specs.inner.Fitting.{Asked, OutRoom, LayoutMade}
 
 module _ {ks : List Kept} {line : ℕ} (a : Asked ks line) where
   abbrev T : List cells.Row
-  T = heldRows ks (line - 1)
+  T = tableRows ks (line - 1)
 
   pub layout-room : {width : ℕ} {column x wide : List ℕ} → width ≤ maxSize → OutRoom column x wide → LayoutRoom T width column x wide
   layout-room h r = record {

@@ -11,7 +11,7 @@ use Rattle.records.specs.Kept.{entryBy, entriesOf, rowBy, rowsOf}
 use Rattle.records.specs.declared.Kept.{Kept}
 use Rattle.records.proofs.Records.{length-of}
 use Rattle.records.proofs.Numbers.{length-numbers, numbers-are}
-use Rattle.cells.specs.Listed.{heldRows}
+use Rattle.cells.specs.Listed.{tableRows}
 use Rattle.positions.specs.Positions.{allRows, entryCount}
 use Rattle.judge.specs.inner.Keeping.{Sparse}
 use Rattle.judge.proofs.Sparsing.{held-sparse}
@@ -20,7 +20,7 @@ use Rattle.table.specs.inner.Fitting.{Asked}
 
 -- a table has at most so many entries, and a sheet so many lines
 pub record Most (entries rows : ℕ) (ks : List Kept) (line : ℕ) : Type 0 where
-  pub entries-most : entryCount (allRows (heldRows ks (line - 1))) ≤ entries
+  pub entries-most : entryCount (allRows (tableRows ks (line - 1))) ≤ entries
   pub lines-most : length ks ≤ rows
 
 -- few in a sheet whose lines are few and ask for few rows

@@ -5,18 +5,19 @@ use mathlib.Core.List.{List, [], _∷_, map, map-map}
 use Prim.Native.Nat.{ℕ, _+_}
 use native.Mathlib.Omega.{arith}
 use lib.ListN.{length, length-map}
-use Rattle.lists.specs.Lists.{All}
+use Rattle.lists.specs.Lists.{All, Tiles}
+use Rattle.lists.proofs.Tiles.{tiles-start}
+use Rattle.lists.proofs.All.{all-append}
 use Rattle.text.specs.declared.Estimate.{Estimate}
 use Rattle.records.specs.declared.Entry.{Entry}
 use Rattle.records.specs.declared.Row.{Row}
-use Rattle.columns.specs.Boxes.{Box, rowsBy, flat, Tiles, Measures, TilesAll}
+use Rattle.columns.specs.Boxes.{Box, boxFirst, boxSpan, rowsBy, flat, BoxesTile, Measures, TilesAll}
 use Rattle.columns.proofs.Upto.{length-upTo}
 use Rattle.widths.specs.inner.Lay.{LaidOut}
 use Rattle.widths.specs.declared.Laid.{Laid}
 use Rattle.widths.proofs.Laying.{laid-length, laid-final}
 use Rattle.placing.specs.Place.{Placed, placeRows}
 use Rattle.placing.specs.inner.Rows.{bareBoxes, endOf, AllRows, Written}
-use Rattle.placing.proofs.Tiling.{tiles-start}
 use Rattle.placing.proofs.Bare.{bare, place-rows-bare, tiles-rows-bare}
 use Rattle.placing.proofs.Ready.{flat-rows}
 use Rattle.placing.proofs.Promise as promise
@@ -25,13 +26,12 @@ use Rattle.sizing.specs.inner.Room.{Whole, Entered}
 use Rattle.sizing.proofs.Columns.{below-in}
 use Rattle.table.specs.Laying.{boxRowsBy, wayIn, widthsIn, placesIn, LaidTable}
 use Rattle.table.specs.inner.Room.{LayableTable}
-use Rattle.sizing.proofs.Every.{all-append}
 
-row-whole : (n p : ℕ) (bs : List Box) → Tiles n p bs → Measures bs → All (Whole n) bs
+row-whole : (n p : ℕ) (bs : List Box) → BoxesTile n p bs → Measures bs → All (Whole n) bs
 unfolding Tiles Measures All
 row-whole n p [] t m = tt
 row-whole n p (b ∷ bs) t m = (
-  record { some = t .1; ends = omega (arith, t .0, tiles-start n (p + b .span) bs (t .2)); low = m .0 },
+  record { some = t .1; ends = omega (arith, t .0, tiles-start boxFirst boxSpan n (p + b .span) bs (t .2)); low = m .0 },
   row-whole n (p + b .span) bs (t .2) (m .1),
 )
 

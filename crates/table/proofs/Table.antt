@@ -8,6 +8,7 @@ use native.Mathlib.Omega.{arith}
 use lib.ListN.{length, getD, drop, length-map}
 use Rattle.lists.specs.Lists.{All}
 use Rattle.lists.specs.Limits.{maxPosition, maxSize}
+use Rattle.lists.proofs.All.{all-drop}
 use Rattle.text.specs.declared.Estimate.{Estimate}
 use Rattle.records.specs.Kept.{noEntry}
 use Rattle.records.specs.declared.Entry.{Entry}
@@ -19,7 +20,6 @@ use Rattle.grid.specs.Judging.{shown}
 use Rattle.table.specs.Laying.{boxRowsBy, LaidTable}
 use Rattle.table.specs.inner.Room.{LayableTable}
 use Rattle.table.specs.inner.Grids.{RowTiles, RowLater, Fits, Listed}
-use Rattle.sizing.proofs.Every.{all-drop}
 use Rattle.table.proofs.Boxes.{boxes-of-grid, ends-ascend, lines-within, tiles-of-grid}
 
 -- the table in line t

@@ -8,7 +8,7 @@ use Rattle.records.specs.declared.Kept.{Kept}
 use Rattle.records.specs.declared.Entry.{Entry}
 use Rattle.records.specs.declared.Row.{Row}
 use Rattle.columns.specs.Boxes.{Box}
-use Rattle.cells.specs.Listed.{heldRows}
+use Rattle.cells.specs.Listed.{tableRows}
 use Rattle.grid.specs.Grid.{gridOf, columnsOf, entriesOf}
 use Rattle.estimates.specs.Estimates.{none, estimates, measured, boxRows}
 use Rattle.gridding.specs.Packed.{TableMade}
@@ -25,12 +25,12 @@ pub record AllMeasured (ks : List Kept) (figures : List Estimate) : Type 0 where
 
 -- the rows of boxes of the table at a place: the entries of its grid with the estimates of the lines after it
 abbrev pub boxesAt : ℕ → List Kept → ℕ → List (List Box)
-boxesAt wrap ks at = boxRows (at + 1) (drop (at + 1) (measured wrap 1 ks)) (gridOf (heldRows ks at))
+boxesAt wrap ks at = boxRows (at + 1) (drop (at + 1) (measured wrap 1 ks)) (gridOf (tableRows ks at))
 
 -- the grid of the table made, and the table laid out, at the wrap of the estimates
 pub record ArrangedAt (ks : List Kept) (at : ℕ) (figures : List Estimate) (raw width : ℕ) (es : List Entry) (rs : List Row) (column x wide : List ℕ)
     (counts : Counts) (r : Laid) : Type 0 where
-  pub made : TableMade (heldRows ks at) counts es rs
+  pub made : TableMade (tableRows ks at) counts es rs
   pub laid : (wrap : ℕ) → take (length ks) figures ≡ estimates wrap ks
-      → LaidTable (columnsOf (heldRows ks at)) (boxesAt wrap ks at) raw width
-      (take (columnsOf (heldRows ks at)) column) (take (length (entriesOf (gridOf (heldRows ks at)))) x) (take (length (entriesOf (gridOf (heldRows ks at)))) wide) r
+      → LaidTable (columnsOf (tableRows ks at)) (boxesAt wrap ks at) raw width
+      (take (columnsOf (tableRows ks at)) column) (take (length (entriesOf (gridOf (tableRows ks at)))) x) (take (length (entriesOf (gridOf (tableRows ks at)))) wide) r

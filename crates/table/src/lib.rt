@@ -5,7 +5,7 @@ use gridding::Counts;
 use widths::Laid;
 ghost use lib.ListN.{length, take};
 ghost use Rattle.records.specs.Kept.{keptsOf, entriesOf, rowsOf};
-ghost use Rattle.cells.specs.Listed.{heldRows};
+ghost use Rattle.cells.specs.Listed.{tableRows};
 ghost use Rattle.estimates.specs.inner.Figures.{figuresOf};
 ghost use Rattle.gridding.specs.Packed.{TableReady};
 ghost use Rattle.table.specs.Laying.{boxRowsBy, LaidTable};
@@ -84,7 +84,7 @@ pub fn arrange(
 ) -> Arrangement
     requires { ⌜ TableReady (keptsOf (now lines)) at (entriesOf (now entries)) (rowsOf (now rows)) ⌝ }
     requires { ⌜ AllMeasured (keptsOf (now lines)) (figuresOf (now figures)) ⌝ }
-    requires { ⌜ LayoutRoom (heldRows (keptsOf (now lines)) at) width (now column) (now x) (now wide) ⌝ }
+    requires { ⌜ LayoutRoom (tableRows (keptsOf (now lines)) at) width (now column) (now x) (now wide) ⌝ }
     ensures { λ r. ⌜ ArrangedAt (keptsOf (now (lines .entry))) at (figuresOf (now (figures .entry))) raw width (entriesOf (now (entries .exit))) (rowsOf (now (rows .exit))) (now (column .exit)) (now (x .exit)) (now (wide .exit)) (r .counts) (r .laid) ⌝ }
 {
     let counts = gridding::make_sound(lines, at, entries, rows);

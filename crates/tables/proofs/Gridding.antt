@@ -1,15 +1,14 @@
 -- `grid`: what is found in the sheet is what the call answers and leaves. Assumes nothing.
-use mathlib.Core.Path.{_≡_, refl, sym, ap, _∙_}
+use mathlib.Core.Path.{_≡_, refl, sym, _∙_}
 use mathlib.Core.Bool.{true}
 use mathlib.Core.List.{List, [], _∷_}
 use Prim.Native.Nat.{ℕ, _-_, _≤_}
-use native.Mathlib.Omega.{arith}
 use lib.ListN.{length, take}
 use Rattle.lists.specs.Lists.{padded}
 use Rattle.lists.specs.Limits.{maxLines, maxEntries}
-use Rattle.lists.specs.Refusals.{Check, first, verdictOf, passes, ifPasses}
+use Rattle.lists.specs.Refusals.{firstAnswer, verdictOf, ifPasses}
 use Rattle.lists.specs.declared.Verdict.{Verdict}
-use Rattle.lists.specs.declared.Verdict.the-variants.{Accepted, Refused as Refuses}
+use Rattle.lists.specs.declared.Verdict.the-variants.{Accepted}
 use Rattle.grid.specs.Grid.{entriesOf}
 use Rattle.opening.specs.Opening.{asked, openChecks}
 use Rattle.finding.specs.Figures.{rowsAt, columnsAt}
@@ -18,46 +17,12 @@ use Rattle.finding.specs.inner.Found.{entryTotal, rowTotal, GridFound}
 use Rattle.arguments.specs.Arguments.{anyShorter, gridArguments}
 use Rattle.tables.specs.Calls.{gridChecks}
 use Rattle.tables.specs.Answers.{griddedOf, GridAnswer}
-use Rattle.tables.specs.inner.Telling.{early, griddedIn}
-use Rattle.tables.specs.declared.Gridded.{Gridded}
-use Rattle.tables.specs.declared.Gridded.the-variants.{Grid, Refused as NoGrid}
+use Rattle.tables.specs.inner.Telling.{early}
 use Rattle.arguments.proofs.Shorter.{three-fit, two-fit}
 use Rattle.tables.proofs.Early.{early-eleven, none-eleven, fits, leaving}
-use Rattle.sheet.proofs.First.{neither, first-told}
-use Rattle.finding.specs.declared.Shape.{Shape}
-use Rattle.finding.specs.declared.Shape.the-variants.{Grid as Shaped, Refused as NotShaped}
-
--- refused for the arguments
-pub grid-early : (number at : ℕ) (cs : List Check) (s : List ℕ) (line : ℕ) (cell first′ span row end : List ℕ)
-    → GridFound (early (Refuses number at) ∷ cs) s line (NotShaped number at) cell first′ span row end
-unfolding first early ifPasses entryTotal rowTotal
-grid-early number at cs s line cell first′ span row end =
-    record {
-      answer = refl;
-      few-entries = omega arith;
-      few-rows = omega arith;
-      cells = refl;
-      firsts = refl;
-      spans = refl;
-      row-lines = refl;
-      row-ends = refl;
-    }
-
--- not refused for the arguments
-pub grid-late : {v : Verdict} {cs : List Check} {s : List ℕ} {line : ℕ} {r : Shape} {cell first′ span row end : List ℕ} → v ≡ Accepted
-    → GridFound cs s line r cell first′ span row end → GridFound (early v ∷ cs) s line r cell first′ span row end
-unfolding first early ifPasses
-grid-late z f =
-    rw z (record {
-      answer = f .answer;
-      few-entries = f .few-entries;
-      few-rows = f .few-rows;
-      cells = f .cells;
-      firsts = f .firsts;
-      spans = f .spans;
-      row-lines = f .row-lines;
-      row-ends = f .row-ends;
-    })
+use Rattle.sheet.proofs.First.{neither}
+use Rattle.finding.specs.declared.Gridded.{Gridded}
+use Rattle.finding.specs.declared.Gridded.the-variants.{Grid, Refused as NoGrid}
 
 -- where the arguments are not refused, each lent buffer has room for a grid
 fit : (v : Verdict) (a b c d e : ℕ) → v ≡ verdictOf (gridArguments (a ∷ b ∷ c ∷ []) (d ∷ e ∷ [])) → v ≡ Accepted
@@ -73,7 +38,7 @@ grid-fit v cell first′ span row end judged z =
     let (a, b) = fit v (length cell) (length first′) (length span) (length row) (length end) judged z in
     record { cell-room = a .0; first-room = a .1; span-room = a .2; row-room = b .0; end-room = b .1 }
 
-module _ {s : List ℕ} {line : ℕ} {v : Verdict} {a b c d e : ℕ} {r : Shape} {cell first′ span row end : List ℕ}
+module _ {s : List ℕ} {line : ℕ} {v : Verdict} {a b c d e : ℕ} {r : Gridded} {cell first′ span row end : List ℕ}
     (judged : v ≡ verdictOf (gridArguments (a ∷ b ∷ c ∷ []) (d ∷ e ∷ [])))
     (found : GridFound (early v ∷ openChecks true s line) s line r cell first′ span row end) where
   -- and so for the figures
@@ -82,29 +47,26 @@ module _ {s : List ℕ} {line : ℕ} {v : Verdict} {a b c d e : ℕ} {r : Shape}
   grid-rooms =
       let h = fit v a b c d e judged in
       let g : (room : ℕ) → (v ≡ Accepted → maxEntries ≤ room) → entryTotal r ≤ room =
-      λ room. fits NotShaped _ entryTotal (λ n l. refl) v (openChecks true s line) r maxEntries room (found .answer) (found .few-entries) in
+      λ room. fits NoGrid _ entryTotal (λ n l. refl) v (openChecks true s line) r maxEntries room (found .answer) (found .few-entries) in
       let f : (room : ℕ) → (v ≡ Accepted → maxLines ≤ room) → rowTotal r ≤ room =
-      λ room. fits NotShaped _ rowTotal (λ n l. refl) v (openChecks true s line) r maxLines room (found .answer) (found .few-rows) in
+      λ room. fits NoGrid _ rowTotal (λ n l. refl) v (openChecks true s line) r maxLines room (found .answer) (found .few-rows) in
       ((g a (λ z. h z .0 .0), g b (λ z. h z .0 .1), g c (λ z. h z .0 .2)), (f d (λ z. h z .1 .0), f e (λ z. h z .1 .1)))
 
-module _ {s : List ℕ} {line : ℕ} {v : Verdict} {cell₀ first₀ span₀ row₀ end₀ : List ℕ} {r : Shape} {cell first′ span row end : List ℕ}
+module _ {s : List ℕ} {line : ℕ} {v : Verdict} {cell₀ first₀ span₀ row₀ end₀ : List ℕ} {r : Gridded} {cell first′ span row end : List ℕ}
     (judged : v ≡ verdictOf (gridArguments (length cell₀ ∷ length first₀ ∷ length span₀ ∷ []) (length row₀ ∷ length end₀ ∷ [])))
     (found : GridFound (early v ∷ openChecks true s line) s line r cell first′ span row end) where
-  pub grid-answered : {t : Gridded} {n m : ℕ} {a b c d e : List ℕ} → t ≡ griddedIn r → n ≡ entryTotal r → m ≡ rowTotal r
+  pub grid-answered : {n m : ℕ} {a b c d e : List ℕ} → n ≡ entryTotal r → m ≡ rowTotal r
       → length cell ≡ length cell₀ → length first′ ≡ length first₀ → length span ≡ length span₀ → length row ≡ length row₀ → length end ≡ length end₀
       → a ≡ padded (length cell) (take n cell) → b ≡ padded (length first′) (take n first′) → c ≡ padded (length span) (take n span)
       → d ≡ padded (length row) (take m row) → e ≡ padded (length end) (take m end)
-      → GridAnswer s line cell₀ first₀ span₀ row₀ end₀ t a b c d e
-  unfolding griddedOf griddedIn asked ifPasses
-  grid-answered t k l ka kb kc kd ke a b c d e =
-      let shape = Shaped (length (rowsAt s line)) (length (entriesOf (rowsAt s line))) (columnsAt s line) in
-      let f : (xs : List ℕ) → first (λ number line. []) xs (early v ∷ openChecks true s line) ≡ first (λ number line. []) xs (gridChecks s line (length cell₀ ∷ length first₀ ∷ length span₀ ∷ []) (length row₀ ∷ length end₀ ∷ [])) =
+      → GridAnswer s line cell₀ first₀ span₀ row₀ end₀ r a b c d e
+  unfolding griddedOf asked ifPasses
+  grid-answered k l ka kb kc kd ke a b c d e =
+      let f : (xs : List ℕ) → firstAnswer (λ number line. []) xs (early v ∷ openChecks true s line) ≡ firstAnswer (λ number line. []) xs (gridChecks s line (length cell₀ ∷ length first₀ ∷ length span₀ ∷ []) (length row₀ ∷ length end₀ ∷ [])) =
       λ xs. early-eleven (λ number line. []) xs v (openChecks true s line) _ judged in
       record {
         answer =
-            t
-            ∙ ap griddedIn (found .answer)
-            ∙ first-told griddedIn NotShaped shape (early v ∷ openChecks true s line)
+            found .answer
             ∙ early-eleven NoGrid (Grid (length (rowsAt s line)) (length (entriesOf (rowsAt s line))) (columnsAt s line)) v (openChecks true s line) _ judged;
         left =
             record {

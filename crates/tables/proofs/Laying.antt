@@ -9,9 +9,9 @@ use lib.ListN.{length, take}
 use borrow.Author.Tests.{ltb-false}
 use Rattle.lists.specs.Lists.{padded}
 use Rattle.lists.specs.Limits.{maxLines, maxEntries, maxWrap, maxWidth, maxSize}
-use Rattle.lists.specs.Refusals.{Check, first, verdictOf, passes, ifPasses}
+use Rattle.lists.specs.Refusals.{firstAnswer, verdictOf, passes, ifPasses}
 use Rattle.lists.specs.declared.Verdict.{Verdict}
-use Rattle.lists.specs.declared.Verdict.the-variants.{Accepted, Refused as Refuses}
+use Rattle.lists.specs.declared.Verdict.the-variants.{Accepted}
 use Rattle.sheet.proofs.First.{neither, first-told}
 use Rattle.grid.specs.Grid.{entriesOf}
 use Rattle.finding.specs.declared.Arranged.{Arranged}
@@ -28,36 +28,6 @@ use Rattle.tables.specs.declared.LaidOut.{LaidOut}
 use Rattle.tables.specs.declared.LaidOut.the-variants.{Refused as NoLayout}
 use Rattle.arguments.proofs.Shorter.{two-fit, or-false}
 use Rattle.tables.proofs.Early.{early-nines, none-nines, fits, leaving}
-
--- refused for the arguments
-pub layout-early : (number at : ℕ) (cs : List Check) (s : List ℕ) (line wrap raw width : ℕ) (column x wide : List ℕ)
-    → LayoutFound (early (Refuses number at) ∷ cs) s line wrap raw width (Refused number at) column x wide
-unfolding first early passes ifPasses columnTotal placeTotal
-layout-early number at cs s line wrap raw width column x wide =
-    record {
-      answer = refl;
-      few-columns = omega arith;
-      few-entries = omega arith;
-      widths = refl;
-      xs = refl;
-      wides = refl;
-      promised = λ p. let z : _≡_ {A = ℕ} 0 1 = cc in absurd (omega arith);
-    }
-
--- not refused for the arguments
-pub layout-late : {v : Verdict} {cs : List Check} {s : List ℕ} {line wrap raw width : ℕ} {r : Arranged} {column x wide : List ℕ} → v ≡ Accepted
-    → LayoutFound cs s line wrap raw width r column x wide → LayoutFound (early v ∷ cs) s line wrap raw width r column x wide
-unfolding first early passes ifPasses
-layout-late z f =
-    rw z (record {
-      answer = f .answer;
-      few-columns = f .few-columns;
-      few-entries = f .few-entries;
-      widths = f .widths;
-      xs = f .xs;
-      wides = f .wides;
-      promised = f .promised;
-    })
 
 -- where the arguments are not refused, each lent buffer has room for a layout
 fit : (wrap raw width : ℕ) (v : Verdict) (a b c : ℕ) → v ≡ verdictOf (layoutArguments wrap raw width (a ∷ []) (b ∷ c ∷ [])) → v ≡ Accepted
@@ -107,7 +77,7 @@ module _ {s : List ℕ} {line wrap raw width : ℕ} {v : Verdict} {column₀ x�
   unfolding laidOutOf laidIn asked passes ifPasses
   layout-answered t k l ka kb kc a b c =
       let table = Table (wayAt s line wrap raw width) (length (entriesOf (rowsAt s line))) (columnsAt s line) (widthAt s line wrap raw width) in
-      let f : (xs : List ℕ) → first (λ number line. []) xs (early v ∷ openChecks true s line) ≡ first (λ number line. []) xs (layoutChecks s line wrap raw width (length column₀ ∷ []) (length x₀ ∷ length wide₀ ∷ [])) =
+      let f : (xs : List ℕ) → firstAnswer (λ number line. []) xs (early v ∷ openChecks true s line) ≡ firstAnswer (λ number line. []) xs (layoutChecks s line wrap raw width (length column₀ ∷ []) (length x₀ ∷ length wide₀ ∷ [])) =
       λ xs. early-nines (λ number line. []) xs v (openChecks true s line) _ _ judged in
       record {
         answer =

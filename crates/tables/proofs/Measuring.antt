@@ -1,43 +1,27 @@
 -- `estimates`: what is found in the sheet is what the call answers and leaves. Assumes nothing.
 use mathlib.Core.Path.{_≡_, refl, sym, ap, _∙_}
-use mathlib.Core.Bool.{true, false, false≢true}
+use mathlib.Core.Bool.{true, false}
 use mathlib.Core.List.{List, [], _∷_}
 use Prim.Native.Nat.{ℕ, _≤_}
-use native.Mathlib.Omega.{arith}
 use lib.ListN.{length, take}
 use Rattle.lists.specs.Lists.{padded}
 use Rattle.lists.specs.Limits.{maxLines}
-use Rattle.lists.specs.Refusals.{Check, first, verdictOf, passes, ifPasses}
+use Rattle.lists.specs.Refusals.{verdictOf, passes, ifPasses}
 use Rattle.lists.specs.declared.Verdict.{Verdict}
-use Rattle.lists.specs.declared.Verdict.the-variants.{Accepted, Refused as Refuses}
+use Rattle.lists.specs.declared.Verdict.the-variants.{Accepted}
 use Rattle.sheet.specs.Sheet.{sheetLines}
 use Rattle.sheet.specs.declared.Reading.{Reading}
 use Rattle.sheet.specs.declared.Reading.the-variants.{Lines, Refused}
 use Rattle.sheet.proofs.First.{first-told}
-use Rattle.estimates.specs.Estimates.{estimates}
 use Rattle.opening.specs.Opening.{asked, openChecks}
 use Rattle.finding.specs.inner.Found.{linesIn, LinesRoom, EstimatesFound}
 use Rattle.arguments.specs.Arguments.{estimatesArguments}
-use Rattle.tables.specs.Calls.{estimatesChecks}
 use Rattle.tables.specs.Answers.{estimatedOf, EstimatesAnswer}
 use Rattle.tables.specs.inner.Telling.{early, measuredIn}
 use Rattle.tables.specs.declared.Estimated.{Estimated}
 use Rattle.tables.specs.declared.Estimated.the-variants.{Lines as Measures, Refused as NotMeasured}
 use Rattle.arguments.proofs.Shorter.{three-fit}
 use Rattle.tables.proofs.Early.{early-nines, none-nines, fits, leaving}
-
--- refused for the arguments
-pub found-early : (number line : ℕ) (cs : List Check) (s : List ℕ) (wrap : ℕ) (size least prefix : List ℕ)
-    → EstimatesFound (early (Refuses number line) ∷ cs) s wrap (Refused number line) size least prefix
-unfolding first early passes ifPasses linesIn
-found-early number line cs s wrap size least prefix = record { answer = refl; few = omega arith; sizes = refl; leasts = refl; prefixes = refl; sound = λ p. absurd (false≢true p) }
-
--- not refused for the arguments
-pub found-late : {v : Verdict} {cs : List Check} {s : List ℕ} {wrap : ℕ} {r : Reading} {size least prefix : List ℕ} → v ≡ Accepted
-    → EstimatesFound cs s wrap r size least prefix → EstimatesFound (early v ∷ cs) s wrap r size least prefix
-unfolding first early passes ifPasses
-found-late z f =
-    rw z (record { answer = f .answer; few = f .few; sizes = f .sizes; leasts = f .leasts; prefixes = f .prefixes; sound = f .sound })
 
 -- where the arguments are not refused, each lent buffer has room for all lines
 fit : (wrap : ℕ) (v : Verdict) (a b c : ℕ) → v ≡ verdictOf (estimatesArguments wrap (a ∷ b ∷ c ∷ [])) → v ≡ Accepted → (maxLines ≤ a) × (maxLines ≤ b) × (maxLines ≤ c)

@@ -7,16 +7,17 @@ use mathlib.Core.List.{List, [], _∷_, _++_}
 use Prim.Native.Nat.{ℕ, suc}
 use native.Mathlib.Omega.{arith}
 use lib.Dec.{eqb}
-use Rattle.lists.specs.Refusals.{Check, check, first}
-use Rattle.line.specs.Kinds.{tableKind}
-use Rattle.line.specs.Lines.{Piece, nodePieces}
+use Rattle.lists.specs.Refusals.{Check, check, firstAnswer}
+use Rattle.lists.specs.Lists.{All}
+use Rattle.lists.proofs.All.{all-append}
+use Rattle.kinds.specs.Kinds.{tableKind}
+use Rattle.fields.specs.Lines.{Piece, nodePieces}
 use Rattle.line.specs.Fields.{Line, readLine, orNone}
 use Rattle.records.specs.declared.Kept.{Kept}
 use Rattle.sheet.specs.Sheet.{linesChecks, emptyChecks, sheetLines, sheetChecks}
+use Rattle.cells.specs.Cells.{rowsUnder}
 use Rattle.cells.specs.Cells as cells
-use Rattle.cells.specs.Facts.{Every, none, and}
-use Rattle.cells.proofs.Facts.{every-append}
-use Rattle.grid.specs.Grid.{tableChecks, tableRows, tablesChecks}
+use Rattle.grid.specs.Grid.{tableChecks, tablesChecks}
 use Rattle.opening.specs.Opening.{keptLines, lineCheck}
 use Rattle.tables.specs.Calls.{everyTable, checkChecks, estimatesChecks, gridChecks, layoutChecks}
 
@@ -24,61 +25,66 @@ use Rattle.tables.specs.Calls.{everyTable, checkChecks, estimatesChecks,
 abbrev pub Other : Check → Type 0
 Other c = c .number ≡ 7 → ⊥
 
-pub more : (n : ℕ) → (n ≡ 7 → ⊥) → {b : Bool} {line : ℕ} {cs : List Check} → Every Other cs → Every Other (check b n line ∷ cs)
-more n p {b} {line} ps = and {x = check b n line} p ps
+pub no-more : All Other []
+unfolding All
+no-more = tt
+
+pub more : (n : ℕ) → (n ≡ 7 → ⊥) → (b : Bool) (line : ℕ) (cs : List Check) → All Other cs → All Other (check b n line ∷ cs)
+unfolding All
+more n p b line cs ps = (p, ps)
 
 -- ---- the checks of a sheet
 
-lines-other : (k : ℕ) (earlier : List Line) (ps : List Piece) → Every Other (linesChecks k earlier ps)
+lines-other : (k : ℕ) (earlier : List Line) (ps : List Piece) → All Other (linesChecks k earlier ps)
 unfolding linesChecks
-lines-other k earlier [] = none
+lines-other k earlier [] = no-more
 lines-other k earlier (p ∷ ps) =
-    more 2 (λ e. omega (arith, e))
-    (more 3 (λ e. omega (arith, e))
-    (more 13 (λ e. omega (arith, e))
-    (more 14 (λ e. omega (arith, e))
-    (more 4 (λ e. omega (arith, e)) (lines-other (suc k) (orNone (readLine p) ∷ earlier) ps)))))
+    more 2 (λ e. omega (arith, e)) _ _ _
+    (more 3 (λ e. omega (arith, e)) _ _ _
+    (more 13 (λ e. omega (arith, e)) _ _ _
+    (more 14 (λ e. omega (arith, e)) _ _ _
+    (more 4 (λ e. omega (arith, e)) _ _ _ (lines-other (suc k) (orNone (readLine p) ∷ earlier) ps)))))
 
-empty-other : (k : ℕ) (ls : List Line) → Every Other (emptyChecks k ls)
+empty-other : (k : ℕ) (ls : List Line) → All Other (emptyChecks k ls)
 unfolding emptyChecks
-empty-other k [] = none
-empty-other k (l ∷ ls) = more 4 (λ e. omega (arith, e)) (empty-other (suc k) ls)
+empty-other k [] = no-more
+empty-other k (l ∷ ls) = more 4 (λ e. omega (arith, e)) _ _ _ (empty-other (suc k) ls)
 
-sheet-other : (s : List ℕ) → Every Other (sheetChecks s)
+sheet-other : (s : List ℕ) → All Other (sheetChecks s)
 unfolding sheetChecks
 sheet-other s =
-    more 8 (λ e. omega (arith, e)) (more 1 (λ e. omega (arith, e)) (every-append (lines-other 1 [] (nodePieces s)) (more 4 (λ e. omega (arith, e)) (empty-other 1 (sheetLines s)))))
+    more 8 (λ e. omega (arith, e)) _ _ _ (more 1 (λ e. omega (arith, e)) _ _ _ (all-append Other _ _ (lines-other 1 [] (nodePieces s)) (more 4 (λ e. omega (arith, e)) _ _ _ (empty-other 1 (sheetLines s)))))
 
-table-other : (t : ℕ) (table : List cells.Row) → Every Other (tableChecks t table)
+table-other : (t : ℕ) (table : List cells.Row) → All Other (tableChecks t table)
 unfolding tableChecks
-table-other t table = more 5 (λ e. omega (arith, e)) (more 6 (λ e. omega (arith, e)) none)
+table-other t table = more 5 (λ e. omega (arith, e)) _ _ _ (more 6 (λ e. omega (arith, e)) _ _ _ no-more)
 
-tables-other : (t : ℕ) (ls : List Kept) → Every Other (tablesChecks t ls)
+tables-other : (t : ℕ) (ls : List Kept) → All Other (tablesChecks t ls)
 unfolding tablesChecks
-tables-other t [] = none
-tables-other t (l ∷ ls) = every-append (go (eqb (l .kind) tableKind)) (tables-other (suc t) ls)
+tables-other t [] = no-more
+tables-other t (l ∷ ls) = all-append Other _ _ (go (eqb (l .kind) tableKind)) (tables-other (suc t) ls)
   where
-    go : (b : Bool) → Every Other (cond b (tableChecks t (tableRows t (l ∷ ls))) [])
-    go true = table-other t (tableRows t (l ∷ ls))
-    go false = none
+    go : (b : Bool) → All Other (cond b (tableChecks t (rowsUnder (l .depth) t ls)) [])
+    go true = table-other t (rowsUnder (l .depth) t ls)
+    go false = no-more
 
 -- ---- the checks of the calls
 
-pub check-other : (s : List ℕ) → Every Other (checkChecks s)
-check-other s = every-append (sheet-other s) (tables-other 1 (keptLines s))
+pub check-other : (s : List ℕ) → All Other (checkChecks s)
+check-other s = all-append Other _ _ (sheet-other s) (tables-other 1 (keptLines s))
 
 -- those of a call that asks for a table
-pub asked-other : {arguments : List Check} → Every Other arguments → (s : List ℕ) (line : ℕ) → Every Other (arguments ++ sheetChecks s ++ lineCheck (keptLines s) line ∷ everyTable s)
-asked-other a s line = every-append (every-append a (sheet-other s)) (more 10 (λ e. omega (arith, e)) (tables-other 1 (keptLines s)))
+pub asked-other : (arguments : List Check) → All Other arguments → (s : List ℕ) (line : ℕ) → All Other (arguments ++ sheetChecks s ++ lineCheck (keptLines s) line ∷ everyTable s)
+asked-other arguments a s line = all-append Other _ _ (all-append Other _ _ a (sheet-other s)) (more 10 (λ e. omega (arith, e)) _ _ _ (tables-other 1 (keptLines s)))
 
-pub estimates-other : (s : List ℕ) (wrap : ℕ) (lines : List ℕ) → Every Other (estimatesChecks s wrap lines)
-estimates-other s wrap lines = more 9 (λ e. omega (arith, e)) (more 11 (λ e. omega (arith, e)) (check-other s))
+pub estimates-other : (s : List ℕ) (wrap : ℕ) (lines : List ℕ) → All Other (estimatesChecks s wrap lines)
+estimates-other s wrap lines = more 9 (λ e. omega (arith, e)) _ _ _ (more 11 (λ e. omega (arith, e)) _ _ _ (check-other s))
 
-pub grid-other : (s : List ℕ) (line : ℕ) (entries rows : List ℕ) → Every Other (gridChecks s line entries rows)
-grid-other s line entries rows = asked-other (more 11 (λ e. omega (arith, e)) none) s line
+pub grid-other : (s : List ℕ) (line : ℕ) (entries rows : List ℕ) → All Other (gridChecks s line entries rows)
+grid-other s line entries rows = asked-other _ (more 11 (λ e. omega (arith, e)) _ _ _ no-more) s line
 
-pub layout-other : (s : List ℕ) (line wrap raw width : ℕ) (columns entries : List ℕ) → Every Other (layoutChecks s line wrap raw width columns entries)
-layout-other s line wrap raw width columns entries = asked-other (more 9 (λ e. omega (arith, e)) (more 11 (λ e. omega (arith, e)) none)) s line
+pub layout-other : (s : List ℕ) (line wrap raw width : ℕ) (columns entries : List ℕ) → All Other (layoutChecks s line wrap raw width columns entries)
+layout-other s line wrap raw width columns entries = asked-other _ (more 9 (λ e. omega (arith, e)) _ _ _ (more 11 (λ e. omega (arith, e)) _ _ _ no-more)) s line
 
 -- ---- the answers
 
@@ -88,12 +94,12 @@ pub record Refusal {A : Type 0} (refused : ℕ → ℕ → A) (answer : A) : Typ
   pub other : number ≡ 7 → ⊥
   pub is : answer ≡ refused number line
 
-pub never-seven : {A : Type 0} (refused : ℕ → ℕ → A) (accepted : A) {cs : List Check} → Every Other cs → (first refused accepted cs ≡ accepted) ⊎ Refusal refused (first refused accepted cs)
-unfolding first
-never-seven refused accepted none = inl refl
-never-seven refused accepted (and {x = c} {xs = cs} p ps) = go (c .applies) (never-seven refused accepted ps)
+pub never-seven : {A : Type 0} (refused : ℕ → ℕ → A) (accepted : A) (cs : List Check) → All Other cs → (firstAnswer refused accepted cs ≡ accepted) ⊎ Refusal refused (firstAnswer refused accepted cs)
+unfolding All firstAnswer
+never-seven refused accepted [] p = inl refl
+never-seven refused accepted (c ∷ cs) p = go (c .applies) (never-seven refused accepted cs (p .1))
   where
-    go : (b : Bool) → (first refused accepted cs ≡ accepted) ⊎ Refusal refused (first refused accepted cs)
-        → (cond b (refused (c .number) (c .line)) (first refused accepted cs) ≡ accepted) ⊎ Refusal refused (cond b (refused (c .number) (c .line)) (first refused accepted cs))
-    go true r = inr (record { number = c .number; line = c .line; other = p; is = refl })
+    go : (b : Bool) → (firstAnswer refused accepted cs ≡ accepted) ⊎ Refusal refused (firstAnswer refused accepted cs)
+        → (cond b (refused (c .number) (c .line)) (firstAnswer refused accepted cs) ≡ accepted) ⊎ Refusal refused (cond b (refused (c .number) (c .line)) (firstAnswer refused accepted cs))
+    go true r = inr (record { number = c .number; line = c .line; other = p .0; is = refl })
     go false r = r

@@ -6,7 +6,7 @@ use mathlib.Core.List.{List, [], _∷_, map}
 use Prim.Native.Nat.{ℕ}
 use lib.ListN.{length}
 use Rattle.lists.specs.Lists.{padded}
-use Rattle.lists.specs.Refusals.{Check, first, passes, ifPasses}
+use Rattle.lists.specs.Refusals.{Check, firstAnswer, passes, ifPasses}
 use Rattle.sheet.specs.Sheet.{sheetLines}
 use Rattle.grid.specs.Grid.{shownLine, entriesOf, rowEnds, firstOf, spanOf, rowLine}
 use Rattle.estimates.specs.Estimates.{estimates}
@@ -14,12 +14,12 @@ use Rattle.estimates.specs.Meets.{AllBounded}
 use Rattle.placing.specs.Promise.{Promised}
 use Rattle.opening.specs.Opening.{keptLines}
 use Rattle.finding.specs.Figures.{lineSize, lineLeast, linePrefix, xOf, widthOf, rowsAt, columnsAt, boxesAt, wayAt, widthsAt, widthAt, placesAt}
+use Rattle.finding.specs.declared.Gridded.{Gridded}
+use Rattle.finding.specs.declared.Gridded.the-variants as gridded
 use Rattle.tables.specs.Calls.{estimatesChecks, gridChecks, layoutChecks}
 use Rattle.tables.specs.declared.Estimated.{Estimated}
-use Rattle.tables.specs.declared.Gridded.{Gridded}
 use Rattle.tables.specs.declared.LaidOut.{LaidOut}
 use Rattle.tables.specs.declared.Estimated.the-variants as estimated
-use Rattle.tables.specs.declared.Gridded.the-variants as gridded
 use Rattle.tables.specs.declared.LaidOut.the-variants as laidOut
 
 -- what a lent buffer of these places holds afterwards
@@ -29,7 +29,7 @@ leaves cs buffer figures = padded (length buffer) (ifPasses cs figures)
 -- `estimates`
 unfoldable pub estimatedOf : List ℕ → ℕ → List ℕ → Estimated
 estimatedOf s wrap lines =
-    first estimated.Refused (estimated.Lines (length (sheetLines s))) (estimatesChecks s wrap lines)
+    firstAnswer estimated.Refused (estimated.Lines (length (sheetLines s))) (estimatesChecks s wrap lines)
 
 -- the lengths of the buffers that are lent for lines
 abbrev pub forLines : (size least prefix : List ℕ) → List ℕ
@@ -49,7 +49,7 @@ pub record EstimatesAnswer (s : List ℕ) (wrap : ℕ) (size₀ least₀ prefix�
 -- `grid`
 unfoldable pub griddedOf : List ℕ → ℕ → List ℕ → List ℕ → Gridded
 griddedOf s line entries rows =
-    first gridded.Refused (gridded.Grid (length (rowsAt s line)) (length (entriesOf (rowsAt s line))) (columnsAt s line)) (gridChecks s line entries rows)
+    firstAnswer gridded.Refused (gridded.Grid (length (rowsAt s line)) (length (entriesOf (rowsAt s line))) (columnsAt s line)) (gridChecks s line entries rows)
 
 -- the lengths of the buffers that are lent for a grid's entries, and for its rows
 abbrev pub forEntries : (cell first span : List ℕ) → List ℕ
@@ -72,7 +72,7 @@ pub record GridAnswer (s : List ℕ) (line : ℕ) (cell₀ first₀ span₀ row�
 -- `layout`
 unfoldable pub laidOutOf : List ℕ → ℕ → ℕ → ℕ → ℕ → List ℕ → List ℕ → LaidOut
 laidOutOf s line wrap raw width columns entries =
-    first laidOut.Refused (laidOut.Layout (wayAt s line wrap raw width) (columnsAt s line) (widthAt s line wrap raw width))
+    firstAnswer laidOut.Refused (laidOut.Layout (wayAt s line wrap raw width) (columnsAt s line) (widthAt s line wrap raw width))
     (layoutChecks s line wrap raw width columns entries)
 
 -- the lengths of the buffers that are lent for a layout's columns, and for its entries

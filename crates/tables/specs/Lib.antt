@@ -1,6 +1,4 @@
--- The public calls: what they refuse and answer, and the cases asked for.
+-- The public calls: what they refuse and answer.
 pub mod Calls
 pub mod Answers
 pub mod inner
-pub mod Cases
-pub mod Sheets

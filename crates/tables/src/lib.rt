@@ -1,12 +1,12 @@
 // The public calls. Each asks its arguments first; then what is found in the sheet stands in the lent buffers, and in the end it clears what is
 // no figure. A refused call clears all.
-mod asking; // what is found in the sheet, unless the arguments are refused
 mod telling; // what is found, in the words of the calls
 
 ghost use mathlib.Core.Path.{_≡_};
 ghost use Rattle.lists.specs.Refusals.{verdictOf};
 ghost use Rattle.tables.specs.Calls.{checkChecks};
 ghost use Rattle.tables.specs.Answers.{EstimatesAnswer, GridAnswer, LayoutAnswer};
+use finding::Gridded;
 use lists::Verdict;
 use widths::Way;
 
@@ -14,19 +14,6 @@ use widths::Way;
 pub enum Estimated {
     Lines(u32),
     Refused { number: u32, line: u32 },
-}
-
-// The answer of `grid`.
-pub enum Gridded {
-    Grid {
-        rows: u32,
-        entries: u32,
-        columns: u32,
-    },
-    Refused {
-        number: u32,
-        line: u32,
-    },
 }
 
 // The answer of `layout`.
@@ -40,7 +27,7 @@ pub fn check(sheet: &[u8]) -> Verdict
     ensures { λ r. ⌜ r ≡ verdictOf (checkChecks (now (sheet .entry))) ⌝ }
 {
     let read = finding::reading(sheet);
-    telling::verdict(read)
+    asking::verdict(read)
 }
 
 // The size, the least width and the prefix of every line of a sheet.
@@ -55,7 +42,7 @@ pub fn estimates(
 {
     let asked = arguments::of_estimates(wrap, size.len(), least.len(), prefix.len());
     let read = asking::find_estimates(sheet, wrap, asked, size, least, prefix);
-    let n = telling::line_count(read);
+    let n = asking::line_count(read);
     lists::keep_front(size, n);
     lists::keep_front(least, n);
     lists::keep_front(prefix, n);
@@ -83,15 +70,15 @@ pub fn grid(
         row.len(),
         row_end.len(),
     );
-    let shape = asking::find_grid(sheet, line, asked, cell, first, span, row, row_end);
-    let n = telling::entry_count(shape);
-    let m = telling::row_count(shape);
+    let found = asking::find_grid(sheet, line, asked, cell, first, span, row, row_end);
+    let n = asking::entry_count(found);
+    let m = asking::row_count(found);
     lists::keep_front(cell, n);
     lists::keep_front(first, n);
     lists::keep_front(span, n);
     lists::keep_front(row, m);
     lists::keep_front(row_end, m);
-    telling::gridded(shape)
+    found
 }
 
 // The layout of the table in a line: the width of each column, and the place and the width of each entry.
@@ -110,8 +97,8 @@ pub fn layout(
 {
     let asked = arguments::of_layout(wrap, raw, width, column.len(), x.len(), wide.len());
     let found = asking::find_layout(sheet, line, wrap, raw, width, asked, column, x, wide);
-    let n = telling::column_count(found);
-    let m = telling::place_count(found);
+    let n = asking::column_count(found);
+    let m = asking::place_count(found);
     lists::keep_front(column, n);
     lists::keep_front(x, m);
     lists::keep_front(wide, m);

@@ -1,114 +1,32 @@
-// The nine calls for C and Rust: numbers, lent slices and `#[repr(C)]` structs of numbers alone. A slice crosses as a pointer and a length.
+// The eleven calls for C and Rust: numbers, lent slices and `#[repr(C)]` structs of numbers alone. A slice crosses as a pointer and a length.
 ghost use mathlib.Core.Path.{_≡_};
 ghost use Rattle.lists.specs.Refusals.{verdictOf};
 ghost use Rattle.text.specs.Text.{measureOf};
 ghost use Rattle.tables.specs.Calls.{checkChecks};
 ghost use Rattle.tables.specs.Answers.{estimatedOf, forLines, EstimatesLeft, griddedOf, forEntries, forRows, GridLeft, laidOutOf, forColumns, forPlaces, LayoutLeft};
 ghost use Rattle.missing.specs.Missing.{explainedOf, forOne, MissingLeft};
-ghost use Rattle.preview.specs.Preview.{pointedOf, listedOf, forOne as forListed, WithinLeft, joinedOf, jointNumber};
-ghost use Rattle.tables_c.specs.Answers.{checkResult, asImg, measureResult, estimatesResult, gridResult, wayNumber, layoutResult, missingResult, atResult, withinResult, joiningResult};
-use lists::Verdict;
-use missing::Explained;
-use pointing::Joint;
-use preview::Joined;
-use preview::Listed;
-use preview::Pointed;
-use tables::Estimated;
-use tables::Gridded;
-use tables::LaidOut;
-use text::Measured;
-use widths::Way;
-
-// In each result: number 0 and line 0 if the call is accepted; else the refusal, its line, and zeros.
-#[repr(C)]
-pub struct CheckResult {
-    pub number: u32,
-    pub line: u32,
-}
-
-#[repr(C)]
-pub struct MeasureResult {
-    pub number: u32,
-    pub line: u32,
-    pub size: u32,
-    pub least: u32,
-    pub prefix: u32,
-}
-
-#[repr(C)]
-pub struct EstimatesResult {
-    pub number: u32,
-    pub line: u32,
-    pub lines: u32,
-}
-
-#[repr(C)]
-pub struct GridResult {
-    pub number: u32,
-    pub line: u32,
-    pub rows: u32,
-    pub entries: u32,
-    pub columns: u32,
-}
-
-// way: 0 sideways, 1 down.
-#[repr(C)]
-pub struct LayoutResult {
-    pub number: u32,
-    pub line: u32,
-    pub way: u32,
-    pub columns: u32,
-    pub width: u32,
-}
-
-#[repr(C)]
-pub struct MissingResult {
-    pub number: u32,
-    pub line: u32,
-    pub count: u32,
-    pub columns: u32,
-}
-
-// what: 0 nothing, 1 gap, 2 cell; entry is 0 unless it is a cell.
-#[repr(C)]
-pub struct AtResult {
-    pub number: u32,
-    pub line: u32,
-    pub what: u32,
-    pub entry: u32,
-}
-
-#[repr(C)]
-pub struct WithinResult {
-    pub number: u32,
-    pub line: u32,
-    pub count: u32,
-}
-
-// joint: 0 plain, 1 up, 2 down, 3 both.
-#[repr(C)]
-pub struct JoiningResult {
-    pub number: u32,
-    pub line: u32,
-    pub joint: u32,
-}
+ghost use Rattle.preview.specs.Preview.{pointedOf, listedOf, forOne as forListed, WithinLeft, joinedOf};
+ghost use Rattle.walks.specs.Walks.{walkedOf, forWalk, WalkLeft};
+ghost use Rattle.nested.specs.Nested.{nestedOf, NestedLeft};
+ghost use Rattle.crossing.specs.Answers.{checkResult, asImg, measureResult, estimatesResult, gridResult, layoutResult, missingResult, atResult, withinResult, joiningResult, walkResult, nestedResult};
+use crossing::AtResult;
+use crossing::CheckResult;
+use crossing::EstimatesResult;
+use crossing::GridResult;
+use crossing::JoiningResult;
+use crossing::LayoutResult;
+use crossing::MeasureResult;
+use crossing::MissingResult;
+use crossing::NestedResult;
+use crossing::WalkResult;
+use crossing::WithinResult;
 
 // Whether a sheet is accepted.
 #[no_mangle]
 pub extern "C" fn tables_check(sheet: &[u8]) -> CheckResult
     ensures { λ r. ⌜ r ≡ checkResult (verdictOf (checkChecks (now (sheet .entry)))) ⌝ }
 {
-    match tables::check(sheet) {
-        Verdict::Accepted => CheckResult { number: 0, line: 0 },
-        Verdict::Refused { number, line } => CheckResult { number, line },
-    }
-}
-
-// Whether a number says img: every one but 0 does.
-fn is_img(img: u32) -> bool
-    ensures { λ r. ⌜ r ≡ asImg img ⌝ }
-{
-    img != 0
+    crossing::check_result(tables::check(sheet))
 }
 
 // The figures of one text, as text or svg, or as img.
@@ -116,22 +34,7 @@ fn is_img(img: u32) -> bool
 pub extern "C" fn tables_measure(text: &[u8], wrap: u32, img: u32) -> MeasureResult
     ensures { λ r. ⌜ r ≡ measureResult (measureOf (now (text .entry)) wrap (asImg img)) ⌝ }
 {
-    match text::measure(text, wrap, is_img(img)) {
-        Measured::Figures(e) => MeasureResult {
-            number: 0,
-            line: 0,
-            size: e.size,
-            least: e.least,
-            prefix: e.prefix,
-        },
-        Measured::Refused { number, line } => MeasureResult {
-            number,
-            line,
-            size: 0,
-            least: 0,
-            prefix: 0,
-        },
-    }
+    crossing::measure_result(text::measure(text, wrap, crossing::as_img(img)))
 }
 
 // The size, the least width and the prefix of every line of a sheet.
@@ -147,18 +50,7 @@ pub extern "C" fn tables_estimates(
     ensures { λ _. ⌜ EstimatesLeft (now (sheet .entry)) wrap (now (size .entry)) (now (least .entry)) (now (prefix .entry))
         (now (size .exit)) (now (least .exit)) (now (prefix .exit)) ⌝ }
 {
-    match tables::estimates(sheet, wrap, size, least, prefix) {
-        Estimated::Lines(lines) => EstimatesResult {
-            number: 0,
-            line: 0,
-            lines,
-        },
-        Estimated::Refused { number, line } => EstimatesResult {
-            number,
-            line,
-            lines: 0,
-        },
-    }
+    crossing::estimates_result(tables::estimates(sheet, wrap, size, least, prefix))
 }
 
 // The grid of the table in a line.
@@ -177,36 +69,7 @@ pub extern "C" fn tables_grid(
     ensures { λ _. ⌜ GridLeft (now (sheet .entry)) line (now (cell .entry)) (now (first .entry)) (now (span .entry)) (now (row .entry)) (now («row_end» .entry))
         (now (cell .exit)) (now (first .exit)) (now (span .exit)) (now (row .exit)) (now («row_end» .exit)) ⌝ }
 {
-    match tables::grid(sheet, line, cell, first, span, row, row_end) {
-        Gridded::Grid {
-            rows,
-            entries,
-            columns,
-        } => GridResult {
-            number: 0,
-            line: 0,
-            rows,
-            entries,
-            columns,
-        },
-        Gridded::Refused { number, line: at } => GridResult {
-            number,
-            line: at,
-            rows: 0,
-            entries: 0,
-            columns: 0,
-        },
-    }
-}
-
-// A way in numbers.
-fn way_number(way: Way) -> u32
-    ensures { λ r. ⌜ r ≡ wayNumber way ⌝ }
-{
-    match way {
-        Way::Sideways => 0,
-        Way::Down => 1,
-    }
+    crossing::grid_result(tables::grid(sheet, line, cell, first, span, row, row_end))
 }
 
 // The layout of the table in a line.
@@ -225,26 +88,7 @@ pub extern "C" fn tables_layout(
     ensures { λ _. ⌜ LayoutLeft (now (sheet .entry)) line wrap raw width (now (column .entry)) (now (x .entry)) (now (wide .entry))
         (now (column .exit)) (now (x .exit)) (now (wide .exit)) ⌝ }
 {
-    match tables::layout(sheet, line, wrap, raw, width, column, x, wide) {
-        LaidOut::Layout {
-            way,
-            columns,
-            width: taken,
-        } => LayoutResult {
-            number: 0,
-            line: 0,
-            way: way_number(way),
-            columns,
-            width: taken,
-        },
-        LaidOut::Refused { number, line: at } => LayoutResult {
-            number,
-            line: at,
-            way: 0,
-            columns: 0,
-            width: 0,
-        },
-    }
+    crossing::layout_result(tables::layout(sheet, line, wrap, raw, width, column, x, wide))
 }
 
 // The missing entries of the table in a line, and the causes of its columns.
@@ -262,20 +106,7 @@ pub extern "C" fn tables_missing(
     ensures { λ _. ⌜ MissingLeft (now (sheet .entry)) line wrap raw width (now (entry .entry)) (now (cause .entry))
         (now (entry .exit)) (now (cause .exit)) ⌝ }
 {
-    match missing::missing(sheet, line, wrap, raw, width, entry, cause) {
-        Explained::Causes { count, columns } => MissingResult {
-            number: 0,
-            line: 0,
-            count,
-            columns,
-        },
-        Explained::Refused { number, line: at } => MissingResult {
-            number,
-            line: at,
-            count: 0,
-            columns: 0,
-        },
-    }
+    crossing::missing_result(missing::missing(sheet, line, wrap, raw, width, entry, cause))
 }
 
 // What lies at a character column of a row.
@@ -291,32 +122,7 @@ pub extern "C" fn tables_at(
 ) -> AtResult
     ensures { λ r. ⌜ r ≡ atResult (pointedOf (now (sheet .entry)) line wrap raw width row x) ⌝ }
 {
-    match preview::at(sheet, line, wrap, raw, width, row, x) {
-        Pointed::Cell { entry } => AtResult {
-            number: 0,
-            line: 0,
-            what: 2,
-            entry,
-        },
-        Pointed::Gap => AtResult {
-            number: 0,
-            line: 0,
-            what: 1,
-            entry: 0,
-        },
-        Pointed::Nothing => AtResult {
-            number: 0,
-            line: 0,
-            what: 0,
-            entry: 0,
-        },
-        Pointed::Refused { number, line: at } => AtResult {
-            number,
-            line: at,
-            what: 0,
-            entry: 0,
-        },
-    }
+    crossing::at_result(preview::at(sheet, line, wrap, raw, width, row, x))
 }
 
 // The printed cells of a row that lie wholly in a stretch of character columns.
@@ -335,30 +141,7 @@ pub extern "C" fn tables_within(
     ensures { λ r. ⌜ r ≡ withinResult (listedOf (now (sheet .entry)) line wrap raw width row from to (forListed (now (entry .entry)))) ⌝ }
     ensures { λ _. ⌜ WithinLeft (now (sheet .entry)) line wrap raw width row from to (now (entry .entry)) (now (entry .exit)) ⌝ }
 {
-    match preview::within(sheet, line, wrap, raw, width, row, from, to, entry) {
-        Listed::Entries { count } => WithinResult {
-            number: 0,
-            line: 0,
-            count,
-        },
-        Listed::Refused { number, line: at } => WithinResult {
-            number,
-            line: at,
-            count: 0,
-        },
-    }
-}
-
-// A joining character in numbers.
-fn joint_number(joint: Joint) -> u32
-    ensures { λ r. ⌜ r ≡ jointNumber joint ⌝ }
-{
-    match joint {
-        Joint::Plain => 0,
-        Joint::Up => 1,
-        Joint::Down => 2,
-        Joint::Both => 3,
-    }
+    crossing::within_result(preview::within(sheet, line, wrap, raw, width, row, from, to, entry))
 }
 
 // The joining character at a character column between a row and the next.
@@ -374,16 +157,53 @@ pub extern "C" fn tables_joining(
 ) -> JoiningResult
     ensures { λ r. ⌜ r ≡ joiningResult (joinedOf (now (sheet .entry)) line wrap raw width row x) ⌝ }
 {
-    match preview::joining(sheet, line, wrap, raw, width, row, x) {
-        Joined::Character(joint) => JoiningResult {
-            number: 0,
-            line: 0,
-            joint: joint_number(joint),
-        },
-        Joined::Refused { number, line: at } => JoiningResult {
-            number,
-            line: at,
-            joint: 0,
-        },
-    }
+    crossing::joining_result(preview::joining(sheet, line, wrap, raw, width, row, x))
+}
+
+// The widths of a sheet's lines, from the first line's down: whether each has one, and which.
+#[no_mangle]
+pub extern "C" fn tables_walk(
+    sheet: &[u8],
+    wrap: u32,
+    raw: u32,
+    width: u32,
+    overflow: u32,
+    given: &mut [u32],
+    wide: &mut [u32],
+) -> WalkResult
+    ensures { λ r. ⌜ r ≡ walkResult (walkedOf (now (sheet .entry)) wrap raw width overflow (forWalk (now (given .entry)) (now (wide .entry)))) ⌝ }
+    ensures { λ _. ⌜ WalkLeft (now (sheet .entry)) wrap raw width overflow (now (given .entry)) (now (wide .entry))
+        (now (given .exit)) (now (wide .exit)) ⌝ }
+{
+    crossing::walk_result(walks::walk(sheet, wrap, raw, width, overflow, given, wide))
+}
+
+// The layout of the table in a line, at the width that the walk gives it.
+#[no_mangle]
+pub extern "C" fn tables_nested(
+    sheet: &[u8],
+    line: u32,
+    wrap: u32,
+    raw: u32,
+    width: u32,
+    overflow: u32,
+    column: &mut [u32],
+    x: &mut [u32],
+    wide: &mut [u32],
+) -> NestedResult
+    ensures { λ r. ⌜ r ≡ nestedResult (nestedOf (now (sheet .entry)) line wrap raw width overflow (forColumns (now (column .entry))) (forPlaces (now (x .entry)) (now (wide .entry)))) ⌝ }
+    ensures { λ _. ⌜ NestedLeft (now (sheet .entry)) line wrap raw width overflow (now (column .entry)) (now (x .entry)) (now (wide .entry))
+        (now (column .exit)) (now (x .exit)) (now (wide .exit)) ⌝ }
+{
+    crossing::nested_result(nested::nested(
+        sheet,
+        line,
+        wrap,
+        raw,
+        width,
+        overflow,
+        column,
+        x,
+        wide,
+    ))
 }

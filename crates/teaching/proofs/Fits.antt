@@ -8,20 +8,21 @@ use native.Mathlib.Omega.{arith}
 use lib.Dec.{leb, eqb}
 use lib.ListN.{getD}
 use Rattle.lists.specs.Lists.{sum, All}
+use Rattle.lists.proofs.All.{at-any}
 use Rattle.text.specs.Text.{textEstimate}
 use Rattle.text.specs.declared.Estimate.{Estimate}
-use Rattle.line.specs.Kinds.{hasText, isLeaf, linkKind, breakKind, tableKind, bodyKind, rowKind}
+use Rattle.kinds.specs.Kinds.{hasText, isLeaf, linkKind, breakKind, tableKind, bodyKind, rowKind}
 use Rattle.records.specs.declared.Kept.{Kept}
 use Rattle.columns.specs.Boxes.{Box, flat, Measures}
 use Rattle.columns.specs.Columns.{sizeOf, leastOf, largestAt, sumAt, sums, largest}
 use Rattle.columns.proofs.Upto.{length-upTo, below-upTo}
 use Rattle.columns.proofs.Largest.{largest-least-size}
 use Rattle.cutting.proofs.Sums.{sum-le}
-use Rattle.grid.specs.Grid.{Entry, gridOf, columnsOf, entriesOf, tableRows}
+use Rattle.cells.specs.Cells.{rowsUnder}
+use Rattle.grid.specs.Grid.{Entry, gridOf, columnsOf, entriesOf}
 use Rattle.estimates.specs.Estimates.{Done, undone, estimate, none, add, Children, noChildren, withChild, gather, leafOf, prefixOf, prefixed, holderOf, boxOf, boxRows, tabled, estimateOf, measured}
 use Rattle.estimates.proofs.Fillers.{flat-boxes}
 use Rattle.table.specs.inner.Grids.{Fits}
-use Rattle.sizing.proofs.Every.{at-any}
 
 -- an estimate whose least width is no more than its size
 abbrev Fit : Estimate → Type 0
@@ -100,13 +101,13 @@ unfolding estimateOf
 estimate-fits wrap t l ls rest f = go (isLeaf (l .kind)) (eqb (l .kind) bodyKind || eqb (l .kind) rowKind) (eqb (l .kind) tableKind)
   where
     n : ℕ
-    n = columnsOf (tableRows t (l ∷ ls))
+    n = columnsOf (rowsUnder (l .depth) t ls)
 
     bs : List Box
-    bs = flat (boxRows t rest (gridOf (tableRows t (l ∷ ls))))
+    bs = flat (boxRows t rest (gridOf (rowsUnder (l .depth) t ls)))
 
     measure : Measures bs
-    measure = rw (flat-boxes t rest (gridOf (tableRows t (l ∷ ls)))) (boxes-measure t rest f (entriesOf (gridOf (tableRows t (l ∷ ls)))))
+    measure = rw (flat-boxes t rest (gridOf (rowsUnder (l .depth) t ls))) (boxes-measure t rest f (entriesOf (gridOf (rowsUnder (l .depth) t ls))))
 
     go : (a b c : Bool) → Fit (cond a (leafOf wrap l) (cond b none (cond c (tabled n bs) (holderOf l (gather (l .depth) noChildren rest)))))
     go true b c = leaf-fits wrap l

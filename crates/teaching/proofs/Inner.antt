@@ -11,7 +11,7 @@ use lib.ListN.{length, getD, drop, length-drop}
 use lib.Seq.{getD-drop}
 use borrow.Author.Tests.{lt-leb, eq-eqb, ne-eqb}
 use Rattle.records.specs.Parents.{Parent}
-use Rattle.line.specs.Kinds.{hasText, isLeaf, isFrame, linkKind, tableKind, bodyKind, rowKind, cellKind}
+use Rattle.kinds.specs.Kinds.{hasText, isLeaf, isFrame, linkKind, tableKind, bodyKind, rowKind, cellKind}
 use Rattle.records.specs.declared.Kept.{Kept}
 use Rattle.estimates.specs.Estimates.{Done, undone, estimate, add, Children, noChildren, withChild, gather, leafOf, prefixOf, prefixed, holderOf, estimateOf}
 use Rattle.estimates.specs.Sheet.{lineAt}

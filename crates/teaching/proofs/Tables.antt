@@ -5,14 +5,15 @@ use mathlib.Core.Bool.{Bool, true, false, cond}
 use mathlib.Core.List.{List, [], _∷_, map}
 use Prim.Native.Nat.{ℕ, zero, suc, _+_, _-_, _≤_, _<_}
 use native.Mathlib.Nat.{not-suc-le-zero, le-of-suc-le-suc}
+use native.Mathlib.Numerals.{add-one}
 use native.Mathlib.Omega.{arith}
 use lib.Dec.{eqb}
 use lib.ListN.{length, getD, drop, length-map, List·getD-map}
 use lib.Seq.{getD-drop}
 use borrow.Author.Tests.{eq-eqb}
-use Rattle.lists.specs.Lists.{All}
 use Rattle.lists.specs.Refusals.{Check, passes}
-use Rattle.line.specs.Kinds.{tableKind, cellKind}
+use Rattle.lists.proofs.All.{all-drop, at-all}
+use Rattle.kinds.specs.Kinds.{tableKind, cellKind}
 use Rattle.records.specs.Kept.{noKept}
 use Rattle.records.specs.declared.Kept.{Kept}
 use Rattle.sheet.specs.Sheet.{sheetChecks, sheetLines}
@@ -21,26 +22,24 @@ use Rattle.sheet.specs.declared.Reading.the-variants.{Lines, Refused}
 use Rattle.sheet.proofs.First.{both-true, first-passes, passes-append, accepted-passes}
 use Rattle.columns.specs.Boxes.{Box, box, flat, TilesAll}
 use Rattle.columns.proofs.Listed.{none}
-use Rattle.cells.specs.Facts as facts
-use Rattle.cells.proofs.Facts.{every-at}
-use Rattle.grid.specs.Grid.{Entry, entry, shownLine, entriesOf, tableChecks, tableRows, tablesChecks}
+use Rattle.cells.specs.Cells.{rowsUnder}
+use Rattle.cells.specs.Listed.{tableRows}
+use Rattle.grid.specs.Grid.{Entry, entry, shownLine, entriesOf, tableChecks, tablesChecks}
 use Rattle.grid.specs.Facts.{Sound, cellOwners, CellOf}
 use Rattle.grid.specs.Judging.{Lined}
 use Rattle.grid.proofs.CellLines.{Rises}
-use Rattle.grid.proofs.GridCells.{entries-cells}
+use Rattle.grid.proofs.GridCells.{IsCell, entries-cells}
 use Rattle.grid.proofs.GridFacts.{held-spanned, grid-tiles, sound-passes}
 use Rattle.estimates.specs.Estimates.{Done, undone, boxOf}
 use Rattle.estimates.specs.inner.Cycle.{estAt, doneOf}
 use Rattle.estimates.proofs.Fillers.{flat-boxes}
 use Rattle.judge.specs.Places.{Nests}
 use Rattle.judge.proofs.CellKinds.{cell-kind}
-use Rattle.judge.proofs.JudgeLoop.{rows-here}
 use Rattle.judge.proofs.Keeping.{cells-rise}
 use Rattle.opening.specs.Opening.{keptLines}
 use Rattle.opening.proofs.Answers.{Apt, table-apt}
 use Rattle.opening.proofs.Ready.{kept-lined, kept-nests}
 use Rattle.table.specs.inner.Grids.{Fits}
-use Rattle.sizing.proofs.Every.{all-drop}
 use Rattle.table.proofs.Boxes.{tiles-of-grid}
 use Rattle.finding.specs.Figures.{tableAt, rowsAt, columnsAt, boxesAt}
 use Rattle.tables.specs.Calls.{everyTable}
@@ -50,27 +49,22 @@ use Rattle.teaching.proofs.Fits.{measured-fits}
 -- ---- the checks of the tables
 
 -- those of the table in line u, where the lines from line t on follow
-table-passes : (t : ℕ) (ls : List Kept) (i u : ℕ) → t + i ≡ u → i < length ls → getD ls i noKept .kind ≡ tableKind → passes (tablesChecks t ls) ≡ true
-    → passes (tableChecks u (tableRows u (drop i ls))) ≡ true
+pub table-passes : (t : ℕ) (ls : List Kept) (i u : ℕ) → t + i ≡ u → i < length ls → getD ls i noKept .kind ≡ tableKind → passes (tablesChecks t ls) ≡ true
+    → passes (tableChecks u (rowsUnder (getD ls i noKept .depth) u (drop (suc i) ls))) ≡ true
 unfolding tablesChecks
 table-passes t [] i u e h k p = absurd (not-suc-le-zero h)
 table-passes t (l ∷ ls) zero u e h k p =
     let z : t ≡ u = omega arith in
-    let q : passes (tableChecks t (tableRows t (l ∷ ls))) ≡ true =
-    both-true (passes (tableChecks t (tableRows t (l ∷ ls)))) (passes (tablesChecks (suc t) ls))
-    (sym (passes-append (tableChecks t (tableRows t (l ∷ ls))) (tablesChecks (suc t) ls)) ∙ (rw (eq-eqb (l .kind) tableKind k) at p)) .0 in
+    let q : passes (tableChecks t (rowsUnder (l .depth) t ls)) ≡ true =
+    both-true (passes (tableChecks t (rowsUnder (l .depth) t ls))) (passes (tablesChecks (suc t) ls))
+    (sym (passes-append (tableChecks t (rowsUnder (l .depth) t ls)) (tablesChecks (suc t) ls)) ∙ (rw (eq-eqb (l .kind) tableKind k) at p)) .0 in
     rw z at q
 table-passes t (l ∷ ls) (suc i) u e h k p =
     table-passes (suc t) ls i u (omega arith) (le-of-suc-le-suc h) k
     (both-true (passes own) (passes (tablesChecks (suc t) ls)) (sym (passes-append own (tablesChecks (suc t) ls)) ∙ p) .1)
   where
     own : List Check
-    own = cond (eqb (l .kind) tableKind) (tableChecks t (tableRows t (l ∷ ls))) []
-
-every-all : {A : Type 0} {P : A → Type 0} {xs : List A} → facts.Every P xs → All P xs
-unfolding All
-every-all facts.none = tt
-every-all (facts.and p ps) = (p, every-all ps)
+    own = cond (eqb (l .kind) tableKind) (tableChecks t (rowsUnder (l .depth) t ls)) []
 
 -- ---- cells by their lines
 
@@ -162,15 +156,16 @@ module _ {s : List ℕ} {line : ℕ} (w : TableIn s line) where
   within = omega (arith, apt .from-one, apt .within)
 
   sound : Sound (tableAt s line)
+  unfolding tableRows
   sound =
       sound-passes (tableAt s line) (t + 1)
-      (rw (rows-here ks t within) at (table-passes 1 ks t (t + 1) (omega arith) within (apt .kind) (passed .1)))
+      (rw (← add-one t) at (table-passes 1 ks t (t + 1) (omega arith) within (apt .kind) (passed .1)))
 
   -- its rows of boxes tile its columns, and no box is wider at the least than in full
   pub tiles : (wrap : ℕ) → TilesAll (columnsAt s line) (boxesAt s line wrap)
   tiles wrap =
       tiles-of-grid line (drop line (doneOf wrap ks)) (columnsAt s line) (rowsAt s line)
-      (every-all (grid-tiles (tableAt s line) sound (held-spanned ks t)))
+      (grid-tiles (tableAt s line) sound (held-spanned ks t))
       (all-drop Fits line (doneOf wrap ks) (measured-fits wrap 1 ks))
 
   -- ---- its entries
@@ -193,7 +188,7 @@ module _ {s : List ℕ} {line : ℕ} (w : TableIn s line) where
   cell-is k = List·getD-map shownLine es k filling
 
   cells : (k : ℕ) → k < entryTotal s line → nth es k .filler ≡ false → (1 ≤ nth es k .owner) × CellOf ks t (nth es k .owner - 1)
-  cells k h = every-at (entries-cells lined t within) filling k h
+  cells k h = at-all (IsCell ks t) filling es k (entries-cells lined t within) h
 
   -- an entry that is a cell
   module _ (k : ℕ) (h : k < entryTotal s line) (p : 1 ≤ cellAt s line k) where

@@ -9,7 +9,7 @@ use Rattle.lists.specs.Lists.{sum}
 use Rattle.lists.specs.Limits.{maxWrap, maxSize}
 use Rattle.lists.specs.Refusals.{verdictOf}
 use Rattle.lists.specs.declared.Verdict.the-variants.{Accepted}
-use Rattle.line.specs.Kinds.{tableKind, linkKind, hasText}
+use Rattle.kinds.specs.Kinds.{tableKind, linkKind, hasText}
 use Rattle.records.specs.Parents.{Parent}
 use Rattle.records.specs.Kept.{noKept}
 use Rattle.records.specs.declared.Kept.{Kept}

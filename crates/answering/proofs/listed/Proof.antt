@@ -2,7 +2,7 @@
 use mathlib.Core.Path.{sym}
 use native.Mathlib.Omega.{arith}
 use lib.Seq.{length-take-le}
-use Rattle.listing.proofs.Ready.{front-few}
+use Rattle.answering.proofs.Fronts.{front-few}
 use borrow.Author.Needs.{needs}
 use Rattle.answering.proofs.listed.Statement.{statement}
 use Rattle.answering.proofs.listed.Tie as tie

@@ -1,6 +1,6 @@
 -- `arguments::of_grid` meets its contract: each return has the tests before it decided. Assumes nothing.
 use mathlib.Core.Path.{sym}
-use Rattle.lists.specs.Refusals.{verdictOf, first}
+use Rattle.lists.specs.Refusals.{verdictOf, firstAnswer}
 use borrow.Author.Needs.{needs}
 use Rattle.arguments.proofs.of_grid.Statement.{statement}
 use Rattle.arguments.proofs.of_grid.Tie as tie
@@ -9,18 +9,18 @@ any-below-requires : tie.Need-any-below-requires
 any-below-requires c κs = search needs
 
 returns : tie.Need-returns
-unfolding verdictOf first
+unfolding verdictOf firstAnswer
 returns c = rw (sym (c .before .any-below .ensures), c .if1 .taken)
 
 either-below-requires : tie.Need-either-below-requires
 either-below-requires c κs = search needs
 
 returns-2 : tie.Need-returns-2
-unfolding verdictOf first
+unfolding verdictOf firstAnswer
 returns-2 c = rw (sym (c .before .before .before .any-below .ensures), c .before .before .if1 .left, sym (c .before .either-below .ensures), c .if2 .taken)
 
 returns-3 : tie.Need-returns-3
-unfolding verdictOf first
+unfolding verdictOf firstAnswer
 returns-3 c = rw (sym (c .before .before .before .any-below .ensures), c .before .before .if1 .left, sym (c .before .either-below .ensures), c .if2 .left)
 
 pub of-grid-spec : {M : Type 1} → statement M

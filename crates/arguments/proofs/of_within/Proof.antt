@@ -1,7 +1,7 @@
 -- `arguments::of_within` meets its contract: each return has the tests before it decided. Assumes nothing.
 use mathlib.Core.Path.{sym}
 use borrow.Author.Tests.{lt-ltb, le-ltb}
-use Rattle.lists.specs.Refusals.{verdictOf, first}
+use Rattle.lists.specs.Refusals.{verdictOf, firstAnswer}
 use Rattle.arguments.proofs.Shorter.{one-shorter}
 use borrow.Author.Needs.{needs}
 use Rattle.arguments.proofs.of_within.Statement.{statement}
@@ -11,15 +11,15 @@ settings-out-requires : tie.Need-settings-out-requires
 settings-out-requires c κs = search needs
 
 returns : tie.Need-returns
-unfolding verdictOf first
+unfolding verdictOf firstAnswer
 returns c = rw (sym (c .before .settings-out .ensures), c .if1 .taken)
 
 returns-2 : tie.Need-returns-2
-unfolding verdictOf first
+unfolding verdictOf firstAnswer
 returns-2 c = rw (sym (c .before .before .settings-out .ensures), c .before .if1 .left, one-shorter _ _, lt-ltb _ _ (c .if2 .taken))
 
 returns-3 : tie.Need-returns-3
-unfolding verdictOf first
+unfolding verdictOf firstAnswer
 returns-3 c = rw (sym (c .before .before .settings-out .ensures), c .before .if1 .left, one-shorter _ _, le-ltb _ _ (c .if2 .left))
 
 pub of-within-spec : {M : Type 1} → statement M

@@ -7,7 +7,7 @@ use lib.ListN.{length, getD, drop}
 use Rattle.lists.specs.Limits.{maxPosition}
 use Rattle.text.specs.declared.Estimate.{Estimate}
 use Rattle.text.specs.Decimal.{shift}
-use Rattle.line.specs.Kinds.{tableKind, bodyKind, rowKind, cellKind, headKind, olKind, isLeaf, isFrame}
+use Rattle.kinds.specs.Kinds.{tableKind, bodyKind, rowKind, cellKind, headKind, olKind, isLeaf, isFrame}
 use Rattle.records.specs.Kept.{keptsOf, keptCount, placesOf}
 use Rattle.records.specs.declared.Kept.{Kept}
 use Rattle.estimates.specs.Estimates.{Done, undone, none, estimate, Children, noChildren, gather, measured}

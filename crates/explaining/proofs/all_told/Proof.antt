@@ -12,8 +12,8 @@ slice-aggregate-all-tables-2 c = search needs
 
 all-tables-requires : tie.Need-all-tables-requires
 all-tables-requires c κs = (
-  (c .before .before .before .before .before .before) .pre .0,
-  ((c .before .before .before .before .before .before) .pre .1, record { grid-room = omega arith; rows-room = omega arith }),
+  (c .before .before .before .before .before .before .before) .pre .0,
+  ((c .before .before .before .before .before .before .before) .pre .1 .0, ((c .before .before .before .before .before .before .before) .pre .1 .1, record { grid-room = omega arith; rows-room = omega arith })),
 )
 
 same-length : tie.Need-same-length

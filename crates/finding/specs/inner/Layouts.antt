@@ -5,7 +5,7 @@ use mathlib.Core.List.{List, map}
 use Prim.Native.Nat.{ℕ, _≤_}
 use lib.ListN.{length, take}
 use Rattle.lists.specs.Limits.{maxLines, maxEntries}
-use Rattle.lists.specs.Refusals.{Check, first, passes, ifPasses}
+use Rattle.lists.specs.Refusals.{Check, firstAnswer, passes, ifPasses}
 use Rattle.text.specs.declared.Estimate.{Estimate}
 use Rattle.records.specs.Kept.{keptsOf}
 use Rattle.sheet.specs.declared.Reading.{Reading}
@@ -33,7 +33,7 @@ placeTotal (Refused number line) = 0
 
 -- the layout found, or the first refusal; its figures stand in the first places
 pub record LayoutFound (cs : List Check) (s : List ℕ) (line wrap raw width : ℕ) (r : Arranged) (column x wide : List ℕ) : Type 0 where
-  pub answer : r ≡ first Refused (Table (wayAt s line wrap raw width) (length (entriesOf (rowsAt s line))) (columnsAt s line) (widthAt s line wrap raw width)) cs
+  pub answer : r ≡ firstAnswer Refused (Table (wayAt s line wrap raw width) (length (entriesOf (rowsAt s line))) (columnsAt s line) (widthAt s line wrap raw width)) cs
   pub few-columns : columnTotal r ≤ maxLines
   pub few-entries : placeTotal r ≤ maxEntries
   pub widths : take (columnTotal r) column ≡ ifPasses cs (widthsAt s line wrap raw width)

@@ -8,14 +8,14 @@ use Rattle.text.specs.declared.Estimate.{Estimate}
 use Rattle.records.specs.Kept.{keptCount, keptsOf}
 use Rattle.sheet.specs.declared.Reading.{Reading}
 use Rattle.sheet.specs.declared.Reading.the-variants.{Lines, Refused as NotRead}
-use Rattle.cells.specs.Listed.{heldRows}
+use Rattle.cells.specs.Listed.{tableRows}
 use Rattle.grid.specs.Facts.{Sound}
 use Rattle.opening.specs.Opening.{keptLines, openedOf}
 use Rattle.gridding.specs.declared.Counts.{Counts}
 use Rattle.table.specs.inner.Fitting.{Asked, GridMade}
 use Rattle.finding.specs.Figures.{lineSize, lineLeast, linePrefix}
-use Rattle.finding.specs.declared.Shape.{Shape}
-use Rattle.finding.specs.declared.Shape.the-variants.{Grid, Refused as NoGrid}
+use Rattle.finding.specs.declared.Gridded.{Gridded}
+use Rattle.finding.specs.declared.Gridded.the-variants.{Grid, Refused as NoGrid}
 
 -- ---- the estimates of all lines
 
@@ -42,17 +42,17 @@ pub record AskedIn (read : Reading) (lines : List ℕ) (line : ℕ) : Type 0 whe
 pub record OpenedAt (s : List ℕ) (line : ℕ) (r : Reading) (lines : List ℕ) : Type 0 where
   pub answer : r ≡ openedOf true s line
   pub holds : (n : ℕ) → r ≡ Lines n → take n (keptsOf lines) ≡ keptLines s
-  pub sound : (n : ℕ) → r ≡ Lines n → Sound (heldRows (keptLines s) (line - 1))
+  pub sound : (n : ℕ) → r ≡ Lines n → Sound (tableRows (keptLines s) (line - 1))
 
 -- ---- its grid
 
 -- a grid's counts in the words of this crate
-abbrev pub shapeOf : Counts → Shape
+abbrev pub shapeOf : Counts → Gridded
 shapeOf c = Grid (c .rows) (c .entries) (c .columns)
 
 -- the refusal handed up, or the grid
-pub record GridRead (read : Reading) (lines : List ℕ) (line : ℕ) (r : Shape) (cell first′ span row end : List ℕ) : Type 0 where
+pub record GridRead (read : Reading) (lines : List ℕ) (line : ℕ) (r : Gridded) (cell first′ span row end : List ℕ) : Type 0 where
   pub refused : (number at : ℕ) → read ≡ NotRead number at → r ≡ NoGrid number at
   pub counts : (n : ℕ) → read ≡ Lines n → Counts
   pub answer : (n : ℕ) (e : read ≡ Lines n) → r ≡ shapeOf (counts n e)
-  pub made : (n : ℕ) (e : read ≡ Lines n) → GridMade (heldRows (take n (keptsOf lines)) (line - 1)) (counts n e) cell first′ span row end
+  pub made : (n : ℕ) (e : read ≡ Lines n) → GridMade (tableRows (take n (keptsOf lines)) (line - 1)) (counts n e) cell first′ span row end

@@ -7,7 +7,7 @@ use native.Mathlib.Omega.{arith}
 use lib.ListN.{length}
 use lib.Seq.{length-take-le}
 use Rattle.records.specs.Kept.{keptsOf}
-use Rattle.cells.specs.Listed.{allCells, heldRows}
+use Rattle.cells.specs.Listed.{allCells, tableRows}
 use Rattle.grid.proofs.Rebuilt.{held-few, listed-in, listed-ready, lined-ready}
 use Rattle.grid.proofs.Judging.{placed-stands}
 use borrow.Author.Needs.{needs}
@@ -19,7 +19,7 @@ abbrev entry : tie.After-list-rows → tie.Start
 entry c = (c .before .before .before .before .before .before .before .before .before .before .before .before .before .before .before)
 
 -- there are no more rows and cells than lines, so they lie within the slices
-few : (c : tie.After-list-rows) → length (heldRows (keptsOf (entry c .args .lines .now)) (entry c .args .at)) + length (allCells (heldRows (keptsOf (entry c .args .lines .now)) (entry c .args .at))) ≤ length (keptsOf (entry c .args .lines .now)) - entry c .args .at
+few : (c : tie.After-list-rows) → length (tableRows (keptsOf (entry c .args .lines .now)) (entry c .args .at)) + length (allCells (tableRows (keptsOf (entry c .args .lines .now)) (entry c .args .at))) ≤ length (keptsOf (entry c .args .lines .now)) - entry c .args .at
 few c = held-few (keptsOf (entry c .args .lines .now)) (entry c .args .at)
 
 fits-line : (c : tie.After-list-rows) → c .list-rows .result .cells ≤ length (c .list-rows .last .1 .1 .0)

@@ -11,7 +11,7 @@ use Rattle.records.specs.Kept.{noKept, noRow}
 use Rattle.records.specs.declared.Kept.{Kept}
 use Rattle.records.specs.declared.Entry.{Entry}
 use Rattle.records.specs.declared.Row.{Row}
-use Rattle.cells.specs.Listed.{heldRows}
+use Rattle.cells.specs.Listed.{tableRows}
 use Rattle.positions.specs.declared.Positions.{Positions}
 use Rattle.positions.specs.declared.Positions.the-variants.{Rows}
 use Rattle.positions.specs.inner.Slices.{Enough}
@@ -48,7 +48,7 @@ pub record Ended (ks : List Kept) (at end asked : ℕ) : Type 0 where
 pub record Fits (lines entries : ℕ) (ks : List Kept) (at : ℕ) : Type 0 where
   pub few : length ks - at ≤ lines
   pub more : lines ≤ entries
-  pub enough : Enough entries (heldRows ks at)
+  pub enough : Enough entries (tableRows ks at)
 
 -- ---- records
 

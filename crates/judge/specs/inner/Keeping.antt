@@ -7,13 +7,13 @@ use lib.Dec.{eqb}
 use lib.ListN.{length, getD, take, set}
 use Rattle.lists.specs.Lists.{sum}
 use Rattle.lists.specs.Limits.{maxLines, maxPosition}
-use Rattle.line.specs.Kinds.{tableKind, cellKind}
+use Rattle.kinds.specs.Kinds.{tableKind, cellKind}
 use Rattle.records.specs.Kept.{noKept, noEntry, tablePlace}
 use Rattle.records.specs.declared.Kept.{Kept}
 use Rattle.records.specs.declared.Entry as packed
 use Rattle.records.specs.declared.Place.{Place}
 use Rattle.cells.specs.Cells as cells
-use Rattle.cells.specs.Listed.{heldRows}
+use Rattle.cells.specs.Listed.{tableRows}
 use Rattle.positions.specs.inner.Slices.{Enough}
 use Rattle.grid.specs.declared.Judged.{Judged}
 use Rattle.grid.specs.declared.Judged.the-variants.{Grid}
@@ -57,7 +57,7 @@ pub record TableKept (table : List cells.Row) (at : ℕ) (r : Judged) (ps₀ ps 
 
 -- there is room for the entries of every table
 pub record AllEnough (room : ℕ) (ks : List Kept) : Type 0 where
-  pub at : (t : ℕ) → t < length ks → getD ks t noKept .kind ≡ tableKind → Enough room (heldRows ks t)
+  pub at : (t : ℕ) → t < length ks → getD ks t noKept .kind ≡ tableKind → Enough room (tableRows ks t)
 
 -- so many records of entries, rows and places do
 pub record Roomy (ks : List Kept) (entries rows places : ℕ) : Type 0 where

@@ -1,4 +1,4 @@
--- `listing::answer` meets its contract. What the search lacks is that the sheet starts within the input and that the width is in its range, which
+-- `listing::answer` meets its contract. What the search lacks is that the sheet starts within the input and that raw and the width are in their ranges, which
 -- holds of all settings that are read (`settings-in-range`). Assumes nothing.
 use mathlib.Core.Path.{sym, _∙_}
 use native.Mathlib.Omega.{arith}
@@ -41,7 +41,7 @@ part-opened-end c = search needs
 opened-requires : tie.Need-opened-requires
 opened-requires c κs = (
   (c .before .before .before .before .before .before .before .before) .pre,
-  omega (arith, settings-in-range _ _ (sym ((c .before .before .before .before .before) .settings .ensures) ∙ (c .before .before .before) .settled .given .1) .width),
+  (settings-in-range _ _ (sym ((c .before .before .before .before .before) .settings .ensures) ∙ (c .before .before .before) .settled .given .1) .raw, omega (arith, settings-in-range _ _ (sym ((c .before .before .before .before .before) .settings .ensures) ∙ (c .before .before .before) .settled .given .1) .width)),
 )
 
 same-length-2 : tie.Need-same-length-2

@@ -21,10 +21,13 @@ slice-aggregate-layouts-5 c = search needs
 
 layouts-requires : tie.Need-layouts-requires
 layouts-requires c κs = (
-  (c .before .before .before .before .before .before .before .before .before) .pre .0,
+  (c .before .before .before .before .before .before .before .before .before .before) .pre .0,
   (
-    (c .before .before .before .before .before .before .before .before .before) .pre .1,
-    record { grid-room = omega arith; rows-room = omega arith; column-room = omega arith; x-room = omega arith; wide-room = omega arith },
+    (c .before .before .before .before .before .before .before .before .before .before) .pre .1 .0,
+    (
+      (c .before .before .before .before .before .before .before .before .before .before) .pre .1 .1,
+      record { entry-room = omega arith; row-room = omega arith; column-room = omega arith; x-room = omega arith; wide-room = omega arith },
+    ),
   ),
 )
 

@@ -3,7 +3,7 @@
 use mathlib.Core.Path.{sym}
 use native.Mathlib.Omega.{arith}
 use lib.Seq.{length-take-le}
-use Rattle.listing.proofs.Ready.{front-listable}
+use Rattle.listing.proofs.Ready.{front-listable, front-narrow}
 use borrow.Author.Needs.{needs}
 use Rattle.listing.proofs.told.Statement.{statement}
 use Rattle.listing.proofs.told.Tie as tie
@@ -18,13 +18,16 @@ enum-known-read-2 : tie.Need-enum-known-read-2
 enum-known-read-2 c = search needs
 
 mul-end : tie.Need-mul-end
-mul-end c = omega (arith, (c .before .before .before .before .before .before) .pre .1 .few _ ((c .before) .read2 .given .1))
+mul-end c = omega (arith, (c .before .before .before .before .before .before .before) .pre .1 .few _ ((c .before) .read2 .given .1))
 
 slice-aggregate-laid : tie.Need-slice-aggregate-laid
-slice-aggregate-laid c = sym (length-take-le _ _ (omega (arith, (c .before .before .before .before .before .before .before .before) .pre .1 .front _ ((c .before .before .before) .read2 .given .1))))
+slice-aggregate-laid c = sym (length-take-le _ _ (omega (arith, (c .before .before .before .before .before .before .before .before .before) .pre .1 .front _ ((c .before .before .before) .read2 .given .1))))
 
 laid-requires : tie.Need-laid-requires
-laid-requires c κs = ((c .before .before .before .before .before .before .before .before) .pre .0, front-listable ((c .before .before .before .before .before .before .before .before) .pre .1) ((c .before .before .before) .read2 .given .1))
+laid-requires c κs =
+    let pre = (c .before .before .before .before .before .before .before .before .before) .pre in
+    let e = (c .before .before .before) .read2 .given .1 in
+    (pre .0, (front-listable (pre .1) e, front-narrow (pre .1) e))
 
 same-length : tie.Need-same-length
 same-length c = search needs

@@ -4,7 +4,7 @@ use mathlib.Core.List.{List}
 use Prim.Native.Nat.{ℕ, _-_, _≤_}
 use lib.ListN.{length, take}
 use Rattle.lists.specs.Limits.{maxLines, maxEntries}
-use Rattle.lists.specs.Refusals.{Check, first, ifPasses}
+use Rattle.lists.specs.Refusals.{Check, firstAnswer, ifPasses}
 use Rattle.text.specs.declared.Estimate.{Estimate}
 use Rattle.records.specs.Kept.{keptsOf}
 use Rattle.records.specs.declared.Kept.{Kept}
@@ -12,7 +12,7 @@ use Rattle.sheet.specs.declared.Reading.{Reading}
 use Rattle.sheet.specs.declared.Reading.the-variants.{Lines, Refused as NotRead}
 use Rattle.columns.specs.Boxes.{Box, flat}
 use Rattle.columns.specs.Columns.{sizeOf, leastOf, largest}
-use Rattle.cells.specs.Listed.{heldRows}
+use Rattle.cells.specs.Listed.{tableRows}
 use Rattle.grid.specs.Grid.{columnsOf}
 use Rattle.estimates.specs.Estimates.{estimates}
 use Rattle.table.specs.Laying.{widthsIn, placesIn}
@@ -49,7 +49,7 @@ pub record MissingMade (ks : List Kept) (line : ℕ) (figures : List Estimate) (
   pub few-entries : missedTotal r ≤ maxEntries
   pub few-columns : columnTotal r ≤ maxLines
   pub told : (wrap : ℕ) → take (length ks) figures ≡ estimates wrap ks
-      → TableTold (columnsOf (heldRows ks (line - 1))) (boxesAt wrap ks (line - 1)) raw width r entry cause
+      → TableTold (columnsOf (tableRows ks (line - 1))) (boxesAt wrap ks (line - 1)) raw width r entry cause
 
 -- the refusal handed up, or those of the lines that were read
 pub record MissingRead (read : Reading) (lines : List ℕ) (line : ℕ) (figures : List Estimate) (raw width : ℕ) (r : Explained) (entry cause : List ℕ) : Type 0 where
@@ -58,7 +58,7 @@ pub record MissingRead (read : Reading) (lines : List ℕ) (line : ℕ) (figures
 
 -- found in the sheet, or the first refusal; the figures stand in the first places
 pub record MissingFound (cs : List Check) (s : List ℕ) (line wrap raw width : ℕ) (r : Explained) (entry cause : List ℕ) : Type 0 where
-  pub answer : r ≡ first Refused (Causes (length (missingAt s line wrap raw width)) (columnsAt s line)) cs
+  pub answer : r ≡ firstAnswer Refused (Causes (length (missingAt s line wrap raw width)) (columnsAt s line)) cs
   pub few-entries : missedTotal r ≤ maxEntries
   pub few-columns : columnTotal r ≤ maxLines
   pub entries : take (missedTotal r) entry ≡ ifPasses cs (missingAt s line wrap raw width)

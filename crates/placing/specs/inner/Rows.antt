@@ -9,7 +9,7 @@ use Rattle.lists.specs.Lists.{sum}
 use Rattle.lists.specs.Limits.{maxSize}
 use Rattle.records.specs.declared.Entry.{Entry}
 use Rattle.records.specs.declared.Row.{Row}
-use Rattle.columns.specs.Boxes.{Box, box, rowsBy, Tiles, TilesAll}
+use Rattle.columns.specs.Boxes.{Box, box, rowsBy, BoxesTile, TilesAll}
 use Rattle.cutting.specs.Cut.{gaps}
 use Rattle.widths.specs.declared.Way.{Way}
 use Rattle.widths.specs.declared.Way.the-variants.{Sideways}
@@ -37,14 +37,14 @@ endOf r = r .end
 pub record SideRow (es : List Entry) (ws xs wides : List ℕ) : Type 0 where
   pub xs-length : length xs ≡ length es
   pub wides-length : length wides ≡ length es
-  pub tiles : Tiles (length ws) 0 (bareBoxes es)
+  pub tiles : BoxesTile (length ws) 0 (bareBoxes es)
   pub small : sum ws + gaps (length ws) ≤ maxSize
 
 -- a row either way; down, a place for each entry is all
 pub record AnyRow (way : Way) (es : List Entry) (ws xs wides : List ℕ) : Type 0 where
   pub xs-length : length xs ≡ length es
   pub wides-length : length wides ≡ length es
-  pub tiles : Tiles (length ws) 0 (bareBoxes es)
+  pub tiles : BoxesTile (length ws) 0 (bareBoxes es)
   pub side : way ≡ Sideways → sum ws + gaps (length ws) ≤ maxSize
 
 -- the row ends ascend from a on, and the last is the number of entries

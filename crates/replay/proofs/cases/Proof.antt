@@ -5,7 +5,7 @@ use mathlib.Core.Path.{_≡_}
 use Prim.Native.Nat.{_+_, _≤_, _-_}
 use lib.ListN.{length}
 use borrow.Author.Needs.{needs}
-use Rattle.listing.specs.Listing.{Place}
+use Rattle.writing.specs.Writing.{Place}
 use Rattle.replay.proofs.cases.Statement.{statement}
 use Rattle.replay.proofs.cases.Tie as tie
 

@@ -9,8 +9,8 @@ use mathlib.Core.Bool.{true}
 use Prim.Native.Nat.{ℕ, _+_, _-_, _≤_}
 use native.Mathlib.Omega.{arith}
 use lib.ListN.{length, getD, drop}
-use Rattle.line.specs.Numbers.{isDigit}
-use Rattle.line.proofs.Digits.{digit-from}
+use Rattle.fields.specs.Numbers.{isDigit}
+use Rattle.fields.proofs.Digits.{digit-from}
 use Rattle.settings.specs.Reading.{digitsIn}
 use Rattle.settings.proofs.Digits.{digits-end, digits-other, digits-past, digits-more}
 use Rattle.settings.proofs.digits_in.Statement.{statement}

@@ -7,7 +7,7 @@ use mathlib.Core.Path.{_≡_, sym, _∙_}
 use mathlib.Core.Bool.{true}
 use lib.ListN.{drop}
 use Rattle.lists.specs.Limits.{maxWrap}
-use Rattle.line.specs.declared.FieldRead.the-variants.{Sound}
+use Rattle.fields.specs.declared.FieldRead.the-variants.{Sound}
 use Rattle.settings.specs.Settings.{settingsHeading}
 use Rattle.settings.specs.Reading.{startsWith, settingRead}
 use Rattle.settings.proofs.Answers.{no-heading, no-wrap, no-raw, no-width, all-set}

@@ -6,14 +6,14 @@ use Prim.Native.Nat.{ℕ, _+_, _-_, _≤_}
 use lib.ListN.{length, getD, take}
 use lib.Seq.{slice}
 use Rattle.lists.specs.Limits.{maxEntries}
-use Rattle.lists.specs.Refusals.{Check, first, passes}
+use Rattle.lists.specs.Refusals.{Check, firstAnswer, passes}
 use Rattle.text.specs.declared.Estimate.{Estimate}
 use Rattle.records.specs.Kept.{keptsOf, rowsOf}
 use Rattle.records.specs.declared.Kept.{Kept}
 use Rattle.sheet.specs.declared.Reading.{Reading}
 use Rattle.sheet.specs.declared.Reading.the-variants.{Lines, Refused as NotRead}
 use Rattle.columns.specs.Boxes.{Box}
-use Rattle.cells.specs.Listed.{heldRows}
+use Rattle.cells.specs.Listed.{tableRows}
 use Rattle.grid.specs.Grid.{GridRow, gridOf, columnsOf}
 use Rattle.estimates.specs.Estimates.{estimates}
 use Rattle.gridding.specs.Packed.{endedRows}
@@ -34,7 +34,7 @@ HasRows n rows g = take n (rowsOf rows) ≡ endedRows 0 g
 
 -- the numbers of the entries at which the row starts, at which it ends, and at which the next one ends; or 10
 unfoldable pub spotIn : Way → List GridRow → ℕ → Spot
-spotIn way g row = first Refused (Row (startIn g row) (startIn g (row + 1)) (startIn g (row + 2))) (rowCheck way g row ∷ [])
+spotIn way g row = firstAnswer Refused (Row (startIn g row) (startIn g (row + 1)) (startIn g (row + 2))) (rowCheck way g row ∷ [])
 
 -- the two slices have the places of a table's entries
 pub record PlacesRoom (x wide : List ℕ) : Type 0 where
@@ -54,7 +54,7 @@ pub record SpotTold (columns : ℕ) (g : List GridRow) (rows : List (List Box)) 
 
 pub record SpotMade (ks : List Kept) (line : ℕ) (figures : List Estimate) (raw width row : ℕ) (r : Spot) (x wide : List ℕ) : Type 0 where
   pub made : (wrap : ℕ) → take (length ks) figures ≡ estimates wrap ks
-      → SpotTold (columnsOf (heldRows ks (line - 1))) (gridOf (heldRows ks (line - 1))) (table.boxesAt wrap ks (line - 1)) raw width row r x wide
+      → SpotTold (columnsOf (tableRows ks (line - 1))) (gridOf (tableRows ks (line - 1))) (table.boxesAt wrap ks (line - 1)) raw width row r x wide
 
 -- the refusal handed up, or that of the lines that were read
 pub record SpotRead (read : Reading) (lines : List ℕ) (line : ℕ) (figures : List Estimate) (raw width row : ℕ) (r : Spot) (x wide : List ℕ) : Type 0 where
@@ -63,5 +63,5 @@ pub record SpotRead (read : Reading) (lines : List ℕ) (line : ℕ) (figures : 
 
 -- found in the sheet, or the first refusal
 pub record SpotFound (cs : List Check) (s : List ℕ) (line wrap raw width row : ℕ) (r : Spot) (x wide : List ℕ) : Type 0 where
-  pub answer : r ≡ first Refused (spotIn (wayAt s line wrap raw width) (rowsAt s line) row) cs
+  pub answer : r ≡ firstAnswer Refused (spotIn (wayAt s line wrap raw width) (rowsAt s line) row) cs
   pub told : passes cs ≡ true → RowsTold (wayAt s line wrap raw width) (widthsAt s line wrap raw width) width (rowsAt s line) (boxesAt s line wrap) x wide

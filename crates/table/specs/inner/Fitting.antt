@@ -5,13 +5,13 @@ use Prim.Native.Nat.{ℕ, _-_, _≤_, _<_, _/_}
 use lib.ListN.{length, getD, take}
 use Rattle.lists.specs.Limits.{maxEntries, maxLines, maxPosition}
 use Rattle.text.specs.declared.Estimate.{Estimate}
-use Rattle.line.specs.Kinds.{tableKind}
+use Rattle.kinds.specs.Kinds.{tableKind}
 use Rattle.records.specs.Kept.{noKept}
 use Rattle.records.specs.declared.Kept.{Kept}
 use Rattle.records.specs.declared.Entry.{Entry}
 use Rattle.records.specs.declared.Row.{Row}
 use Rattle.cells.specs.Cells as cells
-use Rattle.cells.specs.Listed.{heldRows}
+use Rattle.cells.specs.Listed.{tableRows}
 use Rattle.grid.specs.Grid.{shownLine, firstOf, spanOf, rowLine, gridOf, columnsOf, entriesOf, rowEnds}
 use Rattle.grid.specs.Facts.{Sound}
 use Rattle.grid.specs.Judging.{Lined}
@@ -29,7 +29,7 @@ pub record Asked (ks : List Kept) (line : ℕ) : Type 0 where
   pub kind : getD ks (line - 1) noKept .kind ≡ tableKind
   pub lined : Lined ks
   pub nests : Nests ks
-  pub sound : Sound (heldRows ks (line - 1))
+  pub sound : Sound (tableRows ks (line - 1))
 
 -- ---- its grid
 
@@ -98,12 +98,12 @@ pub record OutRoom (column x wide : List ℕ) : Type 0 where
 
 -- the layout of a table, in the front of the buffers, at the wrap of the estimates
 pub record LayoutMade (ks : List Kept) (line : ℕ) (figures : List Estimate) (raw width : ℕ) (r : Arrangement) (column x wide : List ℕ) : Type 0 where
-  pub entries-are : r .counts .entries ≡ length (entriesOf (gridOf (heldRows ks (line - 1))))
-  pub columns-are : r .counts .columns ≡ columnsOf (heldRows ks (line - 1))
-  pub few-columns : columnsOf (heldRows ks (line - 1)) ≤ maxPosition
-  pub few-entries : length (entriesOf (gridOf (heldRows ks (line - 1)))) ≤ maxEntries
+  pub entries-are : r .counts .entries ≡ length (entriesOf (gridOf (tableRows ks (line - 1))))
+  pub columns-are : r .counts .columns ≡ columnsOf (tableRows ks (line - 1))
+  pub few-columns : columnsOf (tableRows ks (line - 1)) ≤ maxPosition
+  pub few-entries : length (entriesOf (gridOf (tableRows ks (line - 1)))) ≤ maxEntries
   pub laid : (wrap : ℕ) → take (length ks) figures ≡ estimates wrap ks
-      → LaidTable (columnsOf (heldRows ks (line - 1))) (boxesAt wrap ks (line - 1)) raw width
-      (take (columnsOf (heldRows ks (line - 1))) column)
-      (take (length (entriesOf (gridOf (heldRows ks (line - 1))))) x)
-      (take (length (entriesOf (gridOf (heldRows ks (line - 1))))) wide) (r .laid)
+      → LaidTable (columnsOf (tableRows ks (line - 1))) (boxesAt wrap ks (line - 1)) raw width
+      (take (columnsOf (tableRows ks (line - 1))) column)
+      (take (length (entriesOf (gridOf (tableRows ks (line - 1))))) x)
+      (take (length (entriesOf (gridOf (tableRows ks (line - 1))))) wide) (r .laid)

@@ -9,14 +9,14 @@ use Rattle.text.specs.declared.Estimate.{Estimate}
 use Rattle.records.specs.declared.Entry as packed
 use Rattle.records.specs.declared.Row.{Row}
 use Rattle.grid.specs.Grid.{Entry, GridRow, entriesOf}
-use Rattle.grid.specs.Facts.{Tiles}
+use Rattle.grid.specs.Facts.{EntriesTile}
 use Rattle.estimates.specs.Estimates.{Done, estOf}
 use Rattle.grid.specs.Judging.{shown}
 use Rattle.gridding.specs.Packed.{endedRows}
 
 -- the row's entries tile the columns from 0 on
 abbrev pub RowTiles : ℕ → GridRow → Type 0
-RowTiles columns r = Tiles columns 0 (r .entries)
+RowTiles columns r = EntriesTile columns 0 (r .entries)
 
 -- an entry of the table in line t that is no filler is a cell of a later line, of the n lines of the sheet
 abbrev pub Later : ℕ → ℕ → Entry → Type 0

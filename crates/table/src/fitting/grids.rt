@@ -1,7 +1,7 @@
 // The grid of one table, written to the lent buffers.
 ghost use Prim.Native.Nat.{_-_};
 ghost use Rattle.records.specs.Kept.{keptsOf, entriesOf, rowsOf};
-ghost use Rattle.cells.specs.Listed.{heldRows};
+ghost use Rattle.cells.specs.Listed.{tableRows};
 ghost use Rattle.judge.specs.inner.Keeping.{Sparse};
 ghost use Rattle.table.specs.inner.Fitting.{Asked, GridRoom, GridFits, GridTold, GridMade};
 use super::FEW_ENTRIES;
@@ -46,7 +46,7 @@ fn grid_few(
     requires { ⌜ Asked (keptsOf (now lines)) line ⌝ }
     requires { ⌜ Sparse 512 (keptsOf (now lines)) ⌝ }
     requires { ⌜ GridRoom (now cell) (now first) (now span) (now row) (now «row_end») ⌝ }
-    ensures { λ r. ⌜ GridMade (heldRows (keptsOf (now (lines .entry))) (line - 1)) r
+    ensures { λ r. ⌜ GridMade (tableRows (keptsOf (now (lines .entry))) (line - 1)) r
         (now (cell .exit)) (now (first .exit)) (now (span .exit)) (now (row .exit)) (now («row_end» .exit)) ⌝ }
 {
     let mut entries = [0u32; 3 * FEW_ENTRIES];
@@ -79,7 +79,7 @@ fn grid_many(
 ) -> Counts
     requires { ⌜ Asked (keptsOf (now lines)) line ⌝ }
     requires { ⌜ GridRoom (now cell) (now first) (now span) (now row) (now «row_end») ⌝ }
-    ensures { λ r. ⌜ GridMade (heldRows (keptsOf (now (lines .entry))) (line - 1)) r
+    ensures { λ r. ⌜ GridMade (tableRows (keptsOf (now (lines .entry))) (line - 1)) r
         (now (cell .exit)) (now (first .exit)) (now (span .exit)) (now (row .exit)) (now («row_end» .exit)) ⌝ }
 {
     let mut entries = [0u32; 3 * MAX_ENTRIES];
@@ -112,7 +112,7 @@ pub fn grid(
 ) -> Counts
     requires { ⌜ Asked (keptsOf (now lines)) line ⌝ }
     requires { ⌜ GridRoom (now cell) (now first) (now span) (now row) (now «row_end») ⌝ }
-    ensures { λ r. ⌜ GridMade (heldRows (keptsOf (now (lines .entry))) (line - 1)) r
+    ensures { λ r. ⌜ GridMade (tableRows (keptsOf (now (lines .entry))) (line - 1)) r
         (now (cell .exit)) (now (first .exit)) (now (span .exit)) (now (row .exit)) (now («row_end» .exit)) ⌝ }
 {
     if judge::is_sparse(lines, 512) {

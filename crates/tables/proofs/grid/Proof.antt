@@ -49,30 +49,27 @@ keep-front-requires-5 c κs =
     let f = (c .before .before .before .before .before .before .before .before .before .before .before .before .before .before .before .before .before .before .before .before .before .before .before .before .before .before .before .before .before) .find-grid in
     omega (arith, grid-rooms ((c .before .before .before .before .before .before .before .before .before .before .before .before .before .before .before .before .before .before .before .before .before .before .before .before .before .before .before .before .before .before .before .before .before .before .before) .of-grid .ensures) (f .ensures) .1 .1, f .kept .1 .1 .1 .1 .1 .1 .1 .0)
 
-gridded-requires : tie.Need-gridded-requires
-gridded-requires c κs = search needs
-
 same-length : tie.Need-same-length
-same-length c = (c .before .before .before .before .before .before .before .before .before .before .before .before .before .before .before .before .before .before .before) .keep-front .kept .0 ∙ (c .before .before .before .before .before .before .before .before .before .before .before .before .before .before .before .before .before .before .before .before .before .before .before .before .before .before .before .before .before .before .before .before .before) .find-grid .kept .1 .1 .1 .0
+same-length c = (c .before .before .before .before .before .before .before .before .before .before .before .before .before .before .before .before .before .before) .keep-front .kept .0 ∙ (c .before .before .before .before .before .before .before .before .before .before .before .before .before .before .before .before .before .before .before .before .before .before .before .before .before .before .before .before .before .before .before .before) .find-grid .kept .1 .1 .1 .0
 
 same-length-2 : tie.Need-same-length-2
-same-length-2 c = (c .before .before .before .before .before .before .before .before .before .before .before .before .before .before .before) .keep-front2 .kept .0 ∙ (c .before .before .before .before .before .before .before .before .before .before .before .before .before .before .before .before .before .before .before .before .before .before .before .before .before .before .before .before .before .before .before .before .before) .find-grid .kept .1 .1 .1 .1 .0
+same-length-2 c = (c .before .before .before .before .before .before .before .before .before .before .before .before .before .before) .keep-front2 .kept .0 ∙ (c .before .before .before .before .before .before .before .before .before .before .before .before .before .before .before .before .before .before .before .before .before .before .before .before .before .before .before .before .before .before .before .before) .find-grid .kept .1 .1 .1 .1 .0
 
 same-length-3 : tie.Need-same-length-3
-same-length-3 c = (c .before .before .before .before .before .before .before .before .before .before .before) .keep-front3 .kept .0 ∙ (c .before .before .before .before .before .before .before .before .before .before .before .before .before .before .before .before .before .before .before .before .before .before .before .before .before .before .before .before .before .before .before .before .before) .find-grid .kept .1 .1 .1 .1 .1 .0
+same-length-3 c = (c .before .before .before .before .before .before .before .before .before .before) .keep-front3 .kept .0 ∙ (c .before .before .before .before .before .before .before .before .before .before .before .before .before .before .before .before .before .before .before .before .before .before .before .before .before .before .before .before .before .before .before .before) .find-grid .kept .1 .1 .1 .1 .1 .0
 
 same-length-4 : tie.Need-same-length-4
-same-length-4 c = (c .before .before .before .before .before .before .before) .keep-front4 .kept .0 ∙ (c .before .before .before .before .before .before .before .before .before .before .before .before .before .before .before .before .before .before .before .before .before .before .before .before .before .before .before .before .before .before .before .before .before) .find-grid .kept .1 .1 .1 .1 .1 .1 .0
+same-length-4 c = (c .before .before .before .before .before .before) .keep-front4 .kept .0 ∙ (c .before .before .before .before .before .before .before .before .before .before .before .before .before .before .before .before .before .before .before .before .before .before .before .before .before .before .before .before .before .before .before .before) .find-grid .kept .1 .1 .1 .1 .1 .1 .0
 
 same-length-5 : tie.Need-same-length-5
-same-length-5 c = (c .before .before .before) .keep-front5 .kept .0 ∙ (c .before .before .before .before .before .before .before .before .before .before .before .before .before .before .before .before .before .before .before .before .before .before .before .before .before .before .before .before .before .before .before .before .before) .find-grid .kept .1 .1 .1 .1 .1 .1 .1 .0
+same-length-5 c = (c .before .before) .keep-front5 .kept .0 ∙ (c .before .before .before .before .before .before .before .before .before .before .before .before .before .before .before .before .before .before .before .before .before .before .before .before .before .before .before .before .before .before .before .before) .find-grid .kept .1 .1 .1 .1 .1 .1 .1 .0
 
 returns : tie.Need-returns
 returns c =
-    let f = (c .before .before .before .before .before .before .before .before .before .before .before .before .before .before .before .before .before .before .before .before .before .before .before .before .before .before .before .before .before .before .before .before .before) .find-grid in
-    grid-answered ((c .before .before .before .before .before .before .before .before .before .before .before .before .before .before .before .before .before .before .before .before .before .before .before .before .before .before .before .before .before .before .before .before .before .before .before .before .before .before .before) .of-grid .ensures) (f .ensures) ((c) .gridded .ensures) ((c .before .before .before .before .before .before .before .before .before .before .before .before .before .before .before .before .before .before .before .before .before .before) .entry-count .ensures)
-    ((c .before .before .before .before .before .before .before .before .before .before .before .before .before .before .before .before .before .before .before .before .before) .row-count .ensures) (f .kept .1 .1 .1 .0) (f .kept .1 .1 .1 .1 .0) (f .kept .1 .1 .1 .1 .1 .0) (f .kept .1 .1 .1 .1 .1 .1 .0) (f .kept .1 .1 .1 .1 .1 .1 .1 .0)
-    ((c .before .before .before .before .before .before .before .before .before .before .before .before .before .before .before .before .before .before .before) .keep-front .ensures) ((c .before .before .before .before .before .before .before .before .before .before .before .before .before .before .before) .keep-front2 .ensures) ((c .before .before .before .before .before .before .before .before .before .before .before) .keep-front3 .ensures) ((c .before .before .before .before .before .before .before) .keep-front4 .ensures) ((c .before .before .before) .keep-front5 .ensures)
+    let f = (c .before .before .before .before .before .before .before .before .before .before .before .before .before .before .before .before .before .before .before .before .before .before .before .before .before .before .before .before .before .before .before .before) .find-grid in
+    grid-answered ((c .before .before .before .before .before .before .before .before .before .before .before .before .before .before .before .before .before .before .before .before .before .before .before .before .before .before .before .before .before .before .before .before .before .before .before .before .before .before) .of-grid .ensures) (f .ensures) ((c .before .before .before .before .before .before .before .before .before .before .before .before .before .before .before .before .before .before .before .before .before) .entry-count .ensures)
+    ((c .before .before .before .before .before .before .before .before .before .before .before .before .before .before .before .before .before .before .before .before) .row-count .ensures) (f .kept .1 .1 .1 .0) (f .kept .1 .1 .1 .1 .0) (f .kept .1 .1 .1 .1 .1 .0) (f .kept .1 .1 .1 .1 .1 .1 .0) (f .kept .1 .1 .1 .1 .1 .1 .1 .0)
+    ((c .before .before .before .before .before .before .before .before .before .before .before .before .before .before .before .before .before .before) .keep-front .ensures) ((c .before .before .before .before .before .before .before .before .before .before .before .before .before .before) .keep-front2 .ensures) ((c .before .before .before .before .before .before .before .before .before .before) .keep-front3 .ensures) ((c .before .before .before .before .before .before) .keep-front4 .ensures) ((c .before .before) .keep-front5 .ensures)
 
 pub grid-spec : {M : Type 1} → statement M
 grid-spec =
@@ -87,7 +84,6 @@ grid-spec =
     keep-front-requires-3
     keep-front-requires-4
     keep-front-requires-5
-    gridded-requires
     same-length
     same-length-2
     same-length-3

@@ -4,7 +4,7 @@ use mathlib.Core.Path.{_≡_}
 use Prim.Native.Nat.{_-_}
 use lib.ListN.{length}
 use borrow.Author.Needs.{needs}
-use Rattle.listing.specs.Listing.{Place}
+use Rattle.writing.specs.Writing.{Place}
 use Rattle.answering.proofs.figures.estimate_lines.Statement.{statement}
 use Rattle.answering.proofs.figures.estimate_lines.Tie as tie
 

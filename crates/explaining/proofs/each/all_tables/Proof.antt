@@ -4,7 +4,7 @@ use mathlib.Core.Path.{_≡_, refl, _∙_}
 use Prim.Native.Nat.{_-_}
 use native.Mathlib.Omega.{arith}
 use lib.ListN.{length}
-use Rattle.listing.specs.Listing.{Place}
+use Rattle.writing.specs.Writing.{Place}
 use Rattle.listing.proofs.Ready.{table-at}
 use Rattle.explaining.specs.inner.Tables.{SameRooms}
 use Rattle.explaining.proofs.Wholes.{same-turn, same-rooms}
@@ -13,29 +13,29 @@ use Rattle.explaining.proofs.each.all_tables.Statement.{statement}
 use Rattle.explaining.proofs.each.all_tables.Tie as tie
 
 abbrev Inv-loop : tie.InvT-loop
-Inv-loop out₀ at given lines figures grid₀ rows₀ n next₀ i₀ out grid rows next i = Place out next × (length out ≡ length out₀) × SameRooms grid₀ rows₀ grid rows
+Inv-loop out₀ at given lines figures walk grid₀ rows₀ n next₀ i₀ out grid rows next i = Place out next × (length out ≡ length out₀) × SameRooms grid₀ rows₀ grid rows
 
 abbrev μ-loop : tie.MeasureT-loop
-μ-loop out₀ at given lines figures grid₀ rows₀ n next₀ i₀ out grid rows next i = n - i
+μ-loop out₀ at given lines figures walk grid₀ rows₀ n next₀ i₀ out grid rows next i = n - i
 
 count-requires : tie.Need-count-requires Inv-loop μ-loop
 count-requires c κs = search needs
 
 loop-holds : tie.Need-loop-holds Inv-loop μ-loop
 loop-holds c =
-    ((c .before .before .before .before .before .before) .pre .0, refl, record { grid-same = refl; rows-same = refl })
+    ((c .before .before .before .before .before .before .before) .pre .0, refl, record { grid-same = refl; rows-same = refl })
 
 kept-at-requires : tie.Need-kept-at-requires Inv-loop μ-loop
 kept-at-requires c κs = search needs
 
-table-requires : tie.Need-table-requires Inv-loop μ-loop
-table-requires c κs =
-    let pre = (c .before .before .before .before .before .before .before .before .before .before .before .before .before .before) .pre in
+walked-table-requires : tie.Need-walked-table-requires Inv-loop μ-loop
+walked-table-requires c κs =
+    let pre = (c .before .before .before .before .before .before .before .before .before .before .before .before .before .before .before) .pre in
     let inv = (c .before .before .before .before .before .before .before) .loop .inv in (
       inv .0,
       (
         table-at _ ((c .before .before .before .before .before .before .before .before) .count .ensures) ((c .before .before .before .before .before .before) .loop-test .taken) ((c .before .before .before .before .before) .kept-at .ensures) ((c .before .before .before) .if1 .taken),
-        (pre .1 .0, same-rooms (inv .2) (pre .1 .1)),
+        (pre .1 .0, (pre .1 .1 .0, same-rooms (inv .2) (pre .1 .1 .1))),
       ),
     )
 
@@ -49,9 +49,9 @@ loop-less c =
 
 loop-again : tie.Need-loop-again Inv-loop μ-loop
 loop-again c =
-    let t = (c .before .before .before .before .before .before) .table in
+    let t = (c .before .before .before .before .before .before) .walked-table in
     let inv = (c .before .before .before .before .before .before .before .before .before .before .before .before .before .before) .loop .inv in
-    (t .ensures, t .kept .0 ∙ inv .1, same-turn (inv .2) (t .kept .1 .1 .1 .1 .1 .1 .0) (t .kept .1 .1 .1 .1 .1 .1 .1 .0))
+    (t .ensures, t .kept .0 ∙ inv .1, same-turn (inv .2) (t .kept .1 .1 .1 .1 .1 .1 .1 .0) (t .kept .1 .1 .1 .1 .1 .1 .1 .1 .0))
 
 add-i-2 : tie.Need-add-i-2 Inv-loop μ-loop
 add-i-2 c = search needs
@@ -83,7 +83,7 @@ all-tables-spec =
     count-requires
     loop-holds
     kept-at-requires
-    table-requires
+    walked-table-requires
     add-i
     loop-less
     loop-again

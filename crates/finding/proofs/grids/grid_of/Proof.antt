@@ -3,7 +3,7 @@ use mathlib.Core.Path.{sym}
 use native.Mathlib.Omega.{arith}
 use lib.Seq.{length-take-le}
 use Rattle.finding.proofs.Openings.{front-asked}
-use Rattle.finding.proofs.Gridded.{grid-refused, grid-read, counts-few}
+use Rattle.finding.proofs.GridFound.{grid-refused, grid-read, counts-few}
 use borrow.Author.Needs.{needs}
 use Rattle.finding.proofs.grids.grid_of.Statement.{statement}
 use Rattle.finding.proofs.grids.grid_of.Tie as tie

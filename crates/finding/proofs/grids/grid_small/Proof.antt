@@ -2,7 +2,7 @@
 use native.Mathlib.Omega.{arith}
 use Rattle.opening.proofs.Passing.{places-room}
 use Rattle.finding.proofs.Openings.{opened-at, asked-in}
-use Rattle.finding.proofs.Gridded.{grid-found}
+use Rattle.finding.proofs.GridFound.{grid-found}
 use borrow.Author.Needs.{needs}
 use Rattle.finding.proofs.grids.grid_small.Statement.{statement}
 use Rattle.finding.proofs.grids.grid_small.Tie as tie

@@ -4,37 +4,38 @@ use mathlib.Core.Path.{_≡_, refl, _∙_}
 use Prim.Native.Nat.{_-_}
 use native.Mathlib.Omega.{arith}
 use lib.ListN.{length}
-use Rattle.listing.specs.Listing.{Place}
-use Rattle.listing.specs.inner.Rooms.{SameLengths}
-use Rattle.listing.proofs.Ready.{table-at, same-start, same-turn, same-rooms}
+use Rattle.writing.specs.Writing.{Place}
+use Rattle.walking.specs.inner.Steps.{Kepts}
+use Rattle.walking.proofs.Rooms.{same-start, same-turn, same-rooms}
+use Rattle.listing.proofs.Ready.{table-at}
 use borrow.Author.Needs.{needs}
 use Rattle.listing.proofs.layouts.layouts.Statement.{statement}
 use Rattle.listing.proofs.layouts.layouts.Tie as tie
 
 abbrev Inv-loop : tie.InvT-loop
-Inv-loop out₀ at given lines figures grid₀ rows₀ column₀ x₀ wide₀ n next₀ i₀ out grid rows column x wide next i =
-    Place out next × (length out ≡ length out₀) × SameLengths grid₀ rows₀ column₀ x₀ wide₀ grid rows column x wide
+Inv-loop out₀ at given lines figures walk grid₀ rows₀ column₀ x₀ wide₀ n next₀ i₀ out grid rows column x wide next i =
+    Place out next × (length out ≡ length out₀) × Kepts grid₀ rows₀ column₀ x₀ wide₀ grid rows column x wide
 
 abbrev μ-loop : tie.MeasureT-loop
-μ-loop out₀ at given lines figures grid₀ rows₀ column₀ x₀ wide₀ n next₀ i₀ out grid rows column x wide next i = n - i
+μ-loop out₀ at given lines figures walk grid₀ rows₀ column₀ x₀ wide₀ n next₀ i₀ out grid rows column x wide next i = n - i
 
 count-requires : tie.Need-count-requires Inv-loop μ-loop
 count-requires c κs = search needs
 
 loop-holds : tie.Need-loop-holds Inv-loop μ-loop
-loop-holds c = ((c .before .before .before .before .before .before .before .before .before) .pre .0, refl, same-start)
+loop-holds c = ((c .before .before .before .before .before .before .before .before .before .before) .pre .0, refl, same-start)
 
 kept-at-requires : tie.Need-kept-at-requires Inv-loop μ-loop
 kept-at-requires c κs = search needs
 
-table-requires : tie.Need-table-requires Inv-loop μ-loop
-table-requires c κs =
-    let pre = (c .before .before .before .before .before .before .before .before .before .before .before .before .before .before .before .before .before .before .before .before) .pre in
+walked-table-requires : tie.Need-walked-table-requires Inv-loop μ-loop
+walked-table-requires c κs =
+    let pre = (c .before .before .before .before .before .before .before .before .before .before .before .before .before .before .before .before .before .before .before .before .before) .pre in
     let inv = (c .before .before .before .before .before .before .before .before .before .before) .loop .inv in (
       inv .0,
       (
         table-at _ ((c .before .before .before .before .before .before .before .before .before .before .before) .count .ensures) ((c .before .before .before .before .before .before .before .before .before) .loop-test .taken) ((c .before .before .before .before .before .before .before .before) .kept-at .ensures) ((c .before .before .before .before .before .before) .if1 .taken),
-        (pre .1 .0, same-rooms (inv .2) (pre .1 .1)),
+        (pre .1 .0, (pre .1 .1 .0, same-rooms (inv .2) (pre .1 .1 .1))),
       ),
     )
 
@@ -46,12 +47,11 @@ loop-less c = omega (arith, (c .before .before .before .before .before .before .
 
 loop-again : tie.Need-loop-again Inv-loop μ-loop
 loop-again c =
-    let t = (c .before .before .before .before .before .before .before .before .before .before .before .before) .table in
+    let t = (c .before .before .before .before .before .before .before .before .before .before .before .before) .walked-table in
     let inv = (c .before .before .before .before .before .before .before .before .before .before .before .before .before .before .before .before .before .before .before .before .before .before .before) .loop .inv in (
       t .ensures,
       t .kept .0 ∙ inv .1,
-      same-turn (inv .2) (t .kept .1 .1 .1 .1 .1 .1 .0) (t .kept .1 .1 .1 .1 .1 .1 .1 .0) (t .kept .1 .1 .1 .1 .1 .1 .1 .1 .0)
-          (t .kept .1 .1 .1 .1 .1 .1 .1 .1 .1 .0) (t .kept .1 .1 .1 .1 .1 .1 .1 .1 .1 .1 .0),
+      same-turn (inv .2) (t .kept .1 .1 .1 .1 .1 .1 .1 .0) (t .kept .1 .1 .1 .1 .1 .1 .1 .1 .0) (t .kept .1 .1 .1 .1 .1 .1 .1 .1 .1 .0) (t .kept .1 .1 .1 .1 .1 .1 .1 .1 .1 .1 .0) (t .kept .1 .1 .1 .1 .1 .1 .1 .1 .1 .1 .1 .0),
     )
 
 add-i-2 : tie.Need-add-i-2 Inv-loop μ-loop
@@ -67,10 +67,10 @@ same-length : tie.Need-same-length Inv-loop μ-loop
 same-length c = c .before .loop .inv .1
 
 same-length-2 : tie.Need-same-length-2 Inv-loop μ-loop
-same-length-2 c = c .before .loop .inv .2 .grid-same
+same-length-2 c = c .before .loop .inv .2 .entry-same
 
 same-length-3 : tie.Need-same-length-3 Inv-loop μ-loop
-same-length-3 c = c .before .loop .inv .2 .rows-same
+same-length-3 c = c .before .loop .inv .2 .row-same
 
 same-length-4 : tie.Need-same-length-4 Inv-loop μ-loop
 same-length-4 c = c .before .loop .inv .2 .column-same
@@ -93,7 +93,7 @@ layouts-spec =
     count-requires
     loop-holds
     kept-at-requires
-    table-requires
+    walked-table-requires
     add-i
     loop-less
     loop-again

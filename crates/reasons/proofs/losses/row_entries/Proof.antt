@@ -3,7 +3,7 @@
 use mathlib.Core.Path.{_≡_}
 use Prim.Native.Nat.{_-_}
 use lib.ListN.{length}
-use Rattle.listing.specs.Listing.{Place}
+use Rattle.writing.specs.Writing.{Place}
 use borrow.Author.Needs.{needs}
 use Rattle.reasons.proofs.losses.row_entries.Statement.{statement}
 use Rattle.reasons.proofs.losses.row_entries.Tie as tie

@@ -6,7 +6,7 @@ use Prim.Native.Nat.{_+_, _-_, _≤_, _<_}
 use native.Mathlib.Omega.{arith}
 use lib.ListN.{length, drop}
 use borrow.Author.Needs.{needs}
-use Rattle.line.specs.Lines.{feeds}
+use Rattle.fields.specs.Lines.{feeds}
 use Rattle.sheet.proofs.Heading.{feeds-here, feeds-past, feeds-end}
 use Rattle.sheet.proofs.front.feeds_in.Statement.{statement}
 use Rattle.sheet.proofs.front.feeds_in.Tie as tie

@@ -5,7 +5,7 @@ use Prim.Native.Nat.{_+_, _-_, _≤_}
 use native.Mathlib.Omega.{arith}
 use lib.ListN.{length, drop, length-take}
 use borrow.Author.Needs.{needs}
-use Rattle.line.specs.Lines.{feeds}
+use Rattle.fields.specs.Lines.{feeds}
 use Rattle.sheet.proofs.Heading.{feeds-block, feeds-few, feeds-end}
 use Rattle.sheet.proofs.front.feeds_of.Statement.{statement}
 use Rattle.sheet.proofs.front.feeds_of.Tie as tie

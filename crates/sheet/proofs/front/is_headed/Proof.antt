@@ -3,7 +3,7 @@
 use mathlib.Core.Path.{sym}
 use Prim.Native.Nat.{_-_}
 use borrow.Author.Needs.{needs}
-use Rattle.line.specs.Lines.{headingBytes}
+use Rattle.fields.specs.Lines.{headingBytes}
 use Rattle.sheet.proofs.Heading.{HeadedFrom, heading-short, headed-start, headed-more, headed-not, headed-all}
 use Rattle.sheet.proofs.front.is_headed.Statement.{statement}
 use Rattle.sheet.proofs.front.is_headed.Tie as tie

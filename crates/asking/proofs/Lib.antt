@@ -1,0 +1,2 @@
+-- Laws of what is asked before a sheet is read.
+pub mod Early

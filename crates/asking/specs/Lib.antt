@@ -1,0 +1,2 @@
+-- What is asked before a sheet is read.
+pub mod inner

@@ -1,0 +1,2 @@
+-- What holds of every walk, as theorems about sheets.
+pub mod Descent

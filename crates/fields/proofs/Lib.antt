@@ -1,0 +1,5 @@
+pub mod OnField
+pub mod Digits
+pub mod Signs
+pub mod Keys
+pub mod Names

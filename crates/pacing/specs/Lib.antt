@@ -1,0 +1,3 @@
+-- A sheet opened, measured and walked.
+pub mod Sheets
+pub mod inner

@@ -1,0 +1,2 @@
+-- Widths as records.
+pub mod Places

@@ -1,0 +1,2 @@
+-- A step of the walk, and the walk.
+pub mod Steps

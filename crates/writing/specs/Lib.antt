@@ -1,0 +1,2 @@
+-- The definitions that the contracts of this crate cite. Assumes nothing.
+pub mod Writing
