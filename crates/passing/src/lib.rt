@@ -3,6 +3,11 @@ ghost use mathlib.Core.Path.{_≡_};
 ghost use Prim.Native.Nat.{_-_};
 ghost use Rattle.passing.specs.Walk.{takesOff, passedOn, tooNarrow, printed};
 ghost use Rattle.passing.specs.inner.Places.{widthPlace, widthBy};
+use kinds::DD;
+use kinds::HEAD;
+use kinds::OL;
+use kinds::QUOTE;
+use kinds::UL;
 use records::Place;
 use text::Estimate;
 
@@ -11,16 +16,6 @@ pub enum Width {
     Wide(u32),
     Without,
 }
-
-const HEAD: u32 = 10;
-
-const QUOTE: u32 = 12;
-
-const UL: u32 = 13;
-
-const OL: u32 = 14;
-
-const DD: u32 = 17;
 
 // These take off their prefix.
 fn takes_off(kind: u32) -> bool
