@@ -20,6 +20,9 @@ use Rattle.estimates.specs.Estimates.{measured, estimateOf, leafOf, holderOf, g
 use Rattle.cutting.specs.Cut.{pick, cutOnce, cutBy, cut}
 use Rattle.widths.specs.Share.{share, sharesOf}
 use Rattle.widths.specs.Widths.{wayOf, finalWidths}
+use Rattle.widths.specs.declared.Way.the-variants.{Down}
+use Rattle.table.specs.Laying.{wayIn}
+use Rattle.table.specs.Arranging.{boxesAt}
 use Rattle.placing.specs.Place.{placeSide, placeDown, placeRow, placeRows}
 use Rattle.passing.specs.Walk.{takesOff, passedOn, tooNarrow, printedIn, cellWidth, fromNearest, lineWidth, walkTo, walk, narrowFrom, narrowChecks}
 use Rattle.passing.specs.declared.Width.{Width}
@@ -48,6 +51,16 @@ tabled-in =
     ln 0 12 0 0 0 ∷ ln 1 19 0 0 0 ∷ ln 2 20 0 0 0 ∷ ln 3 21 0 0 0 ∷ ln 4 22 1 1 0 ∷ ln 5 0 0 0 3 ∷ ln 4 22 1 1 0 ∷ ln 5 23 0 0 0 ∷ ln 4 22 1 1 0
     ∷ ln 5 19 0 0 0 ∷ ln 6 20 0 0 0 ∷ ln 7 21 0 0 0 ∷ ln 8 22 1 1 0 ∷ ln 9 0 0 0 2 ∷ []
 
+-- `abc` in the first cell of a table, and in its second a table with an empty cell
+abbrev lost : List Kept
+lost =
+    ln 0 19 0 0 0 ∷ ln 1 20 0 0 0 ∷ ln 2 21 0 0 0 ∷ ln 3 22 1 1 0 ∷ ln 4 0 0 0 3 ∷ ln 3 22 1 1 0 ∷ ln 4 19 0 0 0 ∷ ln 5 20 0 0 0 ∷ ln 6 21 0 0 0
+    ∷ ln 7 22 1 1 0 ∷ []
+
+-- a table in a quote, with the cell `abc`
+abbrev squeezed : List Kept
+squeezed = ln 0 12 0 0 0 ∷ ln 1 19 0 0 0 ∷ ln 2 20 0 0 0 ∷ ln 3 21 0 0 0 ∷ ln 4 22 1 1 0 ∷ ln 5 0 0 0 3 ∷ []
+
 pub record Walks : Type 0 where
   -- the quote takes off its prefix
   pub quote-at-5 : walk 3 0 5 quoted ≡ Wide 5 ∷ Wide 3 ∷ []
@@ -67,6 +80,12 @@ pub record Walks : Type 0 where
   pub table-at-11 :
       walk 3 0 11 tabled-in
       ≡ Wide 11 ∷ Wide 9 ∷ Wide 9 ∷ Wide 9 ∷ Wide 3 ∷ Wide 3 ∷ Without ∷ Without ∷ Wide 2 ∷ Wide 2 ∷ Wide 2 ∷ Wide 2 ∷ Wide 2 ∷ Wide 2 ∷ []
+  -- a table in a missing cell has no width, nor has anything in it
+  pub lost-at-30 : walk 3 0 30 lost ≡ Wide 30 ∷ Wide 30 ∷ Wide 30 ∷ Wide 3 ∷ Wide 3 ∷ Without ∷ Without ∷ Without ∷ Without ∷ Without ∷ []
+  -- a table in a quote that passes on 0 has the width 0: it goes down, and its cell is missing
+  pub squeezed-at-2 : walk 0 0 2 squeezed ≡ Wide 2 ∷ Wide 0 ∷ Wide 0 ∷ Wide 0 ∷ Without ∷ Without ∷ []
+  pub squeezed-passes : verdictOf (narrowChecks 0 0 2 0 squeezed) ≡ Accepted
+  pub squeezed-down : wayIn (columnsOf (tableRows squeezed 1)) (boxesAt 0 squeezed 1) 0 0 ≡ Down
 
 walks : Walks
 unfolding takesOff passedOn tooNarrow printedIn cellWidth fromNearest lineWidth walkTo narrowFrom verdictOf firstAnswer tableRows measured estimateOf leafOf holderOf gather prefixOf boxOf tabled sum upTo sumAt largestAt flat gridOf columnsOf entriesOf longest originals entriesFrom endsOf endsFrom countBelow mem rowFrom fillers later nexts hangOf frame rowSum widest resolveRow fillBody cutRow cutBody resolveBody resolved olPrefix writing lastNumber digits digitsIn wayOf finalWidths share sharesOf cut cutBy cutOnce pick placeRows placeRow placeSide placeDown
@@ -82,4 +101,8 @@ walks =
       marked-passes = refl;
       listed-at-4 = refl;
       table-at-11 = refl;
+      lost-at-30 = refl;
+      squeezed-at-2 = refl;
+      squeezed-passes = refl;
+      squeezed-down = refl;
     }
