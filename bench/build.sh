@@ -1,15 +1,16 @@
 #!/bin/sh
-# build.sh LIB_RS BUILD_FOLDER
-# Cuts html2text's table functions out of its lib.rs and builds BUILD_FOLDER/driver, linked with our static library.
-# Needs rustc (1.85 or later), Debian's librust-unicode-width-dev and ../target/staticlib/libtables_c.a from `rt staticlib tables_c`.
+# build.sh LIB_RS BUILD_FOLDER [LIBRARY_FOLDER]
+# Cuts html2text's table functions out of its src/lib.rs and of the render/text_renderer.rs beside it, and builds BUILD_FOLDER/driver,
+# linked with the libtables_c.a in LIBRARY_FOLDER: without one, target/staticlib, where `rt staticlib tables_c` writes it.
+# Needs rustc (1.85 or later), Python 3.8 or later and Debian's librust-unicode-width-dev.
 set -eu
 here=$(cd "$(dirname "$0")" && pwd)
 root=$(cd "$here/.." && pwd)
-lib=${1:?path of the lib.rs of html2text 0.17.4}
+lib=${1:?path of the src/lib.rs of html2text 0.17.4, with render/text_renderer.rs beside it}
 mkdir -p "${2:?build folder}"
 build=$(cd "$2" && pwd)
 case "$build/" in "$root"/*) echo "the build folder must lie outside $root" >&2; exit 1;; esac
-libraries=$root/target/staticlib
+libraries=${3:-$root/target/staticlib}
 [ -f "$libraries/libtables_c.a" ] || { echo "no $libraries/libtables_c.a: run rt staticlib tables_c" >&2; exit 1; }
 registry=${UNICODE_WIDTH_REGISTRY:-/usr/share/cargo/registry}
 width=$(ls -d "$registry"/unicode-width-* | head -n 1)

@@ -1,92 +1,20 @@
 //! The Rust side: html2text's own private functions and what stands around them.
 //!
-//! The file named by GENERATED_RS holds the functions, cut verbatim out of html2text's lib.rs by oracle/extract.py. Here are
-//! - stand-ins for what they lean on: error, style, context, decorator, renderer and document tree. Each has only what the cut functions look at,
-//!   so it costs the Rust less than the real thing. Cell, BTreeSet and HashMap are the standard ones, as in html2text;
+//! The file named by GENERATED_RS holds the functions, cut verbatim out of html2text's sources by oracle/extract.py, and oracle/standins.rs
+//! stand-ins for what they lean on: error, style, context, decorator, renderer and document tree. Each has only what the cut functions look at,
+//! so it costs the Rust less than the real thing. Cell, BTreeSet and HashMap are the standard ones, as in html2text. Here are
+//! - the nodes of the document tree;
 //! - `read` and `plant`, which make the document tree out of a sheet. They are the harness's own and no part of html2text: measured apart;
 //! - the steps of html2text's work (`tree`, `grids`, `estimate`, `lay`, `place`), each one call of its functions, and the whole of it;
 //! - `answers`, its figures in the form of our own, for the comparison.
 #![allow(dead_code, unused_variables, irrefutable_let_patterns)]
 
-use std::cell::{Cell, RefCell};
-use std::cmp::{max, min};
-use std::collections::{BTreeSet, HashMap};
-use std::io::{self, Write};
-use std::rc::Rc;
-use unicode_width::UnicodeWidthStr;
+use std::cell::Cell;
+use std::collections::BTreeSet;
 
 // ---------------------------------------------------------------- stand-ins
 
-macro_rules! html_trace {
-    ($($t:tt)*) => {};
-}
-
-#[derive(Debug)]
-pub enum Error {
-    Fail,
-}
-
-/// No style: only the sheet line, so that a filler and an extra row (which html2text makes with Default) have line 0.
-#[derive(Debug, Clone, Default)]
-struct ComputedStyle {
-    line: usize,
-}
-
-struct HtmlContext {
-    min_wrap_width: usize,
-}
-
-trait TextDecorator {
-    fn header_prefix(&self, level: usize) -> String;
-    fn quote_prefix(&self) -> String;
-    fn unordered_item_prefix(&self) -> String;
-    fn ordered_item_prefix(&self, i: i64) -> String;
-}
-
-/// docs/FORMAT.md's decorator.
-struct Ours;
-
-impl TextDecorator for Ours {
-    fn header_prefix(&self, level: usize) -> String {
-        "#".repeat(level) + " "
-    }
-    fn quote_prefix(&self) -> String {
-        "> ".to_string()
-    }
-    fn unordered_item_prefix(&self) -> String {
-        "* ".to_string()
-    }
-    fn ordered_item_prefix(&self, i: i64) -> String {
-        format!("{}. ", i)
-    }
-}
-
-struct RenderOptions {
-    raw: bool,
-}
-
-struct TextRenderer {
-    width: usize,
-    options: RenderOptions,
-}
-
-impl TextRenderer {
-    fn width(&self) -> usize {
-        self.width
-    }
-}
-
-struct QualName {
-    local: String,
-}
-struct Attribute {
-    name: QualName,
-    value: String,
-}
-enum NodeData {
-    Element { attrs: RefCell<Vec<Attribute>> },
-}
-use NodeData::Element;
+include!("../oracle/standins.rs");
 
 /// A node of the document tree. The kind is a number, so that choosing the function for a node costs next to nothing.
 pub struct DomNode {
@@ -98,21 +26,6 @@ pub struct DomNode {
     children: RefCell<Vec<Handle>>,
 }
 pub type Handle = Rc<DomNode>;
-
-struct RenderInput {
-    handle: Handle,
-    parent_style: Rc<ComputedStyle>,
-}
-
-impl RenderInput {
-    fn new(handle: Handle, parent_style: Rc<ComputedStyle>) -> Self {
-        RenderInput { handle, parent_style }
-    }
-    fn children(&self) -> Vec<RenderInput> {
-        let style = &self.parent_style;
-        self.handle.children.borrow().iter().map(|c| RenderInput::new(c.clone(), style.clone())).collect()
-    }
-}
 
 // ------------------------------------------------------------- the cut text
 
@@ -354,7 +267,7 @@ pub fn estimated(dom: &Handle, wrap: u32) -> Tree {
 
 /// Way, column widths, table width and the rows that know them.
 fn lay_one(table: RenderTable, raw: u32, width: u32) -> Laid {
-    let mut renderer = TextRenderer { width: width as usize, options: RenderOptions { raw: raw == 1 } };
+    let mut renderer = TextRenderer { width: width as usize, options: RenderOptions { raw: raw == 1, allow_width_overflow: false } };
     render_table_tree_head(&mut renderer, table)
 }
 

@@ -1,4 +1,4 @@
-//! The sheets that are measured, made here from nothing. All are accepted: at most 65,536 bytes, 4,096 lines, 4,096 positions, 8,192 entries.
+//! The sheets that are measured, made here from nothing. All are accepted: at most 65,536 bytes, 4,096 lines, depth 24, 4,096 positions, 8,192 entries.
 
 pub struct Sheet {
     pub name: String,
@@ -137,19 +137,22 @@ fn small_tables(name: &str, count: usize, cell: bool) -> Sheet {
     draft.done(name, 3, 80, line)
 }
 
-/// Chains of 15 tables, each the one cell of the one before.
+/// Chains of six tables, as many as the depth allows, each the one cell of the one before. The last one's cell has the largest depth and
+/// is empty; the text stands in the cell above, before the last table.
 fn chains(name: &str, count: usize) -> Sheet {
     let mut draft = Draft::new();
     let mut line = 0;
     draft.plain(0, "div");
     for _ in 0..count {
         line = draft.lines + 1;
-        for k in 0..15 {
+        for k in 0..6 {
+            if k == 5 {
+                draft.text(1 + 4 * k, "some words here");
+            }
             draft.table(1 + 4 * k);
             draft.plain(3 + 4 * k, "row");
             draft.cell(4 + 4 * k, 1, 1);
         }
-        draft.text(61, "some words here");
     }
     draft.done(name, 3, 80, line)
 }
@@ -276,8 +279,8 @@ pub fn all() -> Vec<Sheet> {
         small_tables("tables:333", 333, false),
         small_tables("tables:1365", 1365, false),
         small_tables("819-tables-of-a-cell", 819, true),
-        chains("chains:6x15", 6),
-        chains("chains:66x15", 66),
+        chains("chains:15x6", 15),
+        chains("chains:161x6", 161),
         flat("1x1900-at-7000", 1, 1900, true, false, 7000),
         flat("1x1900-at-65535", 1, 1900, true, false, 65535),
         wide_spans("spans-of-1000", 1540),

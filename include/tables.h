@@ -35,7 +35,7 @@
 enum tables_refusal {
     TABLES_ACCEPTED = 0,
     TABLES_BAD_HEADING = 1,      /* the first line is not exactly the heading with its line feed; line 0 */
-    TABLES_BAD_LINE = 2,         /* a line is not written as a sheet's lines are, or a field is out of its range; the line */
+    TABLES_BAD_LINE = 2,         /* a line is not written as a sheet's lines are, or a field is out of its range (depth: 0 to 24); the line */
     TABLES_BAD_BYTE = 3,         /* a byte 131 to 255 in a text; the line, and 0 in tables_measure */
     TABLES_BAD_NESTING = 4,      /* the depth or the place of a line breaks the nesting, or a table or a body is empty: the line; no node: 0 */
     TABLES_ROW_TOO_LONG = 5,     /* a row of a table ends past position 4,096; the table's line */

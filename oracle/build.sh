@@ -1,10 +1,10 @@
 #!/bin/sh
 # build.sh LIB_RS BUILD_FOLDER
-# Cuts html2text's table functions out of its lib.rs and builds BUILD_FOLDER/table_oracle.
-# Needs rustc (1.85 or later) and Debian's librust-unicode-width-dev.
+# Cuts html2text's table functions out of its src/lib.rs and of the render/text_renderer.rs beside it, and builds BUILD_FOLDER/table_oracle.
+# Needs rustc (1.85 or later), Python 3.8 or later and Debian's librust-unicode-width-dev.
 set -eu
 here=$(cd "$(dirname "$0")" && pwd)
-lib=${1:?path of the lib.rs of html2text 0.17.4}
+lib=${1:?path of the src/lib.rs of html2text 0.17.4, with render/text_renderer.rs beside it}
 mkdir -p "${2:?build folder}"
 build=$(cd "$2" && pwd)
 case "$build/" in "$here"/*) echo "the build folder must lie outside $here" >&2; exit 1;; esac

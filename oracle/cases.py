@@ -11,7 +11,8 @@ HEADING = b"depth kind n cols rows text\n"
 
 MAX_BYTES = 65536       # of a sheet
 MAX_NODES = 4096        # node lines of a sheet
-MAX_DEPTH = 63
+MAX_DEPTH = 24          # of a node line
+MAX_NESTED = (MAX_DEPTH + 1) // 4   # tables with cells inside each other: each takes four depths
 MAX_END = 4096          # position at which a row may end
 MAX_ENTRIES = 8192      # entries of a grid
 MAX_COLS = 1000         # colspan of a cell

@@ -15,7 +15,8 @@ Three places are cut smaller than an item:
   * of the renderer only the method `width_minus` is taken, whole, in a module in
     which `Result` is the renderer's own.
 Attributes and doc comments straight above an item go with it.
-OUT_RS must not lie in the repository: it is a build product.
+OUT_RS must not lie in the repository: it is a build product. What the cut text
+leans on stands in standins.rs, for every program around it.
 """
 
 import os
@@ -133,6 +134,12 @@ ITEMS = [
 NODE_METHODS = ["new", "new_styled", "get_size_estimate", "calc_size_estimate", "into_info"]
 
 
+TABLE_HEAD = ("fn render_table_tree_head(\n"
+              "    renderer: &mut TextRenderer,\n"
+              "    table: RenderTable,\n"
+              ") -> (bool, Vec<usize>, usize, Vec<RenderNode>) {")
+
+
 def render_table_tree_head(src):
     item = cut(src, r"fn render_table_tree<")
     body = item.index("{\n", item.index("-> render::Result<")) + 1
@@ -141,10 +148,7 @@ def render_table_tree_head(src):
     if not item[end:].lstrip().startswith("renderer.start_table()?;"):
         raise SystemExit("render_table_tree does not go on as expected")
     return (
-        "fn render_table_tree_head(\n"
-        "    renderer: &mut TextRenderer,\n"
-        "    table: RenderTable,\n"
-        ") -> (bool, Vec<usize>, usize, Vec<RenderNode>) {"
+        TABLE_HEAD
         + item[body:end]
         + "\n    // ---- the cut text ends here ----\n"
         "    let rows = table.into_rows(col_widths.clone(), vert_row);\n"
@@ -152,13 +156,26 @@ def render_table_tree_head(src):
         "}\n")
 
 
-def width_minus(src):
+def in_prefixes(method):
     return ("mod prefixes {\n"
             "    use super::{TextRenderer, TooNarrow};\n"
             "    type Result<T> = std::result::Result<T, TooNarrow>;\n"
             "    impl TextRenderer {\n"
-            + cut(src, r"pub fn width_minus\b", "}", "    ")
+            + method
             + "    }\n}\n")
+
+
+def width_minus(src):
+    return in_prefixes(cut(src, r"pub fn width_minus\b", "}", "    "))
+
+
+def hollow():
+    """All that is cut out by its names, with nothing inside; for bench/check.sh, which has no lib.rs."""
+    shapes = {"trait": "trait %s {}\n", "struct": "struct %s {}\n", "enum": "enum %s {}\n", "type": "type %s = ();\n", "fn": "fn %s() {}\n"}
+    heads = [re.match(r"(\w+) (\w+)", head).groups() for head, _ in ITEMS]
+    out = [shapes[word] % name for word, name in heads if word in shapes]
+    out.append("impl RenderNode {\n" + "".join("    fn %s(&self) {}\n" % name for name in NODE_METHODS) + "}\n")
+    return "".join(out) + TABLE_HEAD + "\n    todo!()\n}\n" + in_prefixes("        pub fn width_minus(&self) {}\n")
 
 
 def main():

@@ -433,9 +433,10 @@ def huge_sums(dice):
 
 
 def nested(dice):
-    """Sixteen tables inside each other, down to depth 63."""
+    """As many tables inside each other as the depth allows; with one more, refusal 2."""
+    levels = cases.MAX_NESTED + dice.pick([0, 0, 0, 1])
     lines = []
-    for level in range(16):
+    for level in range(levels):
         depth = 4 * level
         lines += [node(depth, "table"), node(depth + 1, "body"), node(depth + 2, "row")]
         for _ in range(dice.below(3)):
@@ -445,7 +446,7 @@ def nested(dice):
         lines.append(cell(depth + 3, dice.between(0, 2), dice.pick([1, 1, 1, 1, 1, 2])))
         if dice.chance(30) and depth + 4 <= cases.MAX_DEPTH:
             lines.append(node(depth + 4, "text", text=some_text(dice, 9)))
-    for depth in range(63, 2, -4):      # later rows and cells on the way back up
+    for depth in range(4 * levels - 1, 2, -4):      # later rows and cells on the way back up
         if dice.chance(30):
             lines.append(cell(depth, 1, 1))
         if dice.chance(30):
@@ -455,7 +456,7 @@ def nested(dice):
 
 
 def deepest(dice):
-    """Lists inside each other down to depth 63; with one more, refusal 2."""
+    """Lists inside each other down to the largest depth; with one more, refusal 2."""
     last = cases.MAX_DEPTH + dice.pick([0, 0, 0, 1])
     lines = []
     for depth in range(last):
@@ -539,7 +540,8 @@ def limits(dice, k):
 NO_NUMBERS = [b"", b"-", b"+", b"+1", b"+0", b"01", b"00", b"007", b"-0", b"-00", b"-01", b"--1", b"1-",
               b"1e3", b"0x1", b"1.0", b"1,000", b"1_0", b"a", b"O", b"\xb2", b"\t1", b"1\t", b"1\r", b"\x001",
               b"1\x00", b"\xef\xbc\x91"]
-OUT_OF_RANGE = [b"-1", b"-5", b"64", b"65", b"1001", b"65535", b"65536", b"1000000001", b"-1000000001",
+TOO_DEEP = b"%d" % (cases.MAX_DEPTH + 1)
+OUT_OF_RANGE = [b"-1", b"-5", TOO_DEEP, b"%d" % (cases.MAX_DEPTH + 2), b"1001", b"65535", b"65536", b"1000000001", b"-1000000001",
                 b"256", b"4294967295", b"4294967296", b"4294967297", b"18446744073709551615",
                 b"18446744073709551616", b"18446744073709551617", b"99999999999999999999999",
                 b"-99999999999999999999999", b"1" + b"0" * 60]
@@ -668,7 +670,8 @@ def other_kind(dice, p):
 
 
 def other_depth(dice, p):
-    p.set_field(dice, 0, b"%d" % dice.pick([-1, 0, 1, 2, 3, 4, 5, 62, 63, 64, 65, dice.below(70)]))
+    last = cases.MAX_DEPTH
+    p.set_field(dice, 0, b"%d" % dice.pick([-1, 0, 1, 2, 3, 4, 5, last - 1, last, last + 1, last + 2, dice.below(last + 7)]))
 
 
 def separators(dice, p):
@@ -723,7 +726,7 @@ def last_feed_missing(dice, p):
 
 
 def stray_tail(dice, p):
-    p.tail = dice.pick([b"x", b" ", b"\r", b"\x00", b"\xff", b"0 text 0 0 0 a", b"1 em 0 0 0 ", b"64 em 0 0 0 "])
+    p.tail = dice.pick([b"x", b" ", b"\r", b"\x00", b"\xff", b"0 text 0 0 0 a", b"1 em 0 0 0 ", TOO_DEEP + b" em 0 0 0 "])
 
 
 def cut_anywhere(dice, p):
@@ -900,9 +903,9 @@ def totals(dice):
 def nest(dice, depth, levels):
     """Lines of one node at a depth, with at most so many tables inside each other."""
     way = dice.below(9)
-    if depth > 50 or (way >= 7 and depth > 0):
+    if depth == cases.MAX_DEPTH or (way >= 7 and depth > 0):
         return [node(depth, "text", text=b"abcdefghijklm"[:dice.pick([0, 1, 2, 3, 3, 5, 9, 13])])]
-    if levels > 0 and way < 4:
+    if levels > 0 and way < 4 and depth + 4 <= cases.MAX_DEPTH:
         rows = []
         for _ in range(dice.pick([1, 1, 2])):
             rows.append([(dice.pick([1, 1, 1, 2, 3]), dice.pick([1, 1, 2, 0]), lambda d: nest(dice, d, levels - 1) if dice.chance(85) else [])
@@ -918,7 +921,7 @@ def nest(dice, depth, levels):
 def walks(dice):
     lines = []
     while not 2 <= len(lines) <= 400:
-        lines = nest(dice, 0, dice.between(1, 4))
+        lines = nest(dice, 0, dice.between(1, cases.MAX_NESTED))
     width = dice.pick([dice.between(0, 12), dice.between(5, 40), dice.between(20, 130)])
     return case(sheet(lines), dice.pick([0, 1, 1, 2, 3, 3, 5]), 1 if dice.chance(8) else 0, width)
 

@@ -1,12 +1,12 @@
 //! html2text's own table functions, run on sheets of docs/FORMAT.md.
 //!
 //! The file named by GENERATED_RS holds the functions, cut verbatim by
-//! extract.py. This file holds only stand-ins for what they lean on and the
-//! program around them. It assumes well-formed settings and a well-formed
-//! sheet: refusals 1 to 4 and 8 to 11 are not decided here. 5 and 6 are
-//! docs/FORMAT.md's own limits; their figures are observed from inside
-//! RenderTable::new by the two recording stand-ins below. 7 is the Rust's own
-//! failing unwrap.
+//! extract.py, and standins.rs what they lean on. This file holds the program
+//! around them and two stand-ins more, which count. It assumes well-formed
+//! settings and a well-formed sheet: refusals 1 to 4 and 8 to 11 are not
+//! decided here. 5 and 6 are docs/FORMAT.md's own limits; their figures are
+//! observed from inside RenderTable::new by the two stand-ins that count. 7 is
+//! the Rust's own failing unwrap.
 //!
 //!   table_oracle [--full]   `case LEN`, LEN bytes (settings and sheet), again
 //!                           and again; answers `out LEN`, LEN bytes to each.
@@ -18,13 +18,8 @@
 #![allow(dead_code, unused_variables, irrefutable_let_patterns)]
 
 use recording::{BTreeSet, Cell};
-use std::cell::RefCell;
-use std::cmp::{max, min};
-use std::collections::HashMap;
-use std::io::{self, BufRead, Read, Write};
+use std::io::{BufRead, Read};
 use std::panic::{AssertUnwindSafe, catch_unwind};
-use std::rc::Rc;
-use unicode_width::UnicodeWidthStr;
 
 // ---------------------------------------------------------------- stand-ins
 
@@ -71,83 +66,7 @@ mod recording {
     }
 }
 
-macro_rules! html_trace {
-    ($($t:tt)*) => {};
-}
-
-#[derive(Debug)]
-pub enum Error {
-    Fail,
-}
-
-/// No style; it carries the sheet line, so that a filler and an extra row
-/// (which the Rust makes with Default) have line 0.
-#[derive(Debug, Clone, Default)]
-struct ComputedStyle {
-    line: usize,
-}
-
-struct HtmlContext {
-    min_wrap_width: usize,
-    raw: bool,
-}
-
-trait TextDecorator {
-    fn header_prefix(&self, level: usize) -> String;
-    fn quote_prefix(&self) -> String;
-    fn unordered_item_prefix(&self) -> String;
-    fn ordered_item_prefix(&self, i: i64) -> String;
-}
-
-/// docs/FORMAT.md's decorator.
-struct Ours;
-
-impl TextDecorator for Ours {
-    fn header_prefix(&self, level: usize) -> String {
-        "#".repeat(level) + " "
-    }
-    fn quote_prefix(&self) -> String {
-        "> ".to_string()
-    }
-    fn unordered_item_prefix(&self) -> String {
-        "* ".to_string()
-    }
-    fn ordered_item_prefix(&self, i: i64) -> String {
-        format!("{}. ", i)
-    }
-}
-
-struct RenderOptions {
-    raw: bool,
-    allow_width_overflow: bool,
-}
-
-#[derive(Debug)]
-struct TooNarrow;
-
-struct TextRenderer {
-    width: usize,
-    options: RenderOptions,
-}
-
-impl TextRenderer {
-    fn width(&self) -> usize {
-        self.width
-    }
-}
-
-// The document tree: only what the four *_to_render_tree functions look at.
-struct QualName {
-    local: String,
-}
-struct Attribute {
-    name: QualName,
-    value: String,
-}
-enum NodeData {
-    Element { attrs: RefCell<Vec<Attribute>> },
-}
-use NodeData::Element;
+include!("standins.rs");
 
 struct DomNode {
     line: usize,
@@ -158,28 +77,6 @@ struct DomNode {
     children: RefCell<Vec<Handle>>,
 }
 type Handle = Rc<DomNode>;
-
-struct RenderInput {
-    handle: Handle,
-    parent_style: Rc<ComputedStyle>,
-}
-
-impl RenderInput {
-    fn new(handle: Handle, parent_style: Rc<ComputedStyle>) -> Self {
-        RenderInput {
-            handle,
-            parent_style,
-        }
-    }
-    fn children(&self) -> Vec<RenderInput> {
-        self.handle
-            .children
-            .borrow()
-            .iter()
-            .map(|c| RenderInput::new(c.clone(), self.parent_style.clone()))
-            .collect()
-    }
-}
 
 // ------------------------------------------------------------- the cut text
 
@@ -500,7 +397,6 @@ fn answer(data: &[u8], full: bool) -> String {
     let (wrap, raw, width, lines) = read_case(data);
     let mut context = HtmlContext {
         min_wrap_width: wrap,
-        raw,
     };
     for at in 0..lines.len() {
         if lines[at].kind == "table" {
@@ -547,7 +443,6 @@ fn measure(data: &[u8], wrap: usize, img: bool) -> String {
     };
     let context = HtmlContext {
         min_wrap_width: wrap,
-        raw: false,
     };
     let e = RenderNode::new(info).calc_size_estimate(&context, &Ours);
     format!("{} {} {}\n", e.size, e.min_width, e.prefix_size)

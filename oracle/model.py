@@ -58,7 +58,7 @@ def read_node(line, k):
     node = Node(k, figure(depth), kind.decode(), figure(n), figure(cols), figure(rows), text)
     low, high = {"head": (1, 6), "ol": (-10 ** 9, 10 ** 9)}.get(node.kind, (0, 0))
     most_cols, most_rows = (1000, 65534) if node.kind == "cell" else (0, 0)
-    refuse_if(node.kind not in cases.KINDS + ["calc"] or not 0 <= node.depth <= 63 or not low <= node.n <= high
+    refuse_if(node.kind not in cases.KINDS + ["calc"] or not 0 <= node.depth <= cases.MAX_DEPTH or not low <= node.n <= high
               or not 0 <= node.cols <= most_cols or not 0 <= node.rows <= most_rows
               or (text and node.kind not in cases.TEXT_KINDS + ["calc"]), 2, k)
     refuse_if(text and max(text) > 130, 3, k)

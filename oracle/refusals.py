@@ -15,6 +15,7 @@ KINDS = ("text img svg container link em strong strike code block head div quote
          "break table body row cell frag item sup calc").split()
 WITH_TEXT = ("text", "img", "svg", "calc")
 WITHOUT_CHILDREN = WITH_TEXT + ("break", "frag")
+DEEPEST = 24            # depth of a line
 MOST = 10 ** 12         # of a step of a sum, with either sign
 
 # No leading zero, no plus, a minus only before a nonzero number.
@@ -64,7 +65,7 @@ def fields(line):
         n_range = (-1000000000, 1000000000)
     else:
         n_range = (0, 0)
-    sound = (between(depth, 0, 63)
+    sound = (between(depth, 0, DEEPEST)
              and between(n, *n_range)
              and between(cols, 0, 1000 if kind == "cell" else 0)
              and between(rows, 0, 65534 if kind == "cell" else 0)

@@ -86,7 +86,8 @@ def fields():
     yield "no space after rows", raw(b"0 table 0 0 0\n")
     yield "a text of spaces, tabs and returns", raw(b"0 text 0 0 0 \t\r \x0b\x0c\n")
     yield "a byte 131 is judged before nesting", raw(b"5 text 0 0 0 \x83\n")
-    yield "a depth of 64 is judged before a byte", raw(b"64 text 0 0 0 \x83\n")
+    too_deep = cases.MAX_DEPTH + 1
+    yield "a depth of %d is judged before a byte" % too_deep, raw(b"%d text 0 0 0 \x83\n" % too_deep)
     yield "a missing line feed is judged before a byte", raw(b"0 text 0 0 0 \x83")
     yield "a bad byte where no text may be", raw(b"0 div 0 0 0 \x83\n")
     yield "a bad byte in a kind", raw(b"0 d\xe9v 0 0 0 \n")
@@ -95,7 +96,7 @@ def fields():
     yield "byte 131 in img", raw(b"0 img 0 0 0 \x83\n")
     yield "byte 131 in svg", raw(b"0 svg 0 0 0 \x82\x83\n")
     for number in ("", "-", "+1", "01", "00", "-0", "1e3", "0x0", "-5", "99999999999999999999999", "4294967296",
-                   "18446744073709551616", "64", "-1"):
+                   "18446744073709551616", str(too_deep), "-1"):
         yield "depth written %s" % number, raw(number.encode() + b" div 0 0 0 \n")
     for number in ("", "-0", "01", "+0", "1", "-1", "18446744073709551616"):
         yield "n written %s" % number, raw(b"0 div " + number.encode() + b" 0 0 \n")
@@ -175,14 +176,15 @@ def nesting():
     yield "an empty body after a sound one", lines("0 table", "1 body", "2 row", "1 body")
     yield "the first of two empty ones", lines("0 div", "1 table", "2 body", "1 table")
     yield "an empty row", lines("0 table", "1 body", "2 row")
-    chain = [node(d, "div") for d in range(63)]
-    yield "depth 63", case(sheet(chain + [node(63, "text", text=b"deep")]))
-    yield "depth 64", case(sheet(chain + [node(63, "div"), node(64, "text", text=b"deep")]))
-    yield "a table with its row at depth 63", case(sheet(chain[:61] + table([[[]]], 61)))
-    inner = []
-    for depth in range(60, -1, -4):
+    last = cases.MAX_DEPTH
+    chain = [node(d, "div") for d in range(last + 1)]
+    yield "depth %d" % last, case(sheet(chain[:-1] + [node(last, "text", text=b"deep")]))
+    yield "depth %d" % (last + 1), case(sheet(chain + [node(last + 1, "text", text=b"deep")]))
+    yield "a table with its row at depth %d" % last, case(sheet(chain[:last - 2] + table([[[]]], last - 2)))
+    inner = b"deep"
+    for depth in range(4 * cases.MAX_NESTED - 4, -1, -4):
         inner = table([[[(1, 1), (2, 1, inner)]]], depth)
-    yield "sixteen tables inside each other", case(sheet(inner), width=70)
+    yield "six tables inside each other", case(sheet(inner), width=70)
 
 
 # ------------------------------------------------------------------- estimates

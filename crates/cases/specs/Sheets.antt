@@ -85,7 +85,37 @@ survey =
 abbrev pub reckoned : String → List ℕ
 reckoned text = line "depth kind n cols rows text" ++ word "0 calc 0 0 0 " ++ line text
 
--- what holds of the example at wrap 3 and width 9, of the survey at wrap 3 and several widths, and of sums
+-- 25 lines, each one deeper than the one before: the last has depth 24
+abbrev pub deepest : List ℕ
+deepest =
+    line "depth kind n cols rows text"
+    ++ line "0 div 0 0 0 "
+    ++ line "1 div 0 0 0 "
+    ++ line "2 div 0 0 0 "
+    ++ line "3 div 0 0 0 "
+    ++ line "4 div 0 0 0 "
+    ++ line "5 div 0 0 0 "
+    ++ line "6 div 0 0 0 "
+    ++ line "7 div 0 0 0 "
+    ++ line "8 div 0 0 0 "
+    ++ line "9 div 0 0 0 "
+    ++ line "10 div 0 0 0 "
+    ++ line "11 div 0 0 0 "
+    ++ line "12 div 0 0 0 "
+    ++ line "13 div 0 0 0 "
+    ++ line "14 div 0 0 0 "
+    ++ line "15 div 0 0 0 "
+    ++ line "16 div 0 0 0 "
+    ++ line "17 div 0 0 0 "
+    ++ line "18 div 0 0 0 "
+    ++ line "19 div 0 0 0 "
+    ++ line "20 div 0 0 0 "
+    ++ line "21 div 0 0 0 "
+    ++ line "22 div 0 0 0 "
+    ++ line "23 div 0 0 0 "
+    ++ line "24 div 0 0 0 "
+
+-- what holds of the example at wrap 3 and width 9, of the survey at wrap 3 and several widths, of sums, and of lines in lines
 pub record Traced : Type 0 where
   -- it is accepted
   pub example-accepted : verdictOf (checkChecks example) ≡ Accepted
@@ -116,6 +146,10 @@ pub record Traced : Type 0 where
   pub sum-cut-off : verdictOf (checkChecks (reckoned "1/0+")) ≡ Refused 13 1
   -- a divisor of 0
   pub sum-over-zero : verdictOf (checkChecks (reckoned "1/0")) ≡ Refused 14 1
+  -- depth 24 passes
+  pub depth-24-accepted : verdictOf (checkChecks deepest) ≡ Accepted
+  -- one line deeper is refused for its depth, although nothing else is wrong with it
+  pub depth-25-refused : verdictOf (checkChecks (deepest ++ line "25 div 0 0 0 ")) ≡ Refused 2 26
 
 pub traced : Traced
 unfolding firstCodes sum mem verdictOf firstAnswer passes classOf textSize readable trimStart trimEnd widths runs begins shifted writing digits digitsIn lastNumber olPrefix same place kindOf mayHold feeds pieces headed allDigits valueFrom isNatural naturalOf negativeOf numberOf untilBlank thenNumber thenKind parse nFits spansFit textFits fits readParsed readLine ownSize nearest depthFits placeFits childless sheetChecks linesChecks linesOf emptyChecks sheetLines flat upTo sumAt largestAt countBelow endsFrom frame rowSum widest resolveRow resolveBody resolved tableRows fillers later rowFrom hangOf nexts originals endsOf entriesFrom longest gridOf columnsOf endsPast entryCount tableChecks tablesChecks measured estimateOf leafOf holderOf gather prefixOf boxOf tabled pick cutOnce cutBy cut share sharesOf wayOf finalWidths nonzero tableWidth placeSide placeDown placeRow placeRows result both digit total wanted operator inner opened closed step finish run answerBy answerOf written measureBy measureOf fillBody cutBody cutRow
@@ -136,4 +170,6 @@ traced =
       sum-measured = refl;
       sum-cut-off = refl;
       sum-over-zero = refl;
+      depth-24-accepted = refl;
+      depth-25-refused = refl;
     }

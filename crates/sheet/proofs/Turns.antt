@@ -8,7 +8,7 @@ use native.Mathlib.Omega.{arith}
 use lib.ListN.{length, getD, take, drop, set, replicate}
 use lib.Seq.{take-all}
 use borrow.Author.Tests.{le-ltb}
-use Rattle.lists.specs.Limits.{maxBytes, maxFeeds, maxDepth}
+use Rattle.lists.specs.Limits.{maxBytes, maxFeeds, maxDepth, depths}
 use Rattle.lists.specs.Refusals.{firstAnswer}
 use Rattle.records.specs.Kept.{keptsOf, keptCount}
 use Rattle.records.proofs.Kepts.{length-kepts}
@@ -47,7 +47,7 @@ pub record ReadingLoop (s : List ℕ) (a b : List ℕ) (chain : List ℕ) (previ
   pub stored : take n (keptsOf b) ≡ map keptOf (take n (sheetLines s))
   pub same : length b ≡ length a
 
-pub turns-start : (s a : List ℕ) → Begun s → ReadingLoop s a a (replicate 64 0) 0 headingBytes 0
+pub turns-start : (s a : List ℕ) → Begun s → ReadingLoop s a a (replicate depths 0) 0 headingBytes 0
 unfolding earlier readingOf sheetChecks firstAnswer
 turns-start s a g = record {
   within = heading-long s (g .headed);

@@ -13,6 +13,7 @@ ghost use Rattle.sheet.specs.Reading.{Reads};
 ghost use Rattle.sheet.specs.Steps.{AtLine, judgementOf, figuresOf, emptyAt, lineEnd, bare, Begun, roomFor};
 use line::LineRead;
 use line::Node;
+use lists::DEPTHS;
 use records::Kept;
 
 // How many lines the sheet has, or why it is refused.
@@ -32,7 +33,7 @@ fn judge(
     classes: &[u8],
     bytes: &[u8],
     at: usize,
-    chain: &[u32; 64],
+    chain: &[u32; DEPTHS],
     lines: usize,
     previous: u32,
 ) -> Judgement
@@ -114,8 +115,8 @@ fn read_lines(classes: &[u8], bytes: &[u8], lines: &mut [u32]) -> Reading
     requires { ⌜ roomFor (now bytes) ≤ keptCount (now lines) ⌝ }
     ensures { λ r. ⌜ Reads (now (bytes .entry)) r (now (lines .exit)) ⌝ }
 {
-    // the kind of the last line of each depth from 0 to 63, which is all that the nesting of a line asks of those before it, and the last depth
-    let mut chain = [0u32; 64];
+    // the kind of the last line of each depth, which is all that the nesting of a line asks of those before it, and the last depth
+    let mut chain = [0u32; DEPTHS];
     let mut previous: u32 = 0;
     let mut at: usize = front::HEADING_BYTES;
     let mut n: usize = 0;

@@ -2,11 +2,11 @@
 use mathlib.Core.Path.{_≡_, refl, sym, ap, _∙_}
 use mathlib.Core.Bool.{Bool, true, false, _&&_}
 use mathlib.Core.List.{List}
-use Prim.Native.Nat.{ℕ, _+_, _/_, _≤_, _<_}
+use Prim.Native.Nat.{ℕ, _+_, _/_, _*_, _≤_, _<_}
 use native.Mathlib.Omega.{arith}
 use lib.Dec.{eqb}
 use lib.ListN.{length, getD, take, replicate}
-use Rattle.lists.specs.Limits.{maxSize}
+use Rattle.lists.specs.Limits.{maxSize, depths}
 use Rattle.lists.specs.declared.Verdict.the-variants.{Accepted, Refused}
 use Rattle.text.specs.declared.Estimate.{Estimate}
 use Rattle.records.specs.Kept.{noKept, keptCount, keptsOf, placeBy, placesOf}
@@ -35,7 +35,7 @@ module _ (lines figures walk₀ : List ℕ) (p : Walkable (keptsOf lines) (figur
   pub figure-in : {i : ℕ} → i < length (keptsOf lines) → i < length figures / 3
   figure-in h = omega (arith, p .measured .enough, length-of 3 figureBy figures)
 
-  pub line-here : (walk passed : List ℕ) {i : ℕ} → length walk ≡ length walk₀ → length passed ≡ 128 → i < length (keptsOf lines) → LineHere lines figures walk passed i
+  pub line-here : (walk passed : List ℕ) {i : ℕ} → length walk ≡ length walk₀ → length passed ≡ (2 * depths) → i < length (keptsOf lines) → LineHere lines figures walk passed i
   line-here walk passed {i} e f h = record {
     within = omega (arith, length-kepts lines);
     figure-in = figure-in h;
@@ -46,14 +46,14 @@ module _ (lines figures walk₀ : List ℕ) (p : Walkable (keptsOf lines) (figur
   pub walk-room : (walk : List ℕ) → length walk ≡ length walk₀ → length (keptsOf lines) ≤ length (placesOf walk)
   walk-room walk e = omega (arith, c .line-room, length-of 2 placeBy walk₀, length-of 2 placeBy walk)
 
-  passed-room : (passed : List ℕ) → length passed ≡ 128 → 64 ≤ length (placesOf passed)
+  passed-room : (passed : List ℕ) → length passed ≡ (2 * depths) → depths ≤ length (placesOf passed)
   passed-room passed e = omega (arith, length-of 2 placeBy passed)
 
   module _ (raw root overflow : ℕ) (small : root ≤ maxSize) where
-    pub started : SofarAny (keptsOf lines) (figuresOf figures) raw root overflow (placesOf walk₀) (placesOf (replicate 128 0)) 0
-    started q wrap same = start q wrap same raw root overflow c (no-place 128)
+    pub started : SofarAny (keptsOf lines) (figuresOf figures) raw root overflow (placesOf walk₀) (placesOf (replicate (2 * depths) 0)) 0
+    started q wrap same = start q wrap same raw root overflow c (no-place (2 * depths))
 
-    module _ (walk passed : List ℕ) (e : length walk ≡ length walk₀) (f : length passed ≡ 128) (i : ℕ)
+    module _ (walk passed : List ℕ) (e : length walk ≡ length walk₀) (f : length passed ≡ (2 * depths)) (i : ℕ)
         (z : SofarAny (keptsOf lines) (figuresOf figures) raw root overflow (placesOf walk) (placesOf passed) i) where
       pub walked-all : length (keptsOf lines) ≤ i → Walked (keptsOf lines) (figuresOf figures) raw root overflow Accepted (placesOf walk)
       walked-all h = record {

@@ -11,7 +11,7 @@ use lib.Dec.{eqb}
 use lib.ListN.{length, getD, take, drop, set, length-map, length-set, List·getD-map}
 use lib.Seq.{getD-take, length-take-le, getD-set-same, getD-set-other, ext-getD}
 use borrow.Author.Tests.{eq-eqb, ne-eqb, eqb-true}
-use Rattle.lists.specs.Limits.{maxSize}
+use Rattle.lists.specs.Limits.{maxSize, depths}
 use Rattle.lists.specs.Lists.{All}
 use Rattle.lists.specs.Refusals.{Check, firstAnswer, verdictOf}
 use Rattle.lists.specs.declared.Verdict.{Verdict}
@@ -90,7 +90,7 @@ module _ {ks : List Kept} {figures : List Estimate} (p : Walkable ks figures) (w
     pub at : i ≤ length ks
     pub front : (k : ℕ) → k < i → getD ps k noPlace ≡ widthPlace (getD (walkTo wrap raw root ks i) k Without)
     pub ahead : (t j : ℕ) → CellIn ks t j → i ≤ j → getD ps j noPlace ≡ widthPlace (cellWidth wrap raw ks t (getD (walkTo wrap raw root ks i) t Without) j)
-    pub passes : (d : ℕ) → d < 64 → getD qs d noPlace ≡ widthPlace (fromNearest (passedBy wrap ks (walkTo wrap raw root ks i)) ks d i)
+    pub passes : (d : ℕ) → d < depths → getD qs d noPlace ≡ widthPlace (fromNearest (passedBy wrap ks (walkTo wrap raw root ks i)) ks d i)
     pub small : (k : ℕ) → AtMost maxSize (getD (walkTo wrap raw root ks i) k Without)
     pub narrow : verdictOf (narrowFrom wrap raw root overflow ks (length ks - i) i) ≡ verdictOf (narrowChecks wrap raw root overflow ks)
 
@@ -204,7 +204,7 @@ module _ {ks : List Kept} {figures : List Estimate} (p : Walkable ks figures) (w
             → Refused 12 (i + 1) ≡ verdictOf (narrowChecks wrap raw root overflow ks)
         turn-refused b f t = sym (verdict-here w w-is b f ∙ rw t)
 
-        module _ {ps₂ : List Place} (g : HandedOut ks i figures raw w ps₁ ps₂) (line-room : length ks ≤ length ps) (depth-room : 64 ≤ length qs) where
+        module _ {ps₂ : List Place} (g : HandedOut ks i figures raw w ps₁ ps₂) (line-room : length ks ≤ length ps) (depth-room : depths ≤ length qs) where
           now-own : getD (W (suc i)) i Without ≡ w
           now-own = walk-last wrap raw root ks i ∙ sym w-is
 
@@ -235,7 +235,7 @@ module _ {ks : List Kept} {figures : List Estimate} (p : Walkable ks figures) (w
               ∙ off j (λ q. omega arith) ∙ z .ahead t j c (omega arith)
               ∙ ap (λ (v : Width). widthPlace (cellWidth wrap raw ks t v j)) (sym (walk-at wrap raw root ks i t e))
 
-          passes-next : (d : ℕ) → d < 64 → Dec (here .depth ≡ d) → getD qs₁ d noPlace ≡ widthPlace (fromNearest (passedBy wrap ks (W (suc i))) ks d (suc i))
+          passes-next : (d : ℕ) → d < depths → Dec (here .depth ≡ d) → getD qs₁ d noPlace ≡ widthPlace (fromNearest (passedBy wrap ks (W (suc i))) ks d (suc i))
           unfolding fromNearest
           passes-next d l (yes e) =
               rw (eq-eqb (here .depth) d e)

@@ -10,6 +10,7 @@ ghost use Rattle.estimates.specs.Estimates.{none};
 ghost use Rattle.estimates.specs.inner.Figures.{figuresOf};
 ghost use Rattle.passing.specs.Walk.{tooNarrow};
 ghost use Rattle.walking.specs.inner.Steps.{Walkable, Rooms, ownWidth, LineHere, Stepped, Cleared, Walked};
+use lists::DEPTHS;
 use lists::Verdict;
 use passing::Width;
 
@@ -89,7 +90,7 @@ pub fn walk_lines(
     requires { ⌜ Rooms (now entries) (now rows) (now column) (now x) (now wide) ⌝ }
     ensures { λ r. ⌜ Walked (keptsOf (now (lines .entry))) (figuresOf (now (figures .entry))) raw width overflow r (placesOf (now (walk .exit))) ⌝ }
 {
-    let mut passed = [0u32; 128];
+    let mut passed = [0u32; 2 * DEPTHS];
     let n = records::count(lines);
     let mut i = 0;
     while i < n {

@@ -1,9 +1,10 @@
 -- `walking::steps::walk_lines` meets its contract. The loop's invariant (`Sofar`): the lines that are passed have their widths, and the slices their lengths.
 -- The measure is how many lines are left. Assumes nothing.
 use mathlib.Core.Path.{_≡_, refl, sym, _∙_}
-use Prim.Native.Nat.{_-_, _<_}
+use Prim.Native.Nat.{_-_, _*_, _<_}
 use native.Mathlib.Omega.{arith}
 use lib.ListN.{length}
+use Rattle.lists.specs.Limits.{depths}
 use Rattle.records.specs.Kept.{keptsOf, placesOf}
 use Rattle.records.proofs.Kepts.{length-kepts}
 use Rattle.estimates.specs.inner.Figures.{figuresOf}
@@ -17,7 +18,7 @@ abbrev Inv-loop : tie.InvT-loop
 Inv-loop lines figures raw width overflow walk₀ entries₀ rows₀ column₀ x₀ wide₀ passed₀ n i₀ walk entries rows column x wide passed i =
     SofarAny (keptsOf lines) (figuresOf figures) raw width overflow (placesOf walk) (placesOf passed) i
     × (length walk ≡ length walk₀)
-    × (length passed ≡ 128)
+    × (length passed ≡ 2 * depths)
     × Kepts entries₀ rows₀ column₀ x₀ wide₀ entries rows column x wide
 
 abbrev μ-loop : tie.MeasureT-loop
