@@ -7,5 +7,5 @@ use lib.Seq.{length-take-le}
 use Rattle.lists.specs.Limits.{maxLines}
 use Rattle.records.specs.Kept.{keptCount}
 
-pub front-few : (n : ℕ) (xs : List ℕ) → n ≤ maxLines → n ≤ keptCount xs → keptCount (take (6 * n) xs) ≤ maxLines
-front-few n xs h g = omega (arith, length-take-le (6 * n) xs (omega (arith, g)))
+pub front-few : (n : ℕ) (xs : List ℕ) → n ≤ maxLines → n ≤ keptCount xs → keptCount (take (2 * n) xs) ≤ maxLines
+front-few n xs h g = omega (arith, length-take-le (2 * n) xs (omega (arith, g)))

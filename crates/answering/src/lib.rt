@@ -43,7 +43,7 @@ fn accepted(out: &mut [u8], at: usize, sheet: &[u8], given: Given) -> usize
     requires { ⌜ Place (now out) at ⌝ }
     ensures { λ r. ⌜ Place (now (out .exit)) r ⌝ }
 {
-    let mut kept = [0u32; 6 * MAX_LINES];
+    let mut kept = [0u32; records::WIDTH * MAX_LINES];
     let n = line_count(sheet, &mut kept);
     listed(out, at, sheet, &kept, n, given)
 }

@@ -17,8 +17,7 @@ use Rattle.records.proofs.Kepts.{length-kepts}
 use Rattle.estimates.specs.Estimates.{estimate, none, Children, gather, leafOf, prefixOf, holderOf}
 use Rattle.estimates.specs.Sheet.{Sheet, lineAt}
 use Rattle.estimates.specs.inner.Figures.{figuresOf}
-use Rattle.estimates.specs.inner.Spread.{Ends}
-use Rattle.estimates.specs.inner.Cycle.{NodeReady, Passed, Plain, Holder, Numbered, Fitting, NodeMeets, CellMeets, TableMeets, estAt, doneOf, heldAt, heldOf, weight}
+use Rattle.estimates.specs.inner.Cycle.{NodeReady, Ends, Passed, Plain, Holder, Numbered, Fitting, NodeMeets, CellMeets, TableMeets, estAt, doneOf, heldAt, heldOf, weight}
 use Rattle.estimates.specs.declared.Part.{Part}
 use Rattle.estimates.proofs.Packing.{length-figures}
 use Rattle.estimates.proofs.Laws.{gather-stop, gather-child}
@@ -29,22 +28,23 @@ use Rattle.estimates.proofs.Weighing.{weight-more, fits}
 use Rattle.estimates.proofs.Passing.{step, stored, begin}
 
 -- slices as the walk takes them: each line has a result, and a call for another line finds them so again
-module _ {lines places figures leasts : List ℕ} {at : ℕ} (r : NodeReady lines places figures leasts at) where
+module _ {lines figures leasts entries rows : List ℕ} {at : ℕ} (r : NodeReady lines figures leasts entries rows at) where
   pub inside : {i : ℕ} → i < keptCount lines → i < length (keptsOf lines)
   inside h = omega (arith, length-kepts lines)
 
   pub roomy : length (keptsOf lines) ≤ length (figuresOf figures)
   roomy = omega (arith, r .figures-fit, length-kepts lines, length-figures figures)
 
-  pub again : {figures′ leasts′ : List ℕ} {i : ℕ} → length figures′ ≡ length figures → length leasts′ ≡ length leasts → i < keptCount lines → NodeReady lines places figures′ leasts′ i
-  again e f h = record {
+  pub again : {figures′ leasts′ entries′ rows′ : List ℕ} {i : ℕ} → length figures′ ≡ length figures → length leasts′ ≡ length leasts → length entries′ ≡ length entries
+      → length rows′ ≡ length rows → i < keptCount lines → NodeReady lines figures′ leasts′ entries′ rows′ i
+  again e f g h k = record {
     sheet = r .sheet;
-    held = r .held;
-    grids = r .grids;
-    places-fit = r .places-fit;
+    lined = r .lined;
+    tables = rw g (r .tables);
     figures-fit = rw e (r .figures-fit);
     scratch = omega (arith, r .scratch);
-    within = h;
+    row-room = rw h (r .row-room);
+    within = k;
   }
 
 -- lines as they are read

@@ -3,12 +3,12 @@
 use mathlib.Core.Path.{_≡_, refl, sym, _∙_}
 use mathlib.Core.Bool.{Bool, true, false, cond}
 use mathlib.Core.List.{List, [], _∷_, _++_, map}
-use Prim.Native.Nat.{ℕ, suc, _+_, _-_, _*_, _/_, _≤_}
+use Prim.Native.Nat.{ℕ, suc, _+_, _-_, _*_, _/_, _≤_, _<_}
 use native.Mathlib.Omega.{arith}
 use lib.Dec.{eqb}
 use lib.ListN.{length, getD, take}
-use lib.Seq.{take-at}
-use borrow.Author.Tests.{eq-eqb, ne-eqb}
+use lib.Seq.{take-at, getD-take, length-take-le}
+use borrow.Author.Tests.{eq-eqb, ne-eqb, eqb-false}
 use Rattle.lists.specs.Lists.{sum, All}
 use Rattle.text.specs.declared.Estimate.{Estimate}
 use Rattle.columns.specs.Boxes.{Box, Measures}
@@ -18,11 +18,10 @@ use Rattle.columns.proofs.Listed.{Within}
 use Rattle.columns.proofs.Largest.{largest-least-size, largest-length}
 use Rattle.columns.proofs.Summed.{sum-of-columns}
 use Rattle.estimates.specs.Estimates.{estimate, none}
-use Rattle.records.specs.declared.Kept.{Kept}
-use Rattle.records.specs.declared.Place.{Place}
-use Rattle.estimates.specs.Sheet.{lineAt}
-use Rattle.estimates.specs.inner.Walk.{boxed, cellsFrom, spreadCells, tabledBy}
-use Rattle.estimates.specs.inner.Spread.{boxesAt, Fits, Cells, Spreads, Tabulated}
+use Rattle.records.specs.Kept.{entriesOf, noEntry}
+use Rattle.records.specs.declared.Entry.{Entry}
+use Rattle.estimates.specs.inner.Figures.{figuresOf}
+use Rattle.estimates.specs.inner.Spread.{spreadCells, tabledBy, Spreads, Tabulated, entryBox, entryBoxes, EntryFits, SpreadReady}
 
 sum-le : (xs ys : List ℕ) → length xs ≡ length ys → ((j : ℕ) → getD xs j 0 ≤ getD ys j 0) → sum xs ≤ sum ys
 unfolding sum
@@ -55,18 +54,21 @@ leasts-le bs n w m =
       spread-columns bs n w,
     )
 
--- what holds of the cells holds of their boxes
+-- what holds of the entries holds of their boxes
 
-module _ (gs : List Place) (es : List Estimate) (n : ℕ) where
-  within-boxes : (qs : List ℕ) → All (Fits gs es n) qs → All (Within n) (map (boxed gs es) qs)
-  unfolding All
-  within-boxes [] f = tt
-  within-boxes (q ∷ qs) f = (f .0 .ends, within-boxes qs (f .1))
-
-  measures-boxes : (qs : List ℕ) → All (Fits gs es n) qs → Measures (map (boxed gs es) qs)
-  unfolding All Measures
-  measures-boxes [] f = tt
-  measures-boxes (q ∷ qs) f = (f .0 .sound, measures-boxes qs (f .1))
+boxes-fit : (es : List Estimate) (n : ℕ) (xs : List Entry) → ((k : ℕ) → k < length xs → EntryFits es n (getD xs k noEntry))
+    → All (Within n) (entryBoxes es xs) × Measures (entryBoxes es xs)
+unfolding All Measures entryBoxes
+boxes-fit es n [] f = (tt, tt)
+boxes-fit es n (x ∷ xs) f = go (eqb (x .cell) 0) refl (boxes-fit es n xs (λ k h. f (suc k) (omega arith)))
+  where
+    go : (b : Bool) → eqb (x .cell) 0 ≡ b → All (Within n) (entryBoxes es xs) × Measures (entryBoxes es xs)
+        → All (Within n) (cond b (entryBoxes es xs) (entryBox es x ∷ entryBoxes es xs)) × Measures (cond b (entryBoxes es xs) (entryBox es x ∷ entryBoxes es xs))
+    go true e r = r
+    go false e r =
+        let z = eqb-false (x .cell) 0 e in
+        let w = f 0 (omega arith) in
+        ((w .ends z, r .0), (w .sound z, r .1))
 
 tabled-none : (columns : ℕ) (bs : List Box) → columns ≡ 0 → tabledBy columns bs ≡ none
 unfolding tabledBy
@@ -105,8 +107,15 @@ module _ {bs : List Box} {n all : ℕ} {columns : List ℕ} (s : Spreads bs n al
       record { after = refl; est = rw (t, l, q, s .all, s .leasts, r); least-size = omega arith }
 
 -- what is added up in the scratch is at most the sum of the cells
-pub leasts-fit : {ls : List Kept} {gs : List Place} {es : List Estimate} {n at end all : ℕ} {columns : List ℕ} → Cells ls gs es n at end
-    → Spreads (boxesAt ls gs es at) n all columns → sum columns ≤ all
-leasts-fit {ls} {gs} {es} {n} {at} c s =
-    rw (s .leasts, s .all)
-    (leasts-le (boxesAt ls gs es at) n (within-boxes gs es n (cellsFrom ls (lineAt ls at .depth) (at + 1)) (c .fit)) (measures-boxes gs es n (cellsFrom ls (lineAt ls at .depth) (at + 1)) (c .fit)))
+pub leasts-fit : {entries figures : List ℕ} {n m all : ℕ} {columns : List ℕ} → SpreadReady entries n figures m
+    → Spreads (entryBoxes (figuresOf figures) (take n (entriesOf entries))) m all columns → sum columns ≤ all
+leasts-fit {entries} {figures} {n} {m} r s =
+    let xs = take n (entriesOf entries) in
+    let b = boxes-fit (figuresOf figures) m xs fit in
+    rw (s .leasts, s .all) (leasts-le (entryBoxes (figuresOf figures) xs) m (b .0) (b .1))
+  where
+    fit : (k : ℕ) → k < length (take n (entriesOf entries)) → EntryFits (figuresOf figures) m (getD (take n (entriesOf entries)) k noEntry)
+    fit k h =
+        let l = length-take-le n (entriesOf entries) (r .within) in
+        let g : k < n = omega arith in
+        rw (getD-take n (entriesOf entries) k noEntry g) (r .fit k g)

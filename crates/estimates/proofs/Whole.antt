@@ -7,27 +7,29 @@ use native.Mathlib.Decide.{decLt}
 use lib.ListN.{length, getD, drop, length-map, length-append, length-drop, List·getD-map, List·getD-append}
 use lib.Seq.{ext-getD, getD-append-add, getD-drop}
 use Rattle.text.specs.declared.Estimate.{Estimate}
-use Rattle.records.specs.Kept.{keptsOf, placesOf}
+use Rattle.records.specs.Kept.{keptsOf, entriesOf, entryBy, rowsOf, rowBy}
 use Rattle.records.specs.declared.Kept.{Kept}
+use Rattle.records.proofs.Records.{length-of}
 use Rattle.records.proofs.Kepts.{length-kepts}
 use Rattle.estimates.specs.Estimates.{none, undone, estOf, estimates}
 use Rattle.estimates.specs.Sheet.{Sheet}
 use Rattle.estimates.specs.Meets.{Lent, Measured}
 use Rattle.estimates.specs.inner.Figures.{figuresOf}
 use Rattle.estimates.specs.inner.Cycle.{NodeReady, NodeMeets, estAt, doneOf}
-use Rattle.estimates.proofs.Packing.{length-figures, length-places}
+use Rattle.estimates.proofs.Packing.{length-figures}
 use Rattle.estimates.proofs.Laws.{length-all}
 
 -- what is lent, in slices
-pub ready : {lines places figures leasts : List ℕ} → Lent (keptsOf lines) (placesOf places) (figuresOf figures) leasts → NodeReady lines places figures leasts 0
-ready {lines} {places} {figures} l = record {
+pub ready : {lines figures leasts entries rows : List ℕ} {at : ℕ} → Lent (keptsOf lines) (figuresOf figures) leasts (entriesOf entries) (rowsOf rows)
+    → at < length (keptsOf lines) → NodeReady lines figures leasts entries rows at
+ready {lines} {figures} {entries = entries} {rows = rows} l h = record {
   sheet = l .sheet;
-  held = l .held;
-  grids = l .grids;
-  places-fit = omega (arith, l .places, length-kepts lines, length-places places);
+  lined = l .lined;
+  tables = rw (length-of 3 entryBy entries) at (l .tables);
   figures-fit = omega (arith, l .results, length-kepts lines, length-figures figures);
   scratch = l .scratch;
-  within = omega (arith, l .sheet .some, length-kepts lines);
+  row-room = omega (arith, l .row-room, length-kepts lines, length-of 2 rowBy rows);
+  within = omega (arith, length-kepts lines);
 }
 
 module _ {wrap : ℕ} {ls : List Kept} {b c : List Estimate} {r : ℕ} (w : Sheet ls) (m : NodeMeets wrap ls b c 0 r) where

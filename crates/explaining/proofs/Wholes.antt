@@ -23,7 +23,7 @@ use Rattle.gridding.specs.Packed.{TableReady, TableMade}
 use Rattle.gridding.specs.declared.Counts.{Counts}
 use Rattle.sizing.specs.inner.Room.{Entered}
 use Rattle.table.specs.inner.Room.{LayoutRoom, FrontLayable}
-use Rattle.table.proofs.Grids.{same-records, made-front}
+use Rattle.table.proofs.Grids.{same-records, all-table, made-front}
 use Rattle.table.proofs.Steps as steps
 use Rattle.causes.specs.inner.Telling.{Tellable}
 use Rattle.listing.specs.Listing.{Listable}
@@ -59,7 +59,7 @@ module _ {ks : List Kept} {figures : List Estimate} {width at : ℕ} (l : Listab
       {counts : Counts} (m : TableMade table counts (entriesOf grid) (rowsOf rows)) where
     front : FrontLayable (counts .rows) (counts .entries) (counts .columns) (entriesOf grid) (rowsOf rows) figures width
         (places (columnsOf table)) (places (length (grids.entriesOf (gridOf table)))) (places (length (grids.entriesOf (gridOf table))))
-    front = made-front (table-ready r) (l .measured) m layout-room (same-records 3 entryBy grid₀ grid (s .grid-same)) (same-records 2 rowBy rows₀ rows (s .rows-same))
+    front = made-front (table-ready r) (all-table _ (l .measured)) m layout-room (same-records 3 entryBy grid₀ grid (s .grid-same)) (same-records 2 rowBy rows₀ rows (s .rows-same))
 
     -- the records stand within the slices
     pub entries-in : 3 * counts .entries ≤ length grid

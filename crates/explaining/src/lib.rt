@@ -66,7 +66,7 @@ fn opened(out: &mut [u8], at: usize, sheet: &[u8], given: Given) -> usize
     requires { ⌜ (given .raw ≤ 1) × (given .width ≤ maxSize) ⌝ }
     ensures { λ r. ⌜ Place (now (out .exit)) r ⌝ }
 {
-    let mut kept = [0u32; 6 * MAX_LINES];
+    let mut kept = [0u32; records::WIDTH * MAX_LINES];
     let mut figures = [0u32; 3 * MAX_LINES];
     let mut walk = [0u32; 2 * MAX_LINES];
     let mut leasts = [0u32; MAX_POSITION];

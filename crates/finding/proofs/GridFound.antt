@@ -37,7 +37,7 @@ module _ {read : Reading} {lines : List ℕ} {line : ℕ} {cell first′ span ro
   }
 
   pub grid-read : {counts : Counts} {r : Gridded} {n : ℕ} → read ≡ reading.Lines n → n ≤ keptCount lines
-      → GridMade (tableRows (keptsOf (take (6 * n) lines)) (line - 1)) counts cell first′ span row end → r ≡ shapeOf counts → GridRead read lines line r cell first′ span row end
+      → GridMade (tableRows (keptsOf (take (2 * n) lines)) (line - 1)) counts cell first′ span row end → r ≡ shapeOf counts → GridRead read lines line r cell first′ span row end
   grid-read {counts} {r} {n} e h m a = record {
     refused = λ number l f. let z : _≡_ {A = ℕ} 0 1 = cc in absurd (omega arith);
     counts = λ k f. counts;

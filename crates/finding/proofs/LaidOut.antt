@@ -18,10 +18,9 @@ use Rattle.sheet.proofs.First.{first-passes, figures-fail, front-pass}
 use Rattle.grid.specs.Grid.{entriesOf}
 use Rattle.estimates.specs.inner.Figures.{figuresOf}
 use Rattle.opening.specs.Opening.{keptLines, openChecks}
-use Rattle.opening.specs.inner.Measures.{SheetMeasured}
-use Rattle.table.specs.Arranging.{AllMeasured}
+use Rattle.opening.specs.inner.Measures as measures
+use Rattle.table.specs.Arranging.{TableMeasured}
 use Rattle.table.specs.declared.Arrangement as arranging
-use Rattle.table.proofs.Grids.{all-measured}
 use Rattle.table.specs.inner.Fitting.{OutRoom, LayoutMade}
 use Rattle.finding.specs.Figures.{rowsAt, columnsAt}
 use Rattle.finding.specs.declared.Arranged.{Arranged}
@@ -31,13 +30,14 @@ use Rattle.finding.specs.inner.Layouts.{columnTotal, placeTotal, LayoutF
 use Rattle.finding.proofs.Openings.{failed, told, opened-at, opened-passed, opened-apt}
 
 -- buffers that are as long as they were have the same room
-pub out-still : {column column′ x wide : List ℕ} → length column′ ≡ length column → OutRoom column x wide → OutRoom column′ x wide
-out-still e o = record { column-room = omega (arith, o .column-room); x-room = o .x-room; wide-room = o .wide-room }
+pub out-still : {column column′ x x′ wide wide′ : List ℕ} → length column′ ≡ length column → length x′ ≡ length x → length wide′ ≡ length wide
+    → OutRoom column x wide → OutRoom column′ x′ wide′
+out-still a b c o = record { column-room = omega (arith, o .column-room); x-room = omega (arith, o .x-room); wide-room = omega (arith, o .wide-room) }
 
 -- ---- the first records
 
-pub front-measured : {read : Reading} {lines : List ℕ} {figures : List Estimate} {line n : ℕ} → AskedIn read lines line → MeasuredIn read lines figures → read ≡ reading.Lines n
-    → AllMeasured (keptsOf (take (6 * n) lines)) figures
+pub front-measured : {read : Reading} {lines : List ℕ} {figures : List Estimate} {line n : ℕ} → AskedIn read lines line → MeasuredIn read lines line figures → read ≡ reading.Lines n
+    → TableMeasured (keptsOf (take (2 * n) lines)) (line - 1) figures
 front-measured {lines = lines} {n = n} a m e = rw (kepts-take lines n (a .front n e)) (m .measured n e)
 
 module _ {read : Reading} {lines : List ℕ} {line : ℕ} {figures : List Estimate} {raw width : ℕ} {column x wide : List ℕ} where
@@ -50,7 +50,7 @@ module _ {read : Reading} {lines : List ℕ} {line : ℕ} {figures : List Estima
   }
 
   pub layout-read : {a : arranging.Arrangement} {r : Arranged} {n : ℕ} → read ≡ reading.Lines n → n ≤ keptCount lines
-      → LayoutMade (keptsOf (take (6 * n) lines)) line figures raw width a column x wide → r ≡ tableOf a → LayoutRead read lines line figures raw width r column x wide
+      → LayoutMade (keptsOf (take (2 * n) lines)) line figures raw width a column x wide → r ≡ tableOf a → LayoutRead read lines line figures raw width r column x wide
   layout-read {a} {r} {n} e h m q = record {
     refused = λ number l f. let z : _≡_ {A = ℕ} 0 1 = cc in absurd (omega arith);
     arranged = λ k f. a;
@@ -67,17 +67,18 @@ table-few m = (omega (arith, m .entries-are, m .few-entries), omega (arith, m .c
 
 -- ---- the layout asked for
 
-module _ {s : List ℕ} {line wrap : ℕ} {read : Reading} {lines places figures : List ℕ} (m : SheetMeasured true s line wrap read lines places figures) where
+module _ {s : List ℕ} {line wrap : ℕ} {read : Reading} {lines figures : List ℕ} (m : measures.TableMeasured s line wrap read lines figures) where
   pub lines-of : LinesOf s line wrap read lines (figuresOf figures)
   lines-of = record { opened = opened-at (m .opened); measured = m .measured }
 
 module _ {s : List ℕ} {line wrap : ℕ} {read : Reading} {lines : List ℕ} {figures : List Estimate} (w : LinesOf s line wrap read lines figures) where
-  pub measured-in : roomFor s ≤ length figures → MeasuredIn read lines figures
+  pub measured-in : roomFor s ≤ length figures → MeasuredIn read lines line figures
   measured-in h = record {
     measured = λ n e.
         let p = opened-passed (w .opened) n e in
         let m = w .measured n e in
-        rw (w .opened .holds n e) (all-measured wrap (keptLines s) figures (m .figures) (omega (arith, p .room, p .kept)) (m .sound));
+        rw (w .opened .holds n e)
+        (record { wrap = wrap; cells-are = record { cells = m .cells }; enough = omega (arith, p .room, p .kept); fits = λ k c. m .sound k c .least-size });
   }
 
   module _ {raw width : ℕ} (low : raw ≤ 1) {r : Arranged} {column x wide : List ℕ} (g : LayoutRead read lines line figures raw width r column x wide) where
@@ -94,7 +95,7 @@ module _ {s : List ℕ} {line wrap : ℕ} {read : Reading} {lines : List ℕ} {f
             let m = rw (w .opened .holds n e) at (g .made n e) in
             let b = opened-apt (w .opened) n e .from-one in
             let k : line - 1 + 1 ≡ line = omega arith in
-            let l = rw k at (m .laid wrap (w .measured n e .figures)) in
+            let l = rw k at (m .laid wrap (record { cells = w .measured n e .cells })) in
             let z = g .answer n e ∙ (λ i. Table (l .way-is i) (m .entries-are i) (m .columns-are i) (l .width-is i)) in
             let i : placeTotal r ≡ length (entriesOf (rowsAt s line)) = ap placeTotal z in
             let j : columnTotal r ≡ columnsAt s line = ap columnTotal z in

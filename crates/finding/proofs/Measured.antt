@@ -37,10 +37,11 @@ figures-told n xs p q r h a b c = record {
 }
 
 -- buffers that are as long as they were have the same room
-pub lines-still : {size size′ least prefix : List ℕ} → length size′ ≡ length size → LinesRoom size least prefix → LinesRoom size′ least prefix
-lines-still e l = record { size-room = omega (arith, l .size-room); least-room = l .least-room; prefix-room = l .prefix-room }
+pub lines-still : {size size′ least least′ prefix prefix′ : List ℕ} → length size′ ≡ length size → length least′ ≡ length least → length prefix′ ≡ length prefix
+    → LinesRoom size least prefix → LinesRoom size′ least′ prefix′
+lines-still a b c l = record { size-room = omega (arith, l .size-room); least-room = omega (arith, l .least-room); prefix-room = omega (arith, l .prefix-room) }
 
-module _ {s : List ℕ} {wrap : ℕ} {r : Reading} {lines places figures : List ℕ} (m : SheetMeasured false s 0 wrap r lines places figures) {n : ℕ} (e : n ≡ linesIn r) where
+module _ {s : List ℕ} {wrap : ℕ} {r : Reading} {lines figures : List ℕ} (m : SheetMeasured false s 0 wrap r lines figures) {n : ℕ} (e : n ≡ linesIn r) where
   -- the figures of all lines are there, and places for them
   pub figures-fit : {size least prefix : List ℕ} → LinesRoom size least prefix → roomFor s ≤ length figures / 3 → FiguresFit n figures size least prefix
   figures-fit l h =

@@ -14,8 +14,8 @@ use Rattle.sheet.specs.declared.Reading.{Reading}
 use Rattle.sheet.specs.declared.Reading.the-variants.{Lines, Refused}
 use Rattle.sheet.proofs.First.{first-passes, first-carries}
 use Rattle.opening.specs.Opening.{keptLines, openChecks, openedOf}
-use Rattle.opening.specs.inner.Opened.{Opened}
-use Rattle.opening.proofs.Answers.{Apt, table-apt}
+use Rattle.opening.specs.inner.Opened.{Apt, Opened}
+use Rattle.opening.proofs.Answers.{table-apt}
 use Rattle.opening.proofs.Ready.{kept-lined, kept-nests}
 use Rattle.opening.proofs.Opens.{opened-asked}
 use Rattle.opening.proofs.Passing.{Passed, passed}
@@ -54,14 +54,14 @@ module _ (asks : Bool) (s : List ℕ) (line : ℕ) where
 
 -- ---- the line asked for
 
-module _ {s : List ℕ} {line : ℕ} {r : Reading} {lines places : List ℕ} (w : Opened true s line r lines places) where
+module _ {s : List ℕ} {line : ℕ} {r : Reading} {lines : List ℕ} (w : Opened true s line r lines) where
   pub opened-at : OpenedAt s line r lines
   opened-at = record {
     answer = w .answer;
     holds = w .holds;
     sound = λ n e.
         let t = table-apt (keptLines s) line (opened-asked true s line n (sym (w .answer) ∙ e) refl) in
-        w .kept n e .table (line - 1) (omega (arith, t .from-one, t .within)) (t .kind) .sound;
+        w .sound n e .at (line - 1) (omega (arith, t .from-one, t .within)) (t .kind);
   }
 
 module _ {s : List ℕ} {line : ℕ} {r : Reading} {lines : List ℕ} (w : OpenedAt s line r lines) where
@@ -88,5 +88,5 @@ module _ {s : List ℕ} {line : ℕ} {r : Reading} {lines : List ℕ} (w : Opene
   }
 
 -- the same of the lines that stand in the first places
-pub front-asked : {read : Reading} {lines : List ℕ} {line n : ℕ} → AskedIn read lines line → read ≡ Lines n → Asked (keptsOf (take (6 * n) lines)) line
+pub front-asked : {read : Reading} {lines : List ℕ} {line n : ℕ} → AskedIn read lines line → read ≡ Lines n → Asked (keptsOf (take (2 * n) lines)) line
 front-asked {lines = lines} {n = n} a e = rw (kepts-take lines n (a .front n e)) (a .asked n e)

@@ -9,21 +9,21 @@ use lists::MAX_LINES;
 use lists::SMALL_LINES;
 use sheet::Reading;
 
-// What reading and judging a small sheet answers.
+// What reading and checking a small sheet answers.
 pub fn read_small(sheet: &[u8]) -> Reading
     requires { ⌜ roomFor (now sheet) ≤ smallLines ⌝ }
     ensures { λ r. ⌜ r ≡ openedOf false (now (sheet .entry)) 0 ⌝ }
 {
-    let mut lines = [0u32; 6 * SMALL_LINES];
-    let mut places = [0u32; 2 * SMALL_LINES];
-    opening::open_sheet(sheet, false, 0, &mut lines, &mut places)
+    let mut lines = [0u32; records::WIDTH * SMALL_LINES];
+    let mut scratch = [0u32; SMALL_LINES];
+    opening::open_sheet(sheet, false, 0, &mut lines, &mut scratch)
 }
 
 // The same of any sheet.
 pub fn read_large(sheet: &[u8]) -> Reading
     ensures { λ r. ⌜ r ≡ openedOf false (now (sheet .entry)) 0 ⌝ }
 {
-    let mut lines = [0u32; 6 * MAX_LINES];
-    let mut places = [0u32; 2 * MAX_LINES];
-    opening::open_sheet(sheet, false, 0, &mut lines, &mut places)
+    let mut lines = [0u32; records::WIDTH * MAX_LINES];
+    let mut scratch = [0u32; MAX_LINES];
+    opening::open_sheet(sheet, false, 0, &mut lines, &mut scratch)
 }

@@ -32,7 +32,7 @@ fn tell_figures(n: usize, figures: &[u32], size: &mut [u32], least: &mut [u32], 
     records::unpack(figures, 3, 2, n, prefix);
 }
 
-// The estimates of a small sheet. The sizes are written last, and until then their buffer is room to work in.
+// The estimates of a small sheet. The lent buffers are scratch until they are written.
 pub fn estimates_small(
     sheet: &[u8],
     wrap: u32,
@@ -44,8 +44,7 @@ pub fn estimates_small(
     requires { ⌜ LinesRoom (now size) (now least) (now prefix) ⌝ }
     ensures { λ r. ⌜ EstimatesFound (openChecks false (now (sheet .entry)) 0) (now (sheet .entry)) wrap r (now (size .exit)) (now (least .exit)) (now (prefix .exit)) ⌝ }
 {
-    let mut lines = [0u32; 6 * SMALL_LINES];
-    let mut places = [0u32; 2 * SMALL_LINES];
+    let mut lines = [0u32; records::WIDTH * SMALL_LINES];
     let mut figures = [0u32; 3 * SMALL_LINES];
     let read = opening::measuring::measure_sheet(
         sheet,
@@ -53,9 +52,10 @@ pub fn estimates_small(
         0,
         wrap,
         &mut lines,
-        &mut places,
         &mut figures,
         size,
+        least,
+        prefix,
     );
     tell_figures(lines_in(read), &figures, size, least, prefix);
     read
@@ -72,8 +72,7 @@ pub fn estimates_large(
     requires { ⌜ LinesRoom (now size) (now least) (now prefix) ⌝ }
     ensures { λ r. ⌜ EstimatesFound (openChecks false (now (sheet .entry)) 0) (now (sheet .entry)) wrap r (now (size .exit)) (now (least .exit)) (now (prefix .exit)) ⌝ }
 {
-    let mut lines = [0u32; 6 * MAX_LINES];
-    let mut places = [0u32; 2 * MAX_LINES];
+    let mut lines = [0u32; records::WIDTH * MAX_LINES];
     let mut figures = [0u32; 3 * MAX_LINES];
     let read = opening::measuring::measure_sheet(
         sheet,
@@ -81,9 +80,10 @@ pub fn estimates_large(
         0,
         wrap,
         &mut lines,
-        &mut places,
         &mut figures,
         size,
+        least,
+        prefix,
     );
     tell_figures(lines_in(read), &figures, size, least, prefix);
     read

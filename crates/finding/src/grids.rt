@@ -76,9 +76,9 @@ pub fn grid_small(
     ensures { λ r. ⌜ GridFound (openChecks true (now (sheet .entry)) line) (now (sheet .entry)) line r
         (now (cell .exit)) (now (first .exit)) (now (span .exit)) (now (row .exit)) (now («row_end» .exit)) ⌝ }
 {
-    let mut lines = [0u32; 6 * SMALL_LINES];
-    let mut places = [0u32; 2 * SMALL_LINES];
-    let read = opening::open_sheet(sheet, true, line, &mut lines, &mut places);
+    let mut lines = [0u32; records::WIDTH * SMALL_LINES];
+    let mut scratch = [0u32; SMALL_LINES];
+    let read = opening::open_sheet(sheet, true, line, &mut lines, &mut scratch);
     grid_of(read, line, &lines, cell, first, span, row, row_end)
 }
 
@@ -96,8 +96,8 @@ pub fn grid_large(
     ensures { λ r. ⌜ GridFound (openChecks true (now (sheet .entry)) line) (now (sheet .entry)) line r
         (now (cell .exit)) (now (first .exit)) (now (span .exit)) (now (row .exit)) (now («row_end» .exit)) ⌝ }
 {
-    let mut lines = [0u32; 6 * MAX_LINES];
-    let mut places = [0u32; 2 * MAX_LINES];
-    let read = opening::open_sheet(sheet, true, line, &mut lines, &mut places);
+    let mut lines = [0u32; records::WIDTH * MAX_LINES];
+    let mut scratch = [0u32; MAX_LINES];
+    let read = opening::open_sheet(sheet, true, line, &mut lines, &mut scratch);
     grid_of(read, line, &lines, cell, first, span, row, row_end)
 }

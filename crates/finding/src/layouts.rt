@@ -2,16 +2,14 @@
 ghost use mathlib.Core.Bool.{true};
 ghost use mathlib.Core.Path.{_≡_};
 ghost use Prim.Native.Nat.{_≤_};
-ghost use lib.ListN.{length};
 ghost use Rattle.lists.specs.Limits.{maxEntries, maxPosition, maxSize};
 ghost use Rattle.lists.specs.Sizes.{smallLines};
-ghost use Rattle.records.specs.Kept.{keptCount};
 ghost use Rattle.sheet.specs.Steps.{roomFor};
 ghost use Rattle.estimates.specs.inner.Figures.{figuresOf};
 ghost use Rattle.opening.specs.Opening.{openChecks};
 ghost use Rattle.table.specs.inner.Fitting.{OutRoom};
 ghost use Rattle.finding.specs.inner.Made.{AskedIn};
-ghost use Rattle.finding.specs.inner.Layouts.{LayoutFound, MeasuredIn, LinesOf, tableOf, LayoutRead};
+ghost use Rattle.finding.specs.inner.Layouts.{LayoutFound, MeasuredIn, tableOf, LayoutRead};
 use crate::Arranged;
 use lists::MAX_LINES;
 use lists::SMALL_LINES;
@@ -33,7 +31,7 @@ fn told(a: table::Arrangement) -> Arranged
     }
 }
 
-// The layout of the table in a line of a measured sheet, or the refusal. The sheet's lines are the first records.
+// The layout of the table in a line of a sheet whose cells are measured, or the refusal. The sheet's lines are the first records.
 pub fn layout_of(
     read: Reading,
     line: u32,
@@ -46,7 +44,7 @@ pub fn layout_of(
     wide: &mut [u32],
 ) -> Arranged
     requires { ⌜ AskedIn read (now lines) line ⌝ }
-    requires { ⌜ MeasuredIn read (now lines) (figuresOf (now figures)) ⌝ }
+    requires { ⌜ MeasuredIn read (now lines) line (figuresOf (now figures)) ⌝ }
     requires { ⌜ (raw ≤ 1) × (width ≤ maxSize) ⌝ }
     requires { ⌜ OutRoom (now column) (now x) (now wide) ⌝ }
     ensures { λ r. ⌜ LayoutRead read (now (lines .entry)) line (figuresOf (now (figures .entry))) raw width r
@@ -71,45 +69,7 @@ pub fn layout_of(
     }
 }
 
-// Opens and measures a small sheet. What is kept of the grids is needed only here, and its array is gone when a table is laid out.
-// The last slice is room to work in.
-fn measured_small(
-    sheet: &[u8],
-    line: u32,
-    wrap: u32,
-    lines: &mut [u32],
-    figures: &mut [u32],
-    leasts: &mut [u32],
-) -> Reading
-    requires { ⌜ roomFor (now sheet) ≤ smallLines ⌝ }
-    requires { ⌜ roomFor (now sheet) ≤ keptCount (now lines) ⌝ }
-    requires { ⌜ roomFor (now sheet) ≤ length (figuresOf (now figures)) ⌝ }
-    requires { ⌜ maxPosition ≤ length (now leasts) ⌝ }
-    ensures { λ r. ⌜ LinesOf (now (sheet .entry)) line wrap r (now (lines .exit)) (figuresOf (now (figures .exit))) ⌝ }
-{
-    let mut places = [0u32; 2 * SMALL_LINES];
-    opening::measuring::measure_sheet(sheet, true, line, wrap, lines, &mut places, figures, leasts)
-}
-
-// The same of any sheet.
-pub fn measured_large(
-    sheet: &[u8],
-    line: u32,
-    wrap: u32,
-    lines: &mut [u32],
-    figures: &mut [u32],
-    leasts: &mut [u32],
-) -> Reading
-    requires { ⌜ roomFor (now sheet) ≤ keptCount (now lines) ⌝ }
-    requires { ⌜ roomFor (now sheet) ≤ length (figuresOf (now figures)) ⌝ }
-    requires { ⌜ maxPosition ≤ length (now leasts) ⌝ }
-    ensures { λ r. ⌜ LinesOf (now (sheet .entry)) line wrap r (now (lines .exit)) (figuresOf (now (figures .exit))) ⌝ }
-{
-    let mut places = [0u32; 2 * MAX_LINES];
-    opening::measuring::measure_sheet(sheet, true, line, wrap, lines, &mut places, figures, leasts)
-}
-
-// The layout of a table of a small sheet. The columns' widths are written last, and until then their buffer is room to work in.
+// The layout of a table of a small sheet. The lent buffers are scratch until they are written.
 pub fn layout_small(
     sheet: &[u8],
     line: u32,
@@ -126,9 +86,18 @@ pub fn layout_small(
     ensures { λ r. ⌜ LayoutFound (openChecks true (now (sheet .entry)) line) (now (sheet .entry)) line wrap raw width r
         (now (column .exit)) (now (x .exit)) (now (wide .exit)) ⌝ }
 {
-    let mut lines = [0u32; 6 * SMALL_LINES];
+    let mut lines = [0u32; records::WIDTH * SMALL_LINES];
     let mut figures = [0u32; 3 * SMALL_LINES];
-    let read = measured_small(sheet, line, wrap, &mut lines, &mut figures, column);
+    let read = opening::measuring::measure_table(
+        sheet,
+        line,
+        wrap,
+        &mut lines,
+        &mut figures,
+        column,
+        x,
+        wide,
+    );
     layout_of(read, line, &lines, &figures, raw, width, column, x, wide)
 }
 
@@ -148,8 +117,17 @@ pub fn layout_large(
     ensures { λ r. ⌜ LayoutFound (openChecks true (now (sheet .entry)) line) (now (sheet .entry)) line wrap raw width r
         (now (column .exit)) (now (x .exit)) (now (wide .exit)) ⌝ }
 {
-    let mut lines = [0u32; 6 * MAX_LINES];
+    let mut lines = [0u32; records::WIDTH * MAX_LINES];
     let mut figures = [0u32; 3 * MAX_LINES];
-    let read = measured_large(sheet, line, wrap, &mut lines, &mut figures, column);
+    let read = opening::measuring::measure_table(
+        sheet,
+        line,
+        wrap,
+        &mut lines,
+        &mut figures,
+        column,
+        x,
+        wide,
+    );
     layout_of(read, line, &lines, &figures, raw, width, column, x, wide)
 }

@@ -44,7 +44,7 @@ pub enum Arranged {
     },
 }
 
-// What reading a sheet and judging every table of it answers.
+// What reading a sheet and checking every table of it answers.
 pub fn reading(sheet: &[u8]) -> Reading
     ensures { λ r. ⌜ r ≡ openedOf false (now (sheet .entry)) 0 ⌝ }
 {

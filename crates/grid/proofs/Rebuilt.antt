@@ -1,12 +1,14 @@
 -- The table that the listed slices hold: rebuilt from them it is the table that was listed, its rows' ends rise, and it has no more rows and
 -- cells than there are lines from the table's on. Assumes nothing.
-use mathlib.Core.Path.{_≡_, sym, ap₂, _∙_, subst}
-use mathlib.Core.List.{List, map}
+use mathlib.Core.Path.{_≡_, refl, sym, ap, ap₂, _∙_, subst}
+use mathlib.Core.Bool.{Bool, _||_}
+use mathlib.Core.List.{List, [], _∷_, map}
 use Prim.Native.Nat.{ℕ, _+_, _-_, _≤_, _<_}
 use native.Mathlib.Omega.{arith}
+use lib.Dec.{ltb}
 use lib.ListN.{length, getD, take, drop, length-map, length-drop}
 use Rattle.lists.specs.Lists.{over}
-use Rattle.lists.specs.Limits.{maxLines}
+use Rattle.lists.specs.Limits.{maxLines, maxPosition}
 use Rattle.lists.proofs.Over.{over-front}
 use lib.Seq.{length-take-le}
 use Rattle.records.specs.Kept.{noKept}
@@ -15,17 +17,32 @@ use Rattle.cells.specs.Cells.{Row}
 use Rattle.cells.specs.Listed.{cellLine, cellCols, cellRows, allCells, cellEnds, tableRows, ListingReady, TableListed}
 use Rattle.cells.proofs.Rows.{length-ends}
 use Rattle.cells.proofs.Facts.{rows-few}
-use Rattle.positions.specs.inner.Slices.{tableOf, Rising}
+use Rattle.cells.specs.Spans.{part}
+use Rattle.rows.specs.Row.{Item, itemOf, itemsEnd, rowFrom, nexts}
+use Rattle.positions.specs.Positions.{originals, allRows, endsPast, entryCount}
+use Rattle.positions.specs.inner.Slices.{cellsIn, tableOf, Rising, RowsWithin}
 use Rattle.hanging.specs.Placeable.{Placeable}
 use Rattle.grid.specs.Judging.{Lined}
+use Rattle.grid.specs.Facts.{Sound}
 use Rattle.positions.proofs.TableSlices.{table-listed, listed-rises}
 
--- room for the positions of a table with n rows and cells: as many rows, and `room` entries
-pub record Positioning (n room : ℕ) (l s e : List ℕ) : Type 0 where
-  pub row-fits : n ≤ room
-  pub line-room : room ≤ length l
-  pub span-room : room ≤ length s
-  pub row-end-room : n ≤ length e
+-- where rows end and how many entries they have does not depend on their lines
+module _ (lines spans rows : List ℕ) where
+  abbrev entriesAt : List Item → ℕ → ℕ → List Item
+  entriesAt hs a e = rowFrom 0 hs (map itemOf (cellsIn (part a e lines) (part a e spans) (part a e rows)))
+
+  past-lines : (rl rl′ : List ℕ) (hs : List Item) (a : ℕ) (ends : List ℕ)
+      → endsPast (originals hs (tableOf lines spans rows rl a ends)) ≡ endsPast (originals hs (tableOf lines spans rows rl′ a ends))
+  unfolding tableOf originals endsPast
+  past-lines rl rl′ hs a [] = refl
+  past-lines rl rl′ hs a (e ∷ ends) =
+      ap (λ (b : Bool). ltb maxPosition (itemsEnd (entriesAt hs a e)) || b) (past-lines (drop 1 rl) (drop 1 rl′) (nexts (entriesAt hs a e)) e ends)
+
+  count-lines : (rl rl′ : List ℕ) (hs : List Item) (a : ℕ) (ends : List ℕ)
+      → entryCount (originals hs (tableOf lines spans rows rl a ends)) ≡ entryCount (originals hs (tableOf lines spans rows rl′ a ends))
+  unfolding tableOf originals entryCount
+  count-lines rl rl′ hs a [] = refl
+  count-lines rl rl′ hs a (e ∷ ends) = ap (λ (n : ℕ). length (entriesAt hs a e) + n) (count-lines (drop 1 rl) (drop 1 rl′) (nexts (entriesAt hs a e)) e ends)
 
 -- a list that is written over the front of a buffer is found there
 pub front : (l o₀ o : List ℕ) (n : ℕ) → n ≡ length l → o ≡ over l o₀ → take n o ≡ l
@@ -56,11 +73,25 @@ module _ {rs : List Row} {line₀ span₀ rows₀ row₀ end₀ line span rows r
   listed-in h = omega (arith, w .cells-are, w .rows-are)
 
   -- its positions can be made
+  listed-within : Sound rs → {l s : List ℕ} → entryCount (allRows rs) ≤ length l → entryCount (allRows rs) ≤ length s
+      → RowsWithin (take cells line) (take cells span) (take cells rows) (take count end) l s
+  listed-within z a b =
+      let same : (rl : List ℕ) → entryCount (allRows (tableOf (take cells line) (take cells span) (take cells rows) rl 0 (take count end))) ≡ entryCount (allRows rs) =
+      λ rl. count-lines (take cells line) (take cells span) (take cells rows) rl row [] 0 (take count end) ∙ ap (λ (t : List Row). entryCount (allRows t)) rebuilt in
+      record {
+        ends-in = λ rl.
+            past-lines (take cells line) (take cells span) (take cells rows) rl row [] 0 (take count end)
+            ∙ ap (λ (t : List Row). endsPast (allRows t)) rebuilt ∙ z .within;
+        few = λ rl. omega (arith, same rl, z .few);
+        line-room = λ rl. omega (arith, same rl, a);
+        span-room = λ rl. omega (arith, same rl, b);
+      }
+
   pub listed-ready : {m : ℕ} → length rs + length (allCells rs) ≤ m → m ≤ maxLines
       → cells ≤ length line → cells ≤ length span → cells ≤ length rows → count ≤ length end
-      → {room : ℕ} {l s e : List ℕ} → Positioning m room l s e
-      → Placeable room (take cells line) (take cells span) (take cells rows) (take count end) l s e
-  listed-ready few short a b d f z =
+      → Sound rs → {l s e : List ℕ} → entryCount (allRows rs) ≤ length l → entryCount (allRows rs) ≤ length s → m ≤ length e
+      → Placeable (take cells line) (take cells span) (take cells rows) (take count end) l s e
+  listed-ready few short a b d f z g h i =
       let u = length-take-le count end f in
       let v = length-take-le cells line a in
       let x = w .cells-are in
@@ -70,10 +101,8 @@ module _ {rs : List Row} {line₀ span₀ rows₀ row₀ end₀ line span rows r
         spans-length = length-take-le cells span b ∙ sym v;
         rows-length = length-take-le cells rows d ∙ sym v;
         few = omega arith;
-        row-fits = omega (arith, z .row-fits);
-        line-room = z .line-room;
-        span-room = z .span-room;
-        row-end-room = omega (arith, z .row-end-room);
+        within = listed-within z g h;
+        row-end-room = omega arith;
       }
 
 -- ---- how many

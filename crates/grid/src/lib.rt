@@ -1,4 +1,5 @@
-// The grid of a table: its cells and fillers in columns, as `RenderTable::new` makes them, or why there is none.
+// The grid of a table: its cells and fillers in columns, as `RenderTable::new` makes them. A table of which one is made is sound: no row ends past 4,096, and there are at most
+// 8,192 entries.
 use edges::Numbered;
 use positions::Positions;
 ghost use mathlib.Core.Path.{_≡_};
@@ -9,20 +10,11 @@ ghost use Rattle.edges.specs.Edges.{isEdge, rowsFrom, RowsFit};
 ghost use Rattle.edges.specs.Lookup.{Counted};
 ghost use Rattle.records.specs.Kept.{keptsOf, entriesOf};
 ghost use Rattle.cells.specs.Listed.{tableRows};
-ghost use Rattle.positions.specs.inner.Slices.{Enough};
+ghost use Rattle.positions.specs.Positions.{allRows, entryCount};
 ghost use Rattle.grid.specs.inner.Numbering.{RowsNumbered};
 ghost use Rattle.grid.specs.Judging.{Lined};
-ghost use Rattle.grid.specs.inner.Placing.{edgeOfRows, PlacedReady, PlacedJudged, TablePlaced, Room};
-
-// What a table comes to: how many rows, entries and columns its grid has; or the number of a refusal.
-pub enum Judged {
-    Grid {
-        rows: usize,
-        entries: usize,
-        columns: usize,
-    },
-    Refused(u32),
-}
+ghost use Rattle.grid.specs.Facts.{Sound};
+ghost use Rattle.grid.specs.inner.Placing.{edgeOfRows, RowsReady, PlacedNumbered, TablePlaced, Room};
 
 // The larger of two counts.
 fn longer(a: usize, b: usize) -> usize
@@ -83,45 +75,32 @@ fn number_table(wide: &[u32], line: &[u32], ends: &[u32], entries: &mut [u32]) -
     number_rows(&words, &counts, wide, line, ends, entries)
 }
 
-// The grid of rows by positions as records of its entries, or the refusal 5 or 6, which the positions tell. Refusal 7, that an entry ends at no edge,
-// is never given: the edges are those of all rows.
+// The grid of rows by positions as records of its entries: how many columns it has. That an entry ends at no edge, refusal 7, is never found: the
+// edges are those of all rows.
 pub fn placed_grid(
     placed: Positions,
     wide: &[u32],
     line: &[u32],
     row_end: &[u32],
     entries: &mut [u32],
-) -> Judged
-    requires { ⌜ PlacedReady placed (now wide) (now line) (now «row_end») (entriesOf (now entries)) ⌝ }
-    ensures { λ r. ⌜ PlacedJudged placed (now (wide .entry)) (now (line .entry)) (now («row_end» .entry)) r (entriesOf (now (entries .exit))) ⌝ }
+) -> usize
+    requires { ⌜ RowsReady (placed .rows) (placed .entries) (now wide) (now line) (now «row_end») (entriesOf (now entries)) ⌝ }
+    ensures { λ r. ⌜ PlacedNumbered (placed .rows) (placed .entries) (now (wide .entry)) (now (line .entry)) (now («row_end» .entry)) r (entriesOf (now (entries .exit))) ⌝ }
 {
-    match placed {
-        Positions::Past => Judged::Refused(5),
-        Positions::Many => Judged::Refused(6),
-        Positions::Rows { rows, entries: n } => {
-            let Numbered::Done(columns) = number_table(
-                &wide[..n],
-                &line[..n],
-                &row_end[..rows],
-                entries,
-            ) else {
-                return Judged::Refused(7);
-            };
-            Judged::Grid {
-                rows,
-                entries: n,
-                columns,
-            }
-        }
-    }
+    let rows = placed.rows;
+    let n = placed.entries;
+    let Numbered::Done(columns) = number_table(&wide[..n], &line[..n], &row_end[..rows], entries)
+    else {
+        return 0;
+    };
+    columns
 }
 
 // The rows of the table at the place `at` by positions: the span and the line of each entry, each row's line and its end. The slices from cell_line
-// to cell_end are room to work in. There are `room` places for entries, enough for a table that has not too many.
+// to cell_end are scratch. The table is sound, and there is a place for each of its entries.
 pub fn place_table(
     lines: &[u32],
     at: usize,
-    room: usize,
     wide: &mut [u32],
     line: &mut [u32],
     cell_line: &mut [u32],
@@ -133,8 +112,8 @@ pub fn place_table(
 ) -> Positions
     requires { ⌜ at < length (keptsOf (now lines)) ⌝ }
     requires { ⌜ Lined (keptsOf (now lines)) ⌝ }
-    requires { ⌜ Room (length (keptsOf (now lines)) - at) room (now wide) (now line) (now «cell_line») (now «cell_span») (now «cell_rows») (now «cell_end») (now «row_line») (now «row_end») ⌝ }
-    requires { ⌜ Enough room (tableRows (keptsOf (now lines)) at) ⌝ }
+    requires { ⌜ Sound (tableRows (keptsOf (now lines)) at) ⌝ }
+    requires { ⌜ Room (length (keptsOf (now lines)) - at) (entryCount (allRows (tableRows (keptsOf (now lines)) at))) (now wide) (now line) (now «cell_line») (now «cell_span») (now «cell_rows») (now «cell_end») (now «row_line») (now «row_end») ⌝ }
     ensures { λ r. ⌜ TablePlaced (tableRows (keptsOf (now (lines .entry))) at) r (now (wide .exit)) (now (line .exit)) (now («row_line» .exit)) (now («row_end» .exit)) ⌝ }
 {
     let listed = cells::list_rows(
@@ -149,7 +128,6 @@ pub fn place_table(
     let n = listed.cells;
     let r = listed.rows;
     hanging::position(
-        room,
         &cell_line[..n],
         &cell_span[..n],
         &cell_rows[..n],

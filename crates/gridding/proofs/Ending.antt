@@ -21,9 +21,10 @@ use Rattle.cells.specs.Cells as cells
 use Rattle.cells.specs.Cells.{Frame, noFrame, openBody, openRow, openCell, frame, resolved}
 use Rattle.cells.specs.Listed.{tableRows}
 use Rattle.cells.proofs.Lines.{inside}
-use Rattle.positions.specs.inner.Slices.{Enough}
+use Rattle.positions.specs.Positions.{entryCount, allRows}
+use Rattle.grid.specs.Facts.{Sound}
 use Rattle.grid.specs.Judging.{Lined}
-use Rattle.gridding.specs.Packed.{GridReady}
+use Rattle.gridding.specs.Packed.{TableReady}
 use Rattle.gridding.specs.inner.Making.{asks, rowsBelow, rowsIn, Ended}
 
 -- ---- the table of its own lines
@@ -80,13 +81,14 @@ module _ {ks : List Kept} {at end asked : ℕ} (e : Ended ks at end asked) where
   pub held-front : tableRows (take end ks) at ≡ tableRows ks at
   held-front = held-take ks at end (e .after) (e .stops)
 
-  pub ready-front : {es : List Entry} {rs : List Row} → GridReady ks at es rs → GridReady (take end ks) at es rs
+  pub ready-front : {es : List Entry} {rs : List Row} → TableReady ks at es rs → TableReady (take end ks) at es rs
   ready-front {es} z =
       let l = length-take-le end ks (e .within) in
       record {
         within = omega (arith, e .after);
         lined = lined-take end (e .within) (z .lined);
-        enough = subst (λ (t : List cells.Row). Enough (length es) t) (sym held-front) (z .enough);
+        sound = subst Sound (sym held-front) (z .sound);
+        entry-room = subst (λ (t : List cells.Row). entryCount (allRows t) ≤ length es) (sym held-front) (z .entry-room);
         row-room = omega (arith, e .within, z .row-room);
       }
 

@@ -9,16 +9,10 @@ use lib.Seq.{getD-set-same, getD-set-other, getD-take, length-take-le, ext-getD}
 use Rattle.records.specs.Kept.{noRow}
 use Rattle.records.specs.declared.Entry.{Entry}
 use Rattle.records.specs.declared.Row.{Row}
-use Rattle.edges.specs.declared.Numbered.{Numbered}
-use Rattle.edges.specs.declared.Numbered.the-variants.{Done, Missing}
-use Rattle.positions.specs.declared.Positions.{Positions}
-use Rattle.positions.specs.declared.Positions.the-variants.{Rows, Past, Many}
-use Rattle.grid.specs.declared.Judged.{Judged}
-use Rattle.grid.specs.declared.Judged.the-variants.{Grid, Refused}
 use Rattle.grid.specs.Grid.{GridRow, rowEnds}
-use Rattle.grid.specs.inner.Placing.{gridLine, PlacedJudged}
+use Rattle.grid.specs.inner.Placing.{gridLine}
 use Rattle.gridding.specs.Packed.{row, endedRows}
-use Rattle.gridding.specs.inner.Making.{RowsPacked, FinishReady, Finished}
+use Rattle.gridding.specs.inner.Making.{RowsPacked}
 
 -- ---- the loops: the records up to place i are those of the figures
 
@@ -72,33 +66,3 @@ rows-are g {line} {end} a b rs h z =
     z .at k i
     ∙ (λ j. row ((stands-at (length g) line (map lineOf gs) (a ∙ sym (ended-lines 0 g)) k i ∙ List·getD-map lineOf gs k noRow) j)
     ((stands-at (length g) end (map endOf gs) (b ∙ sym (ended-ends 0 g)) k i ∙ List·getD-map endOf gs k noRow) j)))
-
--- ---- the two answers
-
-module _ {placed : Positions} {wide line row-line row-end : List ℕ} {es : List Entry} {judged : Judged} (g : PlacedJudged placed wide line row-end judged es) where
-  -- the rows of a grid lie within the slices
-  pub rows-within : {es₀ : List Entry} {rs₀ : List Row} → FinishReady placed wide line row-line row-end es₀ rs₀ → (r n c : ℕ) → judged ≡ Grid r n c
-      → ((r ≤ length row-line) × (r ≤ length row-end)) × (r ≤ length rs₀)
-  rows-within {es₀} {rs₀} f r n c q = go placed refl
-    where
-      go : (p : Positions) → placed ≡ p → ((r ≤ length row-line) × (r ≤ length row-end)) × (r ≤ length rs₀)
-      go Past e = absurd (let b = g .past e in let z : _≡_ {A = ℕ} 0 1 = cc in omega arith)
-      go Many e = absurd (let b = g .many e in let z : _≡_ {A = ℕ} 0 1 = cc in omega arith)
-      go (Rows r′ n′) e =
-          let b = g .rows r′ n′ e .answer in
-          let k : r′ ≡ r = cc in
-          let w = f .rows-in r′ n′ e in
-          let v = f .ready .ready r′ n′ e .ends-in in
-          ((omega arith, omega arith), omega arith)
-
-  pub finished-none : (k : ℕ) → judged ≡ Refused k → {rs : List Row} → Finished placed wide line row-line row-end (Refused k) es rs
-  finished-none k e = record {
-    numbered = rw e at g;
-    packed = λ r n c q. let z : _≡_ {A = ℕ} 0 1 = cc in absurd (omega arith);
-  }
-
-  pub finished-grid : (r n c : ℕ) → judged ≡ Grid r n c → {rs : List Row} → RowsPacked r row-line row-end rs → Finished placed wide line row-line row-end (Grid r n c) es rs
-  finished-grid r n c e y = record {
-    numbered = rw e at g;
-    packed = λ r′ n′ c′ q. let b : r ≡ r′ = cc in rw b at y;
-  }

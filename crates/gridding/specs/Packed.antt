@@ -9,13 +9,10 @@ use Rattle.records.specs.declared.Row.{Row}
 use Rattle.cells.specs.Cells as cells
 use Rattle.cells.specs.Listed.{tableRows}
 use Rattle.positions.specs.Positions.{entryCount, allRows}
-use Rattle.positions.specs.inner.Slices.{Enough}
-use Rattle.grid.specs.declared.Judged.{Judged}
-use Rattle.grid.specs.declared.Judged.the-variants.{Grid}
 use Rattle.grid.specs.Grid as grid
 use Rattle.grid.specs.Grid.{GridRow, gridOf, columnsOf}
 use Rattle.grid.specs.Facts.{Sound}
-use Rattle.grid.specs.Judging.{Lined, judgedOf, shown}
+use Rattle.grid.specs.Judging.{Lined, shown}
 use Rattle.gridding.specs.declared.Counts.{Counts}
 -- an entry and a row as records; `shown` is an entry as a listing shows it
 pub use Rattle.grid.specs.Judging.{shown}
@@ -30,23 +27,6 @@ row line end = record { line = line; end = end }
 unfoldable pub endedRows : ℕ → List GridRow → List Row
 endedRows n [] = []
 endedRows n (r ∷ rs) = row (r .line) (n + length (r .entries)) ∷ endedRows (n + length (r .entries)) rs
-
--- ---- any table
-
--- a table of lines that are read, and records for its entries and rows
-pub record GridReady (ks : List Kept) (at : ℕ) (es : List Entry) (rs : List Row) : Type 0 where
-  pub within : at < length ks
-  pub lined : Lined ks
-  pub enough : Enough (length es) (tableRows ks at)
-  pub row-room : length ks ≤ length rs
-
--- the counts of its grid, which stands in the first records; or its refusal
-pub record GridMade (table : List cells.Row) (r : Judged) (es : List Entry) (rs : List Row) : Type 0 where
-  pub answer : r ≡ judgedOf table
-  pub entries : (rows n columns : ℕ) → r ≡ Grid rows n columns → take n es ≡ map shown (grid.entriesOf (gridOf table))
-  pub rows : (rows n columns : ℕ) → r ≡ Grid rows n columns → take rows rs ≡ endedRows 0 (gridOf table)
-
--- ---- a table to which no refusal applies
 
 -- a table of an opened sheet, and records for its entries and rows
 pub record TableReady (ks : List Kept) (at : ℕ) (es : List Entry) (rs : List Row) : Type 0 where

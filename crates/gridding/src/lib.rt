@@ -1,7 +1,6 @@
 // The grid of one table, made where it is used, as records of its entries and rows. Room to work in is its own, of four sizes, by the lines of
 // the table alone: it is cleared for each table, and for a small table a short one does.
 // The rows' slice is room too until its rows are written: for the ends of the rows' cells.
-use grid::Judged;
 use lists::MAX_ENTRIES;
 use lists::MAX_LINES;
 use positions::Positions;
@@ -12,7 +11,7 @@ ghost use lib.ListN.{length};
 ghost use Rattle.lists.specs.Limits.{maxLines};
 ghost use Rattle.records.specs.Kept.{keptsOf, entriesOf, rowsOf};
 ghost use Rattle.cells.specs.Listed.{tableRows};
-ghost use Rattle.gridding.specs.Packed.{GridReady, GridMade, TableReady, TableMade};
+ghost use Rattle.gridding.specs.Packed.{TableReady, TableMade};
 ghost use Rattle.gridding.specs.inner.Making.{asks, askedAfter, Ended, Fits, RowsPacked, FinishReady, Finished};
 
 // Lines of a table for which short arrays do, and room for its entries, of which there are no more than its cells ask for rows. The sizes are for speed
@@ -100,32 +99,26 @@ fn finish(
     row_end: &[u32],
     entries: &mut [u32],
     rows: &mut [u32],
-) -> Judged
+) -> Counts
     requires { ⌜ FinishReady placed (now wide) (now line) (now «row_line») (now «row_end») (entriesOf (now entries)) (rowsOf (now rows)) ⌝ }
     ensures { λ r. ⌜ Finished placed (now (wide .entry)) (now (line .entry)) (now («row_line» .entry)) (now («row_end» .entry)) r (entriesOf (now (entries .exit))) (rowsOf (now (rows .exit))) ⌝ }
 {
-    match grid::placed_grid(placed, wide, line, row_end, entries) {
-        Judged::Refused(number) => Judged::Refused(number),
-        Judged::Grid {
-            rows: r,
-            entries: n,
-            columns,
-        } => {
-            pack_rows(row_line, row_end, r, rows);
-            Judged::Grid {
-                rows: r,
-                entries: n,
-                columns,
-            }
-        }
+    let columns = grid::placed_grid(placed, wide, line, row_end, entries);
+    let r = placed.rows;
+    let n = placed.entries;
+    pack_rows(row_line, row_end, r, rows);
+    Counts {
+        rows: r,
+        entries: n,
+        columns,
     }
 }
 
 // The grid of a table of the fewest lines.
-fn make_least(lines: &[u32], at: usize, entries: &mut [u32], rows: &mut [u32]) -> Judged
-    requires { ⌜ GridReady (keptsOf (now lines)) at (entriesOf (now entries)) (rowsOf (now rows)) ⌝ }
+fn make_least(lines: &[u32], at: usize, entries: &mut [u32], rows: &mut [u32]) -> Counts
+    requires { ⌜ TableReady (keptsOf (now lines)) at (entriesOf (now entries)) (rowsOf (now rows)) ⌝ }
     requires { ⌜ Fits 16 32 (keptsOf (now lines)) at ⌝ }
-    ensures { λ r. ⌜ GridMade (tableRows (keptsOf (now (lines .entry))) at) r (entriesOf (now (entries .exit))) (rowsOf (now (rows .exit))) ⌝ }
+    ensures { λ r. ⌜ TableMade (tableRows (keptsOf (now (lines .entry))) at) r (entriesOf (now (entries .exit))) (rowsOf (now (rows .exit))) ⌝ }
 {
     let mut wide = [0u32; LEAST_ENTRIES];
     let mut line = [0u32; LEAST_ENTRIES];
@@ -137,7 +130,6 @@ fn make_least(lines: &[u32], at: usize, entries: &mut [u32], rows: &mut [u32]) -
     let placed = grid::place_table(
         lines,
         at,
-        LEAST_ENTRIES,
         &mut wide,
         &mut line,
         &mut cell_line,
@@ -151,10 +143,10 @@ fn make_least(lines: &[u32], at: usize, entries: &mut [u32], rows: &mut [u32]) -
 }
 
 // The grid of a table of few lines.
-fn make_few(lines: &[u32], at: usize, entries: &mut [u32], rows: &mut [u32]) -> Judged
-    requires { ⌜ GridReady (keptsOf (now lines)) at (entriesOf (now entries)) (rowsOf (now rows)) ⌝ }
+fn make_few(lines: &[u32], at: usize, entries: &mut [u32], rows: &mut [u32]) -> Counts
+    requires { ⌜ TableReady (keptsOf (now lines)) at (entriesOf (now entries)) (rowsOf (now rows)) ⌝ }
     requires { ⌜ Fits 128 256 (keptsOf (now lines)) at ⌝ }
-    ensures { λ r. ⌜ GridMade (tableRows (keptsOf (now (lines .entry))) at) r (entriesOf (now (entries .exit))) (rowsOf (now (rows .exit))) ⌝ }
+    ensures { λ r. ⌜ TableMade (tableRows (keptsOf (now (lines .entry))) at) r (entriesOf (now (entries .exit))) (rowsOf (now (rows .exit))) ⌝ }
 {
     let mut wide = [0u32; FEW_ENTRIES];
     let mut line = [0u32; FEW_ENTRIES];
@@ -166,7 +158,6 @@ fn make_few(lines: &[u32], at: usize, entries: &mut [u32], rows: &mut [u32]) -> 
     let placed = grid::place_table(
         lines,
         at,
-        FEW_ENTRIES,
         &mut wide,
         &mut line,
         &mut cell_line,
@@ -180,10 +171,10 @@ fn make_few(lines: &[u32], at: usize, entries: &mut [u32], rows: &mut [u32]) -> 
 }
 
 // The grid of a table of some lines.
-fn make_some(lines: &[u32], at: usize, entries: &mut [u32], rows: &mut [u32]) -> Judged
-    requires { ⌜ GridReady (keptsOf (now lines)) at (entriesOf (now entries)) (rowsOf (now rows)) ⌝ }
+fn make_some(lines: &[u32], at: usize, entries: &mut [u32], rows: &mut [u32]) -> Counts
+    requires { ⌜ TableReady (keptsOf (now lines)) at (entriesOf (now entries)) (rowsOf (now rows)) ⌝ }
     requires { ⌜ Fits 512 1024 (keptsOf (now lines)) at ⌝ }
-    ensures { λ r. ⌜ GridMade (tableRows (keptsOf (now (lines .entry))) at) r (entriesOf (now (entries .exit))) (rowsOf (now (rows .exit))) ⌝ }
+    ensures { λ r. ⌜ TableMade (tableRows (keptsOf (now (lines .entry))) at) r (entriesOf (now (entries .exit))) (rowsOf (now (rows .exit))) ⌝ }
 {
     let mut wide = [0u32; SOME_ENTRIES];
     let mut line = [0u32; SOME_ENTRIES];
@@ -195,7 +186,6 @@ fn make_some(lines: &[u32], at: usize, entries: &mut [u32], rows: &mut [u32]) ->
     let placed = grid::place_table(
         lines,
         at,
-        SOME_ENTRIES,
         &mut wide,
         &mut line,
         &mut cell_line,
@@ -209,10 +199,10 @@ fn make_some(lines: &[u32], at: usize, entries: &mut [u32], rows: &mut [u32]) ->
 }
 
 // The grid of a table of any size.
-fn make_many(lines: &[u32], at: usize, entries: &mut [u32], rows: &mut [u32]) -> Judged
-    requires { ⌜ GridReady (keptsOf (now lines)) at (entriesOf (now entries)) (rowsOf (now rows)) ⌝ }
+fn make_many(lines: &[u32], at: usize, entries: &mut [u32], rows: &mut [u32]) -> Counts
+    requires { ⌜ TableReady (keptsOf (now lines)) at (entriesOf (now entries)) (rowsOf (now rows)) ⌝ }
     requires { ⌜ Fits 4096 8192 (keptsOf (now lines)) at ⌝ }
-    ensures { λ r. ⌜ GridMade (tableRows (keptsOf (now (lines .entry))) at) r (entriesOf (now (entries .exit))) (rowsOf (now (rows .exit))) ⌝ }
+    ensures { λ r. ⌜ TableMade (tableRows (keptsOf (now (lines .entry))) at) r (entriesOf (now (entries .exit))) (rowsOf (now (rows .exit))) ⌝ }
 {
     let mut wide = [0u32; MAX_ENTRIES];
     let mut line = [0u32; MAX_ENTRIES];
@@ -224,7 +214,6 @@ fn make_many(lines: &[u32], at: usize, entries: &mut [u32], rows: &mut [u32]) ->
     let placed = grid::place_table(
         lines,
         at,
-        MAX_ENTRIES,
         &mut wide,
         &mut line,
         &mut cell_line,
@@ -271,10 +260,10 @@ fn make_within(
     asked: u64,
     entries: &mut [u32],
     rows: &mut [u32],
-) -> Judged
-    requires { ⌜ GridReady (keptsOf (now lines)) at (entriesOf (now entries)) (rowsOf (now rows)) ⌝ }
+) -> Counts
+    requires { ⌜ TableReady (keptsOf (now lines)) at (entriesOf (now entries)) (rowsOf (now rows)) ⌝ }
     requires { ⌜ asked ≡ askedAfter (keptsOf (now lines)) at ⌝ }
-    ensures { λ r. ⌜ GridMade (tableRows (keptsOf (now (lines .entry))) at) r (entriesOf (now (entries .exit))) (rowsOf (now (rows .exit))) ⌝ }
+    ensures { λ r. ⌜ TableMade (tableRows (keptsOf (now (lines .entry))) at) r (entriesOf (now (entries .exit))) (rowsOf (now (rows .exit))) ⌝ }
 {
     if most > SOME_LINES {
         return make_many(lines, at, entries, rows);
@@ -292,36 +281,13 @@ fn make_within(
     make_within(next(most), lines, at, asked, entries, rows)
 }
 
-// The grid of the table at the place `at`: a record for each entry and for each row, and how many there are; or the first of the refusals 5
-// and 6 that applies.
-pub fn make(lines: &[u32], at: usize, entries: &mut [u32], rows: &mut [u32]) -> Judged
-    requires { ⌜ GridReady (keptsOf (now lines)) at (entriesOf (now entries)) (rowsOf (now rows)) ⌝ }
-    ensures { λ r. ⌜ GridMade (tableRows (keptsOf (now (lines .entry))) at) r (entriesOf (now (entries .exit))) (rowsOf (now (rows .exit))) ⌝ }
-{
-    let extent = extent_of(lines, at);
-    let end = records::WIDTH * extent.end;
-    make_within(LEAST_LINES, &lines[..end], at, extent.asked, entries, rows)
-}
-
-// The grid of the table at the place `at` of an opened sheet, to which no refusal applies.
+// The grid of the table at the place `at` of an opened sheet, to which no refusal applies: a record for each entry and for each row, and how many
+// there are.
 pub fn make_sound(lines: &[u32], at: usize, entries: &mut [u32], rows: &mut [u32]) -> Counts
     requires { ⌜ TableReady (keptsOf (now lines)) at (entriesOf (now entries)) (rowsOf (now rows)) ⌝ }
     ensures { λ r. ⌜ TableMade (tableRows (keptsOf (now (lines .entry))) at) r (entriesOf (now (entries .exit))) (rowsOf (now (rows .exit))) ⌝ }
 {
-    match make(lines, at, entries, rows) {
-        Judged::Refused(number) => Counts {
-            rows: 0,
-            entries: 0,
-            columns: 0,
-        },
-        Judged::Grid {
-            rows: r,
-            entries: n,
-            columns,
-        } => Counts {
-            rows: r,
-            entries: n,
-            columns,
-        },
-    }
+    let extent = extent_of(lines, at);
+    let end = records::WIDTH * extent.end;
+    make_within(LEAST_LINES, &lines[..end], at, extent.asked, entries, rows)
 }

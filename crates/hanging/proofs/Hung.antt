@@ -7,18 +7,16 @@ use Rattle.positions.specs.inner.Slices.{Ready}
 use Rattle.hanging.specs.Placeable.{Placeable}
 
 -- with six more slices that have a place for each row and cell the positions can be made
-pub ready-with : {room : ℕ} {lines spans rows ends l s e left at wide nl na nw : List ℕ} → Placeable room lines spans rows ends l s e → {m : ℕ} → length ends + length lines ≤ m
+pub ready-with : {lines spans rows ends l s e left at wide nl na nw : List ℕ} → Placeable lines spans rows ends l s e → {m : ℕ} → length ends + length lines ≤ m
     → m ≤ length left → m ≤ length at → m ≤ length wide → m ≤ length nl → m ≤ length na → m ≤ length nw
-    → Ready room lines spans rows ends l s e left at wide nl na nw
+    → Ready lines spans rows ends l s e left at wide nl na nw
 ready-with p h a b c d e f =
     record {
       rising = p .rising;
       spans-length = p .spans-length;
       rows-length = p .rows-length;
       few = p .few;
-      row-fits = p .row-fits;
-      line-room = p .line-room;
-      span-room = p .span-room;
+      within = p .within;
       row-end-room = p .row-end-room;
       left-room = omega arith;
       at-room = omega arith;

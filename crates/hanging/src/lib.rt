@@ -21,7 +21,6 @@ const SOME: usize = 2 * SOME_EACH;
 
 // A table of the fewest rows and cells.
 fn position_least(
-    room: usize,
     cell_line: &[u32],
     cell_span: &[u32],
     cell_rows: &[u32],
@@ -30,9 +29,9 @@ fn position_least(
     out_wide: &mut [u32],
     row_end: &mut [u32],
 ) -> Positions
-    requires { ⌜ Placeable room (now «cell_line») (now «cell_span») (now «cell_rows») (now «cell_end») (now «out_line») (now «out_wide») (now «row_end») ⌝ }
+    requires { ⌜ Placeable (now «cell_line») (now «cell_span») (now «cell_rows») (now «cell_end») (now «out_line») (now «out_wide») (now «row_end») ⌝ }
     requires { ⌜ length (now «cell_end») + length (now «cell_line») ≤ 16 ⌝ }
-    ensures { λ r. ⌜ Positioned room (now («cell_line» .entry)) (now («cell_span» .entry)) (now («cell_rows» .entry)) (now («cell_end» .entry)) r
+    ensures { λ r. ⌜ Positioned (now («cell_line» .entry)) (now («cell_span» .entry)) (now («cell_rows» .entry)) (now («cell_end» .entry)) r
         (now («out_line» .entry)) (now («out_wide» .entry)) (now («row_end» .entry)) (now («out_line» .exit)) (now («out_wide» .exit)) (now («row_end» .exit)) ⌝ }
 {
     let mut left = [0u32; LEAST];
@@ -42,7 +41,6 @@ fn position_least(
     let mut next_at = [0u32; LEAST];
     let mut next_wide = [0u32; LEAST];
     positions::position_rows(
-        room,
         cell_line,
         cell_span,
         cell_rows,
@@ -61,7 +59,6 @@ fn position_least(
 
 // A table of few rows and cells.
 fn position_few(
-    room: usize,
     cell_line: &[u32],
     cell_span: &[u32],
     cell_rows: &[u32],
@@ -70,9 +67,9 @@ fn position_few(
     out_wide: &mut [u32],
     row_end: &mut [u32],
 ) -> Positions
-    requires { ⌜ Placeable room (now «cell_line») (now «cell_span») (now «cell_rows») (now «cell_end») (now «out_line») (now «out_wide») (now «row_end») ⌝ }
+    requires { ⌜ Placeable (now «cell_line») (now «cell_span») (now «cell_rows») (now «cell_end») (now «out_line») (now «out_wide») (now «row_end») ⌝ }
     requires { ⌜ length (now «cell_end») + length (now «cell_line») ≤ 128 ⌝ }
-    ensures { λ r. ⌜ Positioned room (now («cell_line» .entry)) (now («cell_span» .entry)) (now («cell_rows» .entry)) (now («cell_end» .entry)) r
+    ensures { λ r. ⌜ Positioned (now («cell_line» .entry)) (now («cell_span» .entry)) (now («cell_rows» .entry)) (now («cell_end» .entry)) r
         (now («out_line» .entry)) (now («out_wide» .entry)) (now («row_end» .entry)) (now («out_line» .exit)) (now («out_wide» .exit)) (now («row_end» .exit)) ⌝ }
 {
     let mut left = [0u32; FEW];
@@ -82,7 +79,6 @@ fn position_few(
     let mut next_at = [0u32; FEW];
     let mut next_wide = [0u32; FEW];
     positions::position_rows(
-        room,
         cell_line,
         cell_span,
         cell_rows,
@@ -101,7 +97,6 @@ fn position_few(
 
 // A table of some rows and cells.
 fn position_some(
-    room: usize,
     cell_line: &[u32],
     cell_span: &[u32],
     cell_rows: &[u32],
@@ -110,9 +105,9 @@ fn position_some(
     out_wide: &mut [u32],
     row_end: &mut [u32],
 ) -> Positions
-    requires { ⌜ Placeable room (now «cell_line») (now «cell_span») (now «cell_rows») (now «cell_end») (now «out_line») (now «out_wide») (now «row_end») ⌝ }
+    requires { ⌜ Placeable (now «cell_line») (now «cell_span») (now «cell_rows») (now «cell_end») (now «out_line») (now «out_wide») (now «row_end») ⌝ }
     requires { ⌜ length (now «cell_end») + length (now «cell_line») ≤ 512 ⌝ }
-    ensures { λ r. ⌜ Positioned room (now («cell_line» .entry)) (now («cell_span» .entry)) (now («cell_rows» .entry)) (now («cell_end» .entry)) r
+    ensures { λ r. ⌜ Positioned (now («cell_line» .entry)) (now («cell_span» .entry)) (now («cell_rows» .entry)) (now («cell_end» .entry)) r
         (now («out_line» .entry)) (now («out_wide» .entry)) (now («row_end» .entry)) (now («out_line» .exit)) (now («out_wide» .exit)) (now («row_end» .exit)) ⌝ }
 {
     let mut left = [0u32; SOME];
@@ -122,7 +117,6 @@ fn position_some(
     let mut next_at = [0u32; SOME];
     let mut next_wide = [0u32; SOME];
     positions::position_rows(
-        room,
         cell_line,
         cell_span,
         cell_rows,
@@ -141,7 +135,6 @@ fn position_some(
 
 // Any table.
 fn position_many(
-    room: usize,
     cell_line: &[u32],
     cell_span: &[u32],
     cell_rows: &[u32],
@@ -150,8 +143,8 @@ fn position_many(
     out_wide: &mut [u32],
     row_end: &mut [u32],
 ) -> Positions
-    requires { ⌜ Placeable room (now «cell_line») (now «cell_span») (now «cell_rows») (now «cell_end») (now «out_line») (now «out_wide») (now «row_end») ⌝ }
-    ensures { λ r. ⌜ Positioned room (now («cell_line» .entry)) (now («cell_span» .entry)) (now («cell_rows» .entry)) (now («cell_end» .entry)) r
+    requires { ⌜ Placeable (now «cell_line») (now «cell_span») (now «cell_rows») (now «cell_end») (now «out_line») (now «out_wide») (now «row_end») ⌝ }
+    ensures { λ r. ⌜ Positioned (now («cell_line» .entry)) (now («cell_span» .entry)) (now («cell_rows» .entry)) (now («cell_end» .entry)) r
         (now («out_line» .entry)) (now («out_wide» .entry)) (now («row_end» .entry)) (now («out_line» .exit)) (now («out_wide» .exit)) (now («row_end» .exit)) ⌝ }
 {
     let mut left = [0u32; MAX_LINES];
@@ -161,7 +154,6 @@ fn position_many(
     let mut next_at = [0u32; MAX_LINES];
     let mut next_wide = [0u32; MAX_LINES];
     positions::position_rows(
-        room,
         cell_line,
         cell_span,
         cell_rows,
@@ -206,7 +198,6 @@ fn larger(rows: usize, cells: usize) -> usize
 // since a function that calls itself takes none with long arrays into its own frame: so a small table does not pay for the room of a large one.
 fn position_within(
     most: usize,
-    room: usize,
     cell_line: &[u32],
     cell_span: &[u32],
     cell_rows: &[u32],
@@ -215,13 +206,12 @@ fn position_within(
     out_wide: &mut [u32],
     row_end: &mut [u32],
 ) -> Positions
-    requires { ⌜ Placeable room (now «cell_line») (now «cell_span») (now «cell_rows») (now «cell_end») (now «out_line») (now «out_wide») (now «row_end») ⌝ }
-    ensures { λ r. ⌜ Positioned room (now («cell_line» .entry)) (now («cell_span» .entry)) (now («cell_rows» .entry)) (now («cell_end» .entry)) r
+    requires { ⌜ Placeable (now «cell_line») (now «cell_span») (now «cell_rows») (now «cell_end») (now «out_line») (now «out_wide») (now «row_end») ⌝ }
+    ensures { λ r. ⌜ Positioned (now («cell_line» .entry)) (now («cell_span» .entry)) (now («cell_rows» .entry)) (now («cell_end» .entry)) r
         (now («out_line» .entry)) (now («out_wide» .entry)) (now («row_end» .entry)) (now («out_line» .exit)) (now («out_wide» .exit)) (now («row_end» .exit)) ⌝ }
 {
     if most > SOME_EACH {
         return position_many(
-            room,
             cell_line,
             cell_span,
             cell_rows,
@@ -234,7 +224,6 @@ fn position_within(
     if larger(cell_end.len(), cell_line.len()) <= most {
         if most > FEW_EACH {
             return position_some(
-                room,
                 cell_line,
                 cell_span,
                 cell_rows,
@@ -246,7 +235,6 @@ fn position_within(
         }
         if most > LEAST_EACH {
             return position_few(
-                room,
                 cell_line,
                 cell_span,
                 cell_rows,
@@ -257,7 +245,6 @@ fn position_within(
             );
         }
         return position_least(
-            room,
             cell_line,
             cell_span,
             cell_rows,
@@ -269,7 +256,6 @@ fn position_within(
     }
     position_within(
         next(most),
-        room,
         cell_line,
         cell_span,
         cell_rows,
@@ -282,7 +268,6 @@ fn position_within(
 
 // All rows of a table by positions.
 pub fn position(
-    room: usize,
     cell_line: &[u32],
     cell_span: &[u32],
     cell_rows: &[u32],
@@ -291,13 +276,12 @@ pub fn position(
     out_wide: &mut [u32],
     row_end: &mut [u32],
 ) -> Positions
-    requires { ⌜ Placeable room (now «cell_line») (now «cell_span») (now «cell_rows») (now «cell_end») (now «out_line») (now «out_wide») (now «row_end») ⌝ }
-    ensures { λ r. ⌜ Positioned room (now («cell_line» .entry)) (now («cell_span» .entry)) (now («cell_rows» .entry)) (now («cell_end» .entry)) r
+    requires { ⌜ Placeable (now «cell_line») (now «cell_span») (now «cell_rows») (now «cell_end») (now «out_line») (now «out_wide») (now «row_end») ⌝ }
+    ensures { λ r. ⌜ Positioned (now («cell_line» .entry)) (now («cell_span» .entry)) (now («cell_rows» .entry)) (now («cell_end» .entry)) r
         (now («out_line» .entry)) (now («out_wide» .entry)) (now («row_end» .entry)) (now («out_line» .exit)) (now («out_wide» .exit)) (now («row_end» .exit)) ⌝ }
 {
     position_within(
         LEAST_EACH,
-        room,
         cell_line,
         cell_span,
         cell_rows,

@@ -110,14 +110,14 @@ wide-small {i = i} {v} {q} {w} walk z h a b c =
     let e : widthBy (getD (placesOf walk) i noPlace) ≡ Wide v = sym (ap widthBy a) ∙ sym b ∙ c in
     rw e at (z .small i h)
 
--- the first n records stand in the first 6 * n places
+-- the first n records stand in the first 2 * n places
 pub front-listable : {read : Reading} {lines : List ℕ} {figures : List Estimate} {width n : ℕ} {walk : List ℕ} → ReadListable read lines figures width walk → read ≡ Lines n
-    → Listable (keptsOf (take (6 * n) lines)) figures width
+    → Listable (keptsOf (take (2 * n) lines)) figures width
 front-listable {lines = lines} {n = n} r e = rw (kepts-take lines n (r .front n e)) (r .listable n e)
 
 pub front-narrow : {read : Reading} {lines : List ℕ} {figures : List Estimate} {width n : ℕ} {walk : List ℕ} → ReadListable read lines figures width walk → read ≡ Lines n
-    → WalkNarrow (length (keptsOf (take (6 * n) lines))) walk
+    → WalkNarrow (length (keptsOf (take (2 * n) lines))) walk
 front-narrow {lines = lines} {n = n} r e =
-    let c : length (keptsOf (take (6 * n) lines)) ≡ n =
+    let c : length (keptsOf (take (2 * n) lines)) ≡ n =
     ap length (kepts-take lines n (r .front n e)) ∙ length-take-le n (keptsOf lines) (omega (arith, r .front n e, length-kepts lines)) in
     rw c (r .narrow n e)

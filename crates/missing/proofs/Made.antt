@@ -20,7 +20,7 @@ use Rattle.gridding.specs.Packed.{TableReady, TableMade}
 use Rattle.gridding.specs.declared.Counts.{Counts}
 use Rattle.sizing.specs.Sizing.{entryBox}
 use Rattle.table.specs.Laying.{boxRowsBy, widthsIn, placesIn}
-use Rattle.table.specs.Arranging.{AllMeasured}
+use Rattle.table.specs.Arranging.{TableMeasured}
 use Rattle.table.specs.inner.Room.{FrontLayable}
 use Rattle.table.specs.inner.Fitting.{Asked}
 use Rattle.table.proofs.Steps.{entered, rows-flat}
@@ -62,7 +62,7 @@ module _ (es : List Entry) (figures : List Estimate) (rows : List (List Box)) (e
 
 -- ---- the table in a line
 
-module _ {ks : List Kept} {line : ℕ} (a : Asked ks line) {figures : List Estimate} (m : AllMeasured ks figures) (entries rows : List ℕ) {counts : Counts}
+module _ {ks : List Kept} {line : ℕ} (a : Asked ks line) {figures : List Estimate} (m : TableMeasured ks (line - 1) figures) (entries rows : List ℕ) {counts : Counts}
     (w : TableMade (tableRows ks (line - 1)) counts (entriesOf entries) (rowsOf rows)) (he : maxEntries ≤ length entries / 3) (hr : maxLines ≤ length rows / 2)
     {width : ℕ} (small : width ≤ maxSize) {entry₀ cause₀ : List ℕ} (room : ExplainRoom entry₀ cause₀) where
   abbrev es : List Entry

@@ -20,8 +20,8 @@ use Rattle.missing.specs.declared.Explained.the-variants.{Refused}
 use Rattle.missing.specs.inner.Found.{ExplainRoom, missedTotal, columnTotal, MissingMade, MissingRead, MissingFound}
 
 -- buffers that are as long as they were have the same room
-pub room-still : {entry cause cause′ : List ℕ} → length cause′ ≡ length cause → ExplainRoom entry cause → ExplainRoom entry cause′
-room-still e o = record { entry-room = o .entry-room; cause-room = omega (arith, o .cause-room) }
+pub room-still : {entry entry′ cause cause′ : List ℕ} → length entry′ ≡ length entry → length cause′ ≡ length cause → ExplainRoom entry cause → ExplainRoom entry′ cause′
+room-still e f o = record { entry-room = omega (arith, o .entry-room); cause-room = omega (arith, o .cause-room) }
 
 module _ {read : Reading} {lines : List ℕ} {line : ℕ} {figures : List Estimate} {raw width : ℕ} {entry cause : List ℕ} where
   pub read-refused : {number at : ℕ} → read ≡ reading.Refused number at → MissingRead read lines line figures raw width (Refused number at) entry cause
@@ -31,7 +31,7 @@ module _ {read : Reading} {lines : List ℕ} {line : ℕ} {figures : List Estima
   }
 
   pub read-made : {r : Explained} {n : ℕ} → read ≡ reading.Lines n → n ≤ keptCount lines
-      → MissingMade (keptsOf (take (6 * n) lines)) line figures raw width r entry cause → MissingRead read lines line figures raw width r entry cause
+      → MissingMade (keptsOf (take (2 * n) lines)) line figures raw width r entry cause → MissingRead read lines line figures raw width r entry cause
   read-made {r} {n} e h m = record {
     refused = λ number l f. let z : _≡_ {A = ℕ} 0 1 = cc in absurd (omega arith);
     made = λ k f.
@@ -56,7 +56,7 @@ module _ {s : List ℕ} {line wrap : ℕ} {read : Reading} {lines : List ℕ} {f
           let m = rw (w .opened .holds n e) at (g .made n e) in
           let b = opened-apt (w .opened) n e .from-one in
           let k : line - 1 + 1 ≡ line = omega arith in
-          let l = rw k at (m .told wrap (w .measured n e .figures)) in
+          let l = rw k at (m .told wrap (record { cells = w .measured n e .cells })) in
           record {
             answer = l .answer ∙ sym (first-passes Refused _ cs p);
             few-entries = m .few-entries;

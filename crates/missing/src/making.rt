@@ -1,9 +1,9 @@
 // The missing entries and the causes of one table of a measured sheet: its grid is made first.
-ghost use Prim.Native.Nat.{_≤_};
+ghost use Prim.Native.Nat.{_-_, _≤_};
 ghost use Rattle.lists.specs.Limits.{maxSize};
 ghost use Rattle.records.specs.Kept.{keptsOf};
 ghost use Rattle.estimates.specs.inner.Figures.{figuresOf};
-ghost use Rattle.table.specs.Arranging.{AllMeasured};
+ghost use Rattle.table.specs.Arranging.{TableMeasured};
 ghost use Rattle.table.specs.inner.Fitting.{Asked};
 ghost use Rattle.missing.specs.inner.Found.{ExplainRoom, MissingMade};
 use crate::Explained;
@@ -21,7 +21,7 @@ pub fn explain(
     cause: &mut [u32],
 ) -> Explained
     requires { ⌜ Asked (keptsOf (now lines)) line ⌝ }
-    requires { ⌜ AllMeasured (keptsOf (now lines)) (figuresOf (now figures)) ⌝ }
+    requires { ⌜ TableMeasured (keptsOf (now lines)) (line - 1) (figuresOf (now figures)) ⌝ }
     requires { ⌜ width ≤ maxSize ⌝ }
     requires { ⌜ ExplainRoom (now entry) (now cause) ⌝ }
     ensures { λ r. ⌜ MissingMade (keptsOf (now (lines .entry))) line (figuresOf (now (figures .entry))) raw width r (now (entry .exit)) (now (cause .exit)) ⌝ }

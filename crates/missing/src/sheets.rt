@@ -23,7 +23,7 @@ fn explain_read(
     cause: &mut [u32],
 ) -> Explained
     requires { ⌜ AskedIn read (now lines) line ⌝ }
-    requires { ⌜ MeasuredIn read (now lines) (figuresOf (now figures)) ⌝ }
+    requires { ⌜ MeasuredIn read (now lines) line (figuresOf (now figures)) ⌝ }
     requires { ⌜ width ≤ maxSize ⌝ }
     requires { ⌜ ExplainRoom (now entry) (now cause) ⌝ }
     ensures { λ r. ⌜ MissingRead read (now (lines .entry)) line (figuresOf (now (figures .entry))) raw width r (now (entry .exit)) (now (cause .exit)) ⌝ }
@@ -37,7 +37,7 @@ fn explain_read(
     }
 }
 
-// Opens and measures the sheet. The causes are written last, and until then their buffer is room to work in.
+// Opens and measures the sheet. The causes are written last, and until then their buffer is scratch.
 pub fn explain_sheet(
     sheet: &[u8],
     line: u32,
@@ -51,8 +51,18 @@ pub fn explain_sheet(
     requires { ⌜ ExplainRoom (now entry) (now cause) ⌝ }
     ensures { λ r. ⌜ MissingFound (openChecks true (now (sheet .entry)) line) (now (sheet .entry)) line wrap raw width r (now (entry .exit)) (now (cause .exit)) ⌝ }
 {
-    let mut lines = [0u32; 6 * MAX_LINES];
+    let mut lines = [0u32; records::WIDTH * MAX_LINES];
     let mut figures = [0u32; 3 * MAX_LINES];
-    let read = finding::layouts::measured_large(sheet, line, wrap, &mut lines, &mut figures, cause);
+    let mut scratch = [0u32; 2 * MAX_LINES];
+    let read = opening::measuring::measure_table(
+        sheet,
+        line,
+        wrap,
+        &mut lines,
+        &mut figures,
+        cause,
+        entry,
+        &mut scratch,
+    );
     explain_read(read, line, &lines, &figures, raw, width, entry, cause)
 }

@@ -22,9 +22,11 @@ use Rattle.sheet.specs.declared.Reading.{Reading}
 use Rattle.sheet.specs.declared.Reading.the-variants.{Lines, Refused}
 use Rattle.sheet.proofs.First.{neither, first-passes, first-accepts, first-carries, first-told, figures-pass, figures-fail}
 use Rattle.opening.specs.Opening.{keptLines, asked, openChecks}
-use Rattle.opening.proofs.Answers.{Apt, table-apt}
+use Rattle.opening.specs.inner.Opened.{Apt}
+use Rattle.opening.proofs.Answers.{table-apt}
 use Rattle.opening.proofs.Opens.{opened-asked}
 use Rattle.table.specs.inner.Fitting.{OutRoom}
+use Rattle.table.proofs.Grids.{all-cells}
 use Rattle.arguments.specs.Arguments.{anyShorter, nestedArguments}
 use Rattle.arguments.proofs.Shorter.{two-fit, or-false}
 use Rattle.finding.specs.inner.Made.{AskedIn, OpenedAt}
@@ -76,7 +78,7 @@ module _ {s : List ℕ} {line wrap raw width overflow : ℕ} {r : Reading} {line
           holds = o .holds;
           sound = λ k f. let t = apt n e in o .sound k f (line - 1) (omega (arith, t .from-one, t .within)) (t .kind);
         };
-        measured = o .measured;
+        measured = λ k f. record { cells = all-cells (line - 1) wrap (o .measured k f .figures) .cells; sound = λ i c. o .measured k f .sound i (c .within) };
       }
 
   all-pass : (n : ℕ) → r ≡ Lines n → passes cs ≡ true
@@ -89,7 +91,7 @@ module _ {s : List ℕ} {line wrap raw width overflow : ℕ} {r : Reading} {line
     asked = λ n e. asked-in (lines-of n e .opened) h .asked n refl;
   }
 
-  pub nest-measured : roomFor s ≤ length figures → MeasuredIn r lines figures
+  pub nest-measured : roomFor s ≤ length figures → MeasuredIn r lines line figures
   nest-measured h = record { measured = λ n e. measured-in (lines-of n e) h .measured n refl }
 
   pub place-in : (walk : List ℕ) → roomFor s ≤ length walk / 2 → PlaceIn r line walk

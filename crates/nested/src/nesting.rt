@@ -79,7 +79,7 @@ fn nest_read(
     wide: &mut [u32],
 ) -> Nest
     requires { ⌜ AskedIn read (now lines) line ⌝ }
-    requires { ⌜ MeasuredIn read (now lines) (figuresOf (now figures)) ⌝ }
+    requires { ⌜ MeasuredIn read (now lines) line (figuresOf (now figures)) ⌝ }
     requires { ⌜ (raw ≤ 1) × AtMost maxSize at ⌝ }
     requires { ⌜ OutRoom (now column) (now x) (now wide) ⌝ }
     ensures { λ r. ⌜ NestRead read at (now (lines .entry)) line (figuresOf (now (figures .entry))) raw r
@@ -121,7 +121,7 @@ fn nest_sheet(
     ensures { λ r. ⌜ NestFound (walkedChecks true (now (sheet .entry)) line wrap raw width overflow) (now (sheet .entry)) line wrap raw width r
         (now (column .exit)) (now (x .exit)) (now (wide .exit)) ⌝ }
 {
-    let mut lines = [0u32; 6 * MAX_LINES];
+    let mut lines = [0u32; records::WIDTH * MAX_LINES];
     let mut figures = [0u32; 3 * MAX_LINES];
     let mut walk = [0u32; 2 * MAX_LINES];
     let read = pacing::walk_sheet(

@@ -13,14 +13,13 @@ use Rattle.lists.specs.declared.Verdict.the-variants.{Accepted, Refused as Refu
 use Rattle.kinds.specs.Kinds.{tableKind}
 use Rattle.records.specs.Kept.{noKept}
 use Rattle.records.specs.declared.Kept.{Kept}
-use Rattle.records.specs.declared.Place.{Place}
 use Rattle.sheet.specs.declared.Reading.{Reading}
 use Rattle.sheet.specs.declared.Reading.the-variants.{Lines, Refused}
 use Rattle.sheet.proofs.First.{both-true, first-told}
 use Rattle.grid.specs.Grid.{tablesChecks}
-use Rattle.judge.specs.Places.{TablesJudged}
+use Rattle.grid_check.specs.Checking.{TablesChecked}
 use Rattle.opening.specs.Opening.{isTable, asked}
-use Rattle.opening.specs.inner.Opened.{asksAmiss, TablesOpened}
+use Rattle.opening.specs.inner.Opened.{Apt, asksAmiss, TablesOpened}
 
 -- the test of a line, case by case
 module _ (ks : List Kept) (line : ℕ) where
@@ -55,12 +54,6 @@ module _ {A : Type 0} (refused : ℕ → ℕ → A) (accepted : A) (ks : List Ke
   apt true h = rw (not-false (isTable ks line) h)
   apt false h = refl
 
--- a line that is a table
-pub record Apt (ks : List Kept) (line : ℕ) : Type 0 where
-  pub from-one : 1 ≤ line
-  pub within : line ≤ length ks
-  pub kind : getD ks (line - 1) noKept .kind ≡ tableKind
-
 pub table-apt : (ks : List Kept) (line : ℕ) → isTable ks line ≡ true → Apt ks line
 unfolding isTable
 table-apt ks line e =
@@ -81,17 +74,17 @@ told-lines : (n m : ℕ) (v : Verdict) → toldAs n v ≡ Lines m → v ≡ Acce
 told-lines n m Accepted e = refl
 told-lines n m (Refuses number line) e = let z : _≡_ {A = ℕ} 0 1 = cc in absurd (omega arith)
 
-module _ {asks : Bool} {line : ℕ} {ks : List Kept} {ps : List Place} where
-  pub opened-amiss : asksAmiss asks ks line ≡ true → TablesOpened asks line ks (Refused 10 0) ps
+module _ {asks : Bool} {line : ℕ} {ks : List Kept} where
+  pub opened-amiss : asksAmiss asks ks line ≡ true → TablesOpened asks line ks (Refused 10 0)
   opened-amiss h = record {
     answer = sym (amiss Refused (Lines (length ks)) ks line asks h);
-    kept = λ n e. let z : _≡_ {A = ℕ} 0 1 = cc in absurd (omega arith);
+    sound = λ n e. let z : _≡_ {A = ℕ} 0 1 = cc in absurd (omega arith);
   }
 
-  pub opened-judged : {v : Verdict} (n : ℕ) → n ≡ length ks → (r : Reading) → r ≡ toldAs n v → asksAmiss asks ks line ≡ false
-      → TablesJudged ks v ps → TablesOpened asks line ks r ps
-  opened-judged {v} n q r t h j = record {
+  pub opened-checked : {v : Verdict} (n : ℕ) → n ≡ length ks → (r : Reading) → r ≡ toldAs n v → asksAmiss asks ks line ≡ false
+      → TablesChecked ks v → TablesOpened asks line ks r
+  opened-checked {v} n q r t h j = record {
     answer =
         t ∙ (λ i. toldAs (q i) (j .answer i)) ∙ told-first (length ks) (tablesChecks 1 ks) ∙ sym (apt Refused (Lines (length ks)) ks line asks h);
-    kept = λ m e. j .kept (told-lines n m v (sym t ∙ e));
+    sound = λ m e. j .sound (told-lines n m v (sym t ∙ e));
   }

@@ -1,21 +1,20 @@
--- An opened sheet can be measured: its lines nest and are in range, its grids are sound and kept. And what is measured are its estimates. Assumes
--- nothing.
-use mathlib.Core.Path.{_≡_, refl, sym, ap, _∙_}
-use mathlib.Core.Bool.{Bool}
+-- An opened sheet can be measured: its lines nest and are in range, its tables are sound. And what is measured are its estimates. Assumes nothing.
+use mathlib.Core.Path.{_≡_, refl, sym, ap, subst, _∙_}
+use mathlib.Core.Bool.{Bool, true}
 use mathlib.Core.List.{List, [], _∷_, map}
-use Prim.Native.Nat.{ℕ, zero, suc, _+_, _≤_}
+use Prim.Native.Nat.{ℕ, zero, suc, _+_, _-_, _/_, _≤_}
 use native.Mathlib.Omega.{arith}
 use lib.ListN.{length, getD, take, length-map}
 use lib.Seq.{take-at}
 use Rattle.lists.specs.Lists.{sum}
-use Rattle.lists.proofs.All.{at-all}
+use Rattle.lists.specs.Limits.{maxLines, maxEntries, maxPosition}
 use Rattle.text.specs.Decimal.{shift}
 use Rattle.text.specs.declared.Estimate.{Estimate}
 use Rattle.kinds.specs.Kinds.{headKind, olKind}
 use Rattle.line.specs.Fields.{Line, noLine, ownSize}
-use Rattle.records.specs.Kept.{noKept, keptCount, keptsOf, placesOf, keptColumns}
+use Rattle.records.specs.Kept.{noKept, keptCount, keptsOf, entryBy, entriesOf, rowBy, rowsOf}
 use Rattle.records.specs.declared.Kept.{Kept}
-use Rattle.records.specs.declared.Place.{Place}
+use Rattle.records.proofs.Records.{length-of}
 use Rattle.sheet.specs.Sheet.{sheetLines}
 use Rattle.sheet.specs.Steps.{roomFor}
 use Rattle.sheet.specs.Reading.{keptOf, readingOf}
@@ -23,21 +22,21 @@ use Rattle.sheet.specs.declared.Reading.{Reading}
 use Rattle.sheet.specs.declared.Reading.the-variants.{Lines, Refused}
 use Rattle.sheet.proofs.Nests.{lines-ranged, accepted-nested}
 use Rattle.sheet.proofs.Bounds.{accepted-room, accepted-own}
-use Rattle.cells.specs.Listed.{tableRows}
-use Rattle.grid.specs.Facts.{Sound}
-use Rattle.grid.proofs.GridFacts.{grid-within, grid-columns, held-spanned}
-use Rattle.judge.specs.Places.{TablesKept}
+use Rattle.grid_bounds.specs.Sheets.{Suffice}
+use Rattle.grid_bounds.proofs.Sheets.{suffice-entries}
 use Rattle.estimates.specs.Estimates.{measured, estOf, estimates}
-use Rattle.estimates.specs.Held.{noEntry, GridFacts, Held, AllGrids}
 use Rattle.estimates.specs.Sheet.{ownOf, Sheet}
-use Rattle.estimates.specs.Meets.{Measured}
+use Rattle.estimates.specs.Meets.{Measured, CellsMeasured, Lent}
 use Rattle.estimates.specs.inner.Figures.{figuresOf}
 use Rattle.estimates.proofs.Laws.{length-all}
 use Rattle.opening.specs.Opening.{keptLines}
-use Rattle.opening.specs.inner.Opened.{Opened}
+use Rattle.opening.specs.inner.Opened.{Apt, Opened}
 use Rattle.opening.proofs.Ready.{kept-count, kept-depth, kept-kind, kept-lined, kept-nests}
-use Rattle.opening.proofs.Opens.{opened-reads}
-use Rattle.opening.specs.inner.Measures.{Measurable, SheetMeasured}
+use Rattle.opening.proofs.Opens.{opened-reads, opened-asked}
+use Rattle.opening.proofs.Answers.{table-apt}
+use Rattle.opening.specs.inner.Measures.{Measurable, InScope, ScopeMeasured, SheetMeasured, TableMeasured}
+use Rattle.opening.specs.declared.Scope.{Scope}
+use Rattle.opening.specs.declared.Scope.the-variants as scope
 
 -- ---- the lines
 
@@ -72,47 +71,72 @@ sheet-of s n e =
       room = omega (arith, ap sum (owns-same ls), accepted-own s n e);
     }
 
--- ---- the grids
+-- ---- the tables
 
-grid-facts : (ks : List Kept) (t : ℕ) → Sound (tableRows ks t) → GridFacts (tableRows ks t)
-grid-facts ks t z =
-    let all = grid-within (tableRows ks t) z (held-spanned ks t) in
-    record { wide = λ k h. at-all _ noEntry _ k all h .0; ends = λ k h. at-all _ noEntry _ k all h .1; few = grid-columns (tableRows ks t) z }
+-- scratch with records for the entries and rows of every table
+module _ {ks : List Kept} {fs : List Estimate} (m : Measurable ks fs) (leasts entries rows : List ℕ) (h : maxPosition ≤ length leasts) where
+  pub lent-scratch : Suffice (length entries / 3) (length rows / 2) ks → Lent ks fs leasts (entriesOf entries) (rowsOf rows)
+  lent-scratch z = record {
+    sheet = m .sheet;
+    lined = m .lined;
+    tables = record { sound = m .sound .at; room = λ t u e. omega (arith, suffice-entries (m .lined .step) (m .nests) z t u e, length-of 3 entryBy entries) };
+    results = m .results;
+    scratch = h;
+    row-room = omega (arith, z .few, length-of 2 rowBy rows);
+  }
 
-module _ {ks : List Kept} {ps : List Place} (k : TablesKept ks ps) where
-  all-grids : AllGrids ks
-  all-grids t h e = grid-facts ks t (k .table t h e .sound)
+  pub lent-large : maxEntries ≤ length entries / 3 → maxLines ≤ length rows / 2 → Lent ks fs leasts (entriesOf entries) (rowsOf rows)
+  lent-large a b = record {
+    sheet = m .sheet;
+    lined = m .lined;
+    tables = record { sound = m .sound .at; room = λ t u e. omega (arith, m .sound .at t u e .few, length-of 3 entryBy entries) };
+    results = m .results;
+    scratch = h;
+    row-room = omega (arith, m .lined .short, length-of 2 rowBy rows);
+  }
 
-  held-of : Held ks ps
-  held-of = record {
-    columns = λ t h e. ap keptColumns (k .table t h e .shape);
-    cells = λ t h e i l f. at-all _ noEntry _ i (k .table t h e .entries) l f;
+-- ---- what is in the scope
+
+pub sheet-in : (ks : List Kept) → InScope scope.Sheet ks
+sheet-in ks = record { table = λ line e. let z : _≡_ {A = ℕ} 0 1 = cc in absurd (omega arith) }
+
+pub table-in : {ks : List Kept} {line : ℕ} → Apt ks line → InScope (scope.Table line) ks
+table-in {ks} {line} a = record { table = λ l e. let z : line ≡ l = cc in subst (Apt ks) z a }
+
+module _ {s : Scope} {wrap : ℕ} {ks : List Kept} {b c : List Estimate} where
+  pub scope-sheet : s ≡ scope.Sheet → Measured wrap ks b c → ScopeMeasured s wrap ks b c
+  scope-sheet q m = record { sheet = λ _. m; table = λ l e. let h = sym q ∙ e in let z : _≡_ {A = ℕ} 0 1 = cc in absurd (omega arith) }
+
+  pub scope-table : {line : ℕ} → s ≡ scope.Table line → CellsMeasured wrap ks (line - 1) b c → ScopeMeasured s wrap ks b c
+  scope-table {line} q m = record {
+    sheet = λ e. let h = sym q ∙ e in let z : _≡_ {A = ℕ} 0 1 = cc in absurd (omega arith);
+    table = λ l e. let h = sym q ∙ e in let z : line ≡ l = cc in rw (← z) m;
   }
 
 -- ---- a sheet
 
-module _ {asks : Bool} {s : List ℕ} {line : ℕ} {r : Reading} {lines places : List ℕ} (w : Opened asks s line r lines places) where
-  pub front-measurable : (n : ℕ) → r ≡ Lines n → {fs : List Estimate} → roomFor s ≤ keptCount lines → roomFor s ≤ length (placesOf places) → roomFor s ≤ length fs
-      → (n ≤ keptCount lines) × Measurable (take n (keptsOf lines)) (placesOf places) fs
-  front-measurable n e {fs} a b c =
+module _ {asks : Bool} {s : List ℕ} {line : ℕ} {r : Reading} {lines : List ℕ} (w : Opened asks s line r lines) where
+  pub front-measurable : (n : ℕ) → r ≡ Lines n → {fs : List Estimate} → roomFor s ≤ keptCount lines → roomFor s ≤ length fs
+      → (n ≤ keptCount lines) × Measurable (take n (keptsOf lines)) fs
+  front-measurable n e {fs} a c =
       let o = opened-reads asks s line n (sym (w .answer) ∙ e) in
       let m = accepted-room s n o in
-      let l = kept-count s n o in
-      let k = w .kept n e in (
+      let l = kept-count s n o in (
         omega arith,
         rw (w .holds n e)
-            (record {
-              lent = λ leasts h. record { sheet = sheet-of s n o; held = held-of k; grids = all-grids k; places = omega arith; results = omega arith; scratch = h };
-            }),
+            (record { sheet = sheet-of s n o; lined = kept-lined s n o; nests = kept-nests s n o; sound = w .sound n e; results = omega arith }),
       )
 
-  pub sheet-refused : {wrap : ℕ} {figures : List ℕ} (refusal at : ℕ) → r ≡ Refused refusal at → SheetMeasured asks s line wrap (Refused refusal at) lines places figures
+  pub front-table : asks ≡ true → (n : ℕ) → r ≡ Lines n → InScope (scope.Table line) (take n (keptsOf lines))
+  front-table q n e = rw (w .holds n e) (table-in (table-apt (keptLines s) line (opened-asked asks s line n (sym (w .answer) ∙ e) q)))
+
+  pub sheet-refused : {wrap : ℕ} {figures : List ℕ} (refusal at : ℕ) → r ≡ Refused refusal at → SheetMeasured asks s line wrap (Refused refusal at) lines figures
   sheet-refused refusal at e = record { opened = rw e at w; measured = λ n f. let z : _≡_ {A = ℕ} 0 1 = cc in absurd (omega arith) }
 
-  pub sheet-measured : {wrap : ℕ} {b : List Estimate} {figures : List ℕ} (n : ℕ) → r ≡ Lines n → Measured wrap (take n (keptsOf lines)) b (figuresOf figures)
-      → SheetMeasured asks s line wrap (Lines n) lines places figures
+  pub sheet-measured : {wrap : ℕ} {b : List Estimate} {figures : List ℕ} (n : ℕ) → r ≡ Lines n → ScopeMeasured scope.Sheet wrap (take n (keptsOf lines)) b (figuresOf figures)
+      → SheetMeasured asks s line wrap (Lines n) lines figures
   sheet-measured {wrap} n e m₀ =
-      let m = rw (w .holds n e) at m₀ in
+      let m = rw (w .holds n e) at (m₀ .sheet refl) in
       record {
         opened = rw e at w;
         measured = λ _ _. record {
@@ -120,3 +144,13 @@ module _ {asks : Bool} {s : List ℕ} {line : ℕ} {r : Reading} {lines places :
           sound = m .sound;
         };
       }
+
+module _ {s : List ℕ} {line : ℕ} {r : Reading} {lines : List ℕ} (w : Opened true s line r lines) where
+  pub table-refused : {wrap : ℕ} {figures : List ℕ} (refusal at : ℕ) → r ≡ Refused refusal at → TableMeasured s line wrap (Refused refusal at) lines figures
+  table-refused refusal at e = record { opened = rw e at w; measured = λ n f. let z : _≡_ {A = ℕ} 0 1 = cc in absurd (omega arith) }
+
+  pub table-measured : {wrap : ℕ} {b : List Estimate} {figures : List ℕ} (n : ℕ) → r ≡ Lines n → ScopeMeasured (scope.Table line) wrap (take n (keptsOf lines)) b (figuresOf figures)
+      → TableMeasured s line wrap (Lines n) lines figures
+  table-measured {wrap} n e m₀ =
+      let m = rw (w .holds n e) at (m₀ .table line refl) in
+      record { opened = rw e at w; measured = λ _ _. record { cells = m .cells; sound = m .sound } }

@@ -6,7 +6,7 @@ use Prim.Native.Nat.{ℕ}
 use native.Mathlib.Omega.{arith}
 use lib.ListN.{length, take}
 use Rattle.lists.specs.Refusals.{firstAnswer, passes}
-use Rattle.records.specs.Kept.{keptsOf, placesOf}
+use Rattle.records.specs.Kept.{keptsOf}
 use Rattle.sheet.specs.Sheet.{sheetLines, sheetChecks}
 use Rattle.sheet.specs.Reading.{readingOf, Reads}
 use Rattle.sheet.specs.declared.Reading.{Reading}
@@ -58,20 +58,20 @@ module _ (asks : Bool) (s : List ℕ) (line n : ℕ) (e : openedOf asks s line �
       by true q p = double (isTable (keptLines s) line) (passes-both _ _ p .0)
       by false q p = let z : _≡_ {A = ℕ} 0 1 = cc in absurd (omega arith)
 
-module _ {asks : Bool} {s : List ℕ} {line : ℕ} {lines places : List ℕ} {q : Reading} (w : Reads s q lines) where
-  pub opened-refused : (refusal at : ℕ) → q ≡ Refused refusal at → Opened asks s line (Refused refusal at) lines places
+module _ {asks : Bool} {s : List ℕ} {line : ℕ} {lines : List ℕ} {q : Reading} (w : Reads s q lines) where
+  pub opened-refused : (refusal at : ℕ) → q ≡ Refused refusal at → Opened asks s line (Refused refusal at) lines
   unfolding openedOf
   opened-refused refusal at e = record {
     answer = sym (refused-carries Refused (Lines (length (sheetLines s))) s refusal at _ (sym (w .answer) ∙ e));
     holds = λ n f. let z : _≡_ {A = ℕ} 0 1 = cc in absurd (omega arith);
-    kept = λ n f. let z : _≡_ {A = ℕ} 0 1 = cc in absurd (omega arith);
+    sound = λ n f. let z : _≡_ {A = ℕ} 0 1 = cc in absurd (omega arith);
   }
 
-  pub opened-read : (n : ℕ) → q ≡ Lines n → (r : Reading) → TablesOpened asks line (take n (keptsOf lines)) r (placesOf places) → Opened asks s line r lines places
+  pub opened-read : (n : ℕ) → q ≡ Lines n → (r : Reading) → TablesOpened asks line (take n (keptsOf lines)) r → Opened asks s line r lines
   unfolding openedOf
   opened-read n e r t₀ =
       let a : readingOf s ≡ Lines n = sym (w .answer) ∙ e in
-      let t : TablesOpened asks line (keptLines s) r (placesOf places) = rw (w .stored n e) at t₀ in
+      let t : TablesOpened asks line (keptLines s) r = rw (w .stored n e) at t₀ in
       let answer : r ≡ openedOf asks s line
       = t .answer
       ∙ ap (λ (m : ℕ). firstAnswer Refused (Lines m) (asked asks (keptLines s) line)) (sym (kept-count s n a) ∙ accepted-lines s n a .0)
@@ -82,5 +82,5 @@ module _ {asks : Bool} {s : List ℕ} {line : ℕ} {lines places : List ℕ} {q 
             let z : Lines n ≡ Lines m = sym a ∙ opened-reads asks s line m (sym answer ∙ f) in
             let k : n ≡ m = cc in
             ap (λ (i : ℕ). take i (keptsOf lines)) (sym k) ∙ w .stored n e;
-        kept = t .kept;
+        sound = t .sound;
       }

@@ -1,4 +1,4 @@
--- The lines of an accepted sheet as they are kept: they nest, and their tables can be judged. Assumes nothing.
+-- The lines of an accepted sheet as they are kept: they nest, and their tables can be checked. Assumes nothing.
 use mathlib.Core.Path.{_≡_, refl, sym, _∙_}
 use mathlib.Core.List.{List, [], _∷_, map}
 use Prim.Native.Nat.{ℕ, zero, suc, _+_, _≤_}
@@ -6,7 +6,6 @@ use native.Mathlib.Omega.{arith}
 use lib.ListN.{length, getD, take, length-map}
 use Rattle.records.specs.Kept.{noKept, keptCount, keptsOf}
 use Rattle.records.specs.declared.Kept.{Kept}
-use Rattle.records.specs.declared.Place.{Place}
 use Rattle.line.specs.Fields.{Line, noLine}
 use Rattle.sheet.specs.Sheet.{sheetLines}
 use Rattle.sheet.specs.Steps.{roomFor}
@@ -16,7 +15,7 @@ use Rattle.sheet.specs.declared.Reading.the-variants.{Lines}
 use Rattle.sheet.proofs.Nests.{lines-ranged, accepted-nested}
 use Rattle.sheet.proofs.Bounds.{accepted-lines, accepted-room}
 use Rattle.grid.specs.Judging.{Lined}
-use Rattle.judge.specs.Places.{Nests}
+use Rattle.grid_bounds.specs.Sheets.{Nests}
 use Rattle.opening.specs.Opening.{keptLines}
 use Rattle.opening.specs.inner.Opened.{TablesReady}
 
@@ -68,12 +67,12 @@ module _ (s : List ℕ) (n : ℕ) (e : readingOf s ≡ Lines n) where
         }));
   }
 
-  pub kept-ready : {ps : List Place} → roomFor s ≤ length ps → TablesReady (keptLines s) ps
+  pub kept-ready : {scratch : List ℕ} → roomFor s ≤ length scratch → TablesReady (keptLines s) scratch
   kept-ready h = record { lined = kept-lined; nests = kept-nests; room = omega (arith, kept-count, accepted-room s n e) }
 
--- what was read into a slice can be judged
+-- what was read into a slice can be checked
 pub front-ready : {s : List ℕ} {r : Reading} {lines : List ℕ} (n : ℕ) → r ≡ Lines n → Reads s r lines → roomFor s ≤ keptCount lines
-    → {ps : List Place} → roomFor s ≤ length ps → (n ≤ keptCount lines) × TablesReady (take n (keptsOf lines)) ps
-front-ready {s} n e w h {ps} g =
+    → {scratch : List ℕ} → roomFor s ≤ length scratch → (n ≤ keptCount lines) × TablesReady (take n (keptsOf lines)) scratch
+front-ready {s} n e w h g =
     let a = sym (w .answer) ∙ e in
     (omega (arith, accepted-room s n a), rw (w .stored n e) (kept-ready s n a g))

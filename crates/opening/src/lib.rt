@@ -1,16 +1,22 @@
-// A sheet opened: it is read, and every table of it is judged. All calls begin with this.
+// A sheet opened: it is read, and every table of it is checked. All calls begin with this.
 pub mod measuring; // measuring.rt: the lines measured too
 
 ghost use mathlib.Core.Path.{_≡_};
 ghost use Prim.Native.Nat.{_≤_};
 ghost use lib.ListN.{length, take};
-ghost use Rattle.records.specs.Kept.{keptCount, keptsOf, placesOf};
+ghost use Rattle.records.specs.Kept.{keptCount, keptsOf};
 ghost use Rattle.sheet.specs.Steps.{roomFor};
 ghost use Rattle.sheet.specs.Reading.{Reads};
 ghost use Rattle.opening.specs.Opening.{isTable};
 ghost use Rattle.opening.specs.inner.Opened.{asksAmiss, TablesReady, TablesOpened, Opened};
 use lists::Verdict;
 use sheet::Reading;
+
+// What is measured of a sheet: every line, or what lies below the table in a line.
+pub enum Scope {
+    Sheet,
+    Table(u32),
+}
 
 // Whether a line is a table: record k is of line k + 1.
 fn is_table(lines: &[u32], line: u32) -> bool
@@ -46,11 +52,10 @@ pub fn read_sheet(bytes: &[u8], lines: &mut [u32]) -> Reading
     sheet::read(&classes, bytes, lines)
 }
 
-// What is asked of the lines after reading: 10 for a line that is no table, then every table in turn. Of each grid the first column and the
-// span of each cell are kept, and how many rows and columns there are.
-fn open_lines(asks: bool, line: u32, lines: &[u32], places: &mut [u32]) -> Reading
-    requires { ⌜ TablesReady (keptsOf (now lines)) (placesOf (now places)) ⌝ }
-    ensures { λ r. ⌜ TablesOpened asks line (keptsOf (now (lines .entry))) r (placesOf (now (places .exit))) ⌝ }
+// What is asked of the lines after reading: 10 for a line that is no table, then every table in turn. The last slice is scratch.
+fn open_lines(asks: bool, line: u32, lines: &[u32], scratch: &mut [u32]) -> Reading
+    requires { ⌜ TablesReady (keptsOf (now lines)) (now scratch) ⌝ }
+    ensures { λ r. ⌜ TablesOpened asks line (keptsOf (now (lines .entry))) r ⌝ }
 {
     if asks_amiss(asks, lines, line) {
         return Reading::Refused {
@@ -58,7 +63,7 @@ fn open_lines(asks: bool, line: u32, lines: &[u32], places: &mut [u32]) -> Readi
             line: 0,
         };
     }
-    match judge::judge_tables(lines, places) {
+    match grid_check::check_tables(lines, scratch) {
         Verdict::Accepted => Reading::Lines(records::count(lines)),
         Verdict::Refused {
             number: refusal,
@@ -71,26 +76,27 @@ fn open_lines(asks: bool, line: u32, lines: &[u32], places: &mut [u32]) -> Readi
 }
 
 // The same of the first n records.
-pub fn open_front(n: usize, asks: bool, line: u32, lines: &[u32], places: &mut [u32]) -> Reading
+pub fn open_front(n: usize, asks: bool, line: u32, lines: &[u32], scratch: &mut [u32]) -> Reading
     requires { ⌜ n ≤ keptCount (now lines) ⌝ }
-    requires { ⌜ TablesReady (take n (keptsOf (now lines))) (placesOf (now places)) ⌝ }
-    ensures { λ r. ⌜ TablesOpened asks line (take n (keptsOf (now (lines .entry)))) r (placesOf (now (places .exit))) ⌝ }
+    requires { ⌜ TablesReady (take n (keptsOf (now lines))) (now scratch) ⌝ }
+    ensures { λ r. ⌜ TablesOpened asks line (take n (keptsOf (now (lines .entry)))) r ⌝ }
 {
     let end = records::WIDTH * n;
-    open_lines(asks, line, &lines[..end], places)
+    open_lines(asks, line, &lines[..end], scratch)
 }
 
-// Opens a sheet: reads it, asks for the line if a call asks for one, and judges its tables. Record k of each slice is then of line k + 1.
+// Opens a sheet: reads it, asks for the line if a call asks for one, and checks its tables. Record k is then of line k + 1. The last slice is scratch: a
+// place for each line, of which nothing is cleared.
 pub fn open_sheet(
     bytes: &[u8],
     asks: bool,
     line: u32,
     lines: &mut [u32],
-    places: &mut [u32],
+    scratch: &mut [u32],
 ) -> Reading
     requires { ⌜ roomFor (now bytes) ≤ keptCount (now lines) ⌝ }
-    requires { ⌜ roomFor (now bytes) ≤ length (placesOf (now places)) ⌝ }
-    ensures { λ r. ⌜ Opened asks (now (bytes .entry)) line r (now (lines .exit)) (now (places .exit)) ⌝ }
+    requires { ⌜ roomFor (now bytes) ≤ length (now scratch) ⌝ }
+    ensures { λ r. ⌜ Opened asks (now (bytes .entry)) line r (now (lines .exit)) ⌝ }
 {
     match read_sheet(bytes, lines) {
         Reading::Refused {
@@ -100,6 +106,6 @@ pub fn open_sheet(
             number: refusal,
             line: at,
         },
-        Reading::Lines(n) => open_front(n, asks, line, lines, places),
+        Reading::Lines(n) => open_front(n, asks, line, lines, scratch),
     }
 }

@@ -38,19 +38,17 @@ use Rattle.pacing.specs.inner.Found.{SheetOpened, ReadWalkable, WalkRead
 
 -- ---- opened and measured
 
-module _ {asks : Bool} {s : List ℕ} {line wrap : ℕ} {r : Reading} {lines places figures : List ℕ} (m : SheetMeasured asks s line wrap r lines places figures)
-    (a : roomFor s ≤ keptCount lines) (b : roomFor s ≤ length (placesOf places)) (c : roomFor s ≤ length (figuresOf figures)) where
+module _ {asks : Bool} {s : List ℕ} {line wrap : ℕ} {r : Reading} {lines figures : List ℕ} (m : SheetMeasured asks s line wrap r lines figures)
+    (a : roomFor s ≤ keptCount lines) (c : roomFor s ≤ length (figuresOf figures)) where
   sheet-here : (n : ℕ) → r ≡ Lines n → Sheet (keptLines s)
-  sheet-here n e =
-      let l = front-measurable (m .opened) n e {fs = figuresOf figures} a b c .1 .lent (replicate maxPosition 0) (omega (arith, length-replicate {A = ℕ} maxPosition 0)) in
-      rw (m .opened .holds n e) at (l .sheet)
+  sheet-here n e = rw (m .opened .holds n e) at (front-measurable (m .opened) n e {fs = figuresOf figures} a c .1 .sheet)
 
   pub sheet-opened : SheetOpened asks s line wrap r lines (figuresOf figures)
   sheet-opened = record {
     answer = m .opened .answer;
     holds = m .opened .holds;
     sheet = sheet-here;
-    sound = λ n e t h k. m .opened .kept n e .table t h k .sound;
+    sound = λ n e. m .opened .sound n e .at;
     measured = m .measured;
   }
 
@@ -86,9 +84,9 @@ module _ {asks : Bool} {s : List ℕ} {line wrap : ℕ} {r : Reading} {lines : L
       room = λ n e. omega (arith, opened-passed n e .room);
     }
 
--- the first n records stand in the first 6 * n places
+-- the first n records stand in the first 2 * n places
 pub front-walkable : {read : Reading} {lines : List ℕ} {figures : List Estimate} {ps : List Place} (n : ℕ) → ReadWalkable read lines figures ps → read ≡ Lines n
-    → Walkable (keptsOf (take (6 * n) lines)) figures × (length (keptsOf (take (6 * n) lines)) ≤ length ps)
+    → Walkable (keptsOf (take (2 * n) lines)) figures × (length (keptsOf (take (2 * n) lines)) ≤ length ps)
 front-walkable {lines = lines} n w e = (
   rw (kepts-take lines n (w .front n e)) (w .walkable n e),
   rw (kepts-take lines n (w .front n e)) (omega (arith, length-take-le n (keptsOf lines) (omega (arith, w .front n e, length-kepts lines)), w .room n e)),
@@ -110,7 +108,7 @@ module _ {read : Reading} (lines : List ℕ) {figures : List Estimate} {raw widt
     small = λ n f. let z : _≡_ {A = ℕ} 0 1 = cc in absurd (omega arith);
   }
 
-  module _ (n : ℕ) (e : read ≡ Lines n) (h : n ≤ keptCount lines) (v : Verdict) (w : steps.Walked (keptsOf (take (6 * n) lines)) figures raw width overflow v ps) where
+  module _ (n : ℕ) (e : read ≡ Lines n) (h : n ≤ keptCount lines) (v : Verdict) (w : steps.Walked (keptsOf (take (2 * n) lines)) figures raw width overflow v ps) where
     abbrev ks : List Kept
     ks = take n (keptsOf lines)
 

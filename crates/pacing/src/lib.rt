@@ -15,7 +15,7 @@ use lists::MAX_POSITION;
 use lists::Verdict;
 use sheet::Reading;
 
-// Opens and measures a sheet. What is kept of the grids is needed only here. The last slice is room to work in.
+// Opens and measures a sheet. The last slice is scratch.
 fn open_measured(
     sheet: &[u8],
     asks: bool,
@@ -30,8 +30,19 @@ fn open_measured(
     requires { ⌜ maxPosition ≤ length (now leasts) ⌝ }
     ensures { λ r. ⌜ SheetOpened asks (now (sheet .entry)) line wrap r (now (lines .exit)) (figuresOf (now (figures .exit))) ⌝ }
 {
-    let mut places = [0u32; 2 * MAX_LINES];
-    opening::measuring::measure_sheet(sheet, asks, line, wrap, lines, &mut places, figures, leasts)
+    let mut entries = [0u32; 3 * MAX_LINES];
+    let mut rows = [0u32; 2 * MAX_LINES];
+    opening::measuring::measure_sheet(
+        sheet,
+        asks,
+        line,
+        wrap,
+        lines,
+        figures,
+        leasts,
+        &mut entries,
+        &mut rows,
+    )
 }
 
 // Walks the lines of a measured sheet. All tables are laid out in the same arrays.

@@ -1,3 +1,4 @@
 pub mod Records
 pub mod Kepts
+pub mod Figures
 pub mod Numbers

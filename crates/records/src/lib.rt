@@ -1,10 +1,14 @@
-// A line's figures as six numbers of one slice: record i stands at the places 6 * i to 6 * i + 5.
+// Several numbers of one thing side by side in one slice: a line in two numbers, an entry of a grid in three, a row and a place in two each. Record i of w
+// numbers stands at the places from w * i on.
 ghost use mathlib.Core.Path.{_≡_};
+ghost use mathlib.Core.Bool.{cond};
 ghost use Prim.Native.Nat.{_≤_, _<_, _/_};
 ghost use lib.ListN.{length, getD, set};
+ghost use Rattle.lists.specs.Limits.{maxDepth};
 ghost use Rattle.lists.specs.Lists.{over};
+ghost use Rattle.kinds.specs.Kinds.{kindCount};
 ghost use Rattle.records.specs.Records.{numbersOf};
-ghost use Rattle.records.specs.Kept.{keptsOf, keptCount, noKept, entriesOf, noEntry, rowsOf, noRow, placesOf, noPlace, tablePlace};
+ghost use Rattle.records.specs.Kept.{hasNumber, keptWith, OfItsKind, keptsOf, keptCount, noKept, entriesOf, noEntry, rowsOf, noRow, placesOf, noPlace};
 
 // What is kept of a line. The number is shifted up by 1,000,000,000; own is the size of the line's own text, 2 more for img.
 pub struct Kept {
@@ -16,7 +20,16 @@ pub struct Kept {
     pub own: u32,
 }
 
-pub const WIDTH: usize = 6;
+pub const WIDTH: usize = 2;
+
+// The first number of a line is its depth and this many times its kind: a depth is less.
+const KIND_STEP: u32 = 64;
+
+// The figure of a cell is its cols and this many times its rows: each is less.
+const ROWS_STEP: u32 = 65536;
+
+// The number of a line that has none: 0, shifted up as numbers are.
+const NO_NUMBER: u32 = 1000000000;
 
 // How many records the slice holds.
 pub fn count(lines: &[u32]) -> usize
@@ -25,34 +38,70 @@ pub fn count(lines: &[u32]) -> usize
     lines.len() / WIDTH
 }
 
+// Head and ol have a number.
+fn has_number(kind: u32) -> bool
+    ensures { λ r. ⌜ r ≡ hasNumber kind ⌝ }
+{
+    if kind == kinds::HEAD {
+        return true;
+    }
+    kind == kinds::OL
+}
+
+// One of two numbers, by a test.
+fn either(test: bool, held: u32, failed: u32) -> u32
+    ensures { λ r. ⌜ r ≡ cond test held failed ⌝ }
+{
+    if test { held } else { failed }
+}
+
+// A line of this depth and kind, by the figure that its kind has.
+fn kept_with(depth: u32, kind: u32, figure: u32) -> Kept
+    ensures { λ r. ⌜ r ≡ keptWith depth kind figure ⌝ }
+{
+    Kept {
+        depth: depth,
+        kind: kind,
+        number: either(has_number(kind), figure, NO_NUMBER),
+        cols: either(kind == kinds::CELL, figure % ROWS_STEP, 0),
+        rows: either(kind == kinds::CELL, figure / ROWS_STEP, 0),
+        own: either(kinds::has_text(kind), figure, 0),
+    }
+}
+
+// The figure that the kind of a line has: the size of its text, its number, or its cols and rows.
+pub fn figure_of(k: Kept) -> u32
+    requires { ⌜ OfItsKind k ⌝ }
+    ensures { λ r. ⌜ keptWith (k .depth) (k .kind) r ≡ k ⌝ }
+{
+    if kinds::has_text(k.kind) {
+        return k.own;
+    }
+    if has_number(k.kind) {
+        return k.number;
+    }
+    k.cols + ROWS_STEP * k.rows
+}
+
 // Record i.
 pub fn kept_at(lines: &[u32], i: usize) -> Kept
     requires { ⌜ i < keptCount (now lines) ⌝ }
     ensures { λ r. ⌜ r ≡ getD (keptsOf (now (lines .entry))) i noKept ⌝ }
 {
     let at = WIDTH * i;
-    Kept {
-        depth: lines[at],
-        kind: lines[at + 1],
-        number: lines[at + 2],
-        cols: lines[at + 3],
-        rows: lines[at + 4],
-        own: lines[at + 5],
-    }
+    let first = lines[at];
+    kept_with(first % KIND_STEP, first / KIND_STEP, lines[at + 1])
 }
 
-// Writes record i.
-pub fn keep_at(lines: &mut [u32], i: usize, k: Kept)
+// Writes record i: a line of this depth and kind, by the figure that its kind has.
+pub fn keep_at(lines: &mut [u32], i: usize, depth: u32, kind: u32, figure: u32)
     requires { ⌜ i < keptCount (now lines) ⌝ }
-    ensures { λ _. ⌜ keptsOf (now (lines .exit)) ≡ set (keptsOf (now (lines .entry))) i k ⌝ }
+    requires { ⌜ (depth ≤ maxDepth) × (kind < kindCount) ⌝ }
+    ensures { λ _. ⌜ keptsOf (now (lines .exit)) ≡ set (keptsOf (now (lines .entry))) i (keptWith depth kind figure) ⌝ }
 {
     let at = WIDTH * i;
-    lines[at] = k.depth;
-    lines[at + 1] = k.kind;
-    lines[at + 2] = k.number;
-    lines[at + 3] = k.cols;
-    lines[at + 4] = k.rows;
-    lines[at + 5] = k.own;
+    lines[at] = depth + KIND_STEP * kind;
+    lines[at + 1] = figure;
 }
 
 // An entry of a table's grid: the line of its cell, or 0 for a filler, its first column and its span.
@@ -110,7 +159,7 @@ pub fn put_row(rows: &mut [u32], i: usize, r: Row)
     rows[at + 1] = r.end;
 }
 
-// What is kept of a cell's place in the grid of its table: its first column and its span.
+// Two numbers of a line: whether it has a width in the walk, and which.
 pub struct Place {
     pub first: u32,
     pub span: u32,
@@ -134,16 +183,6 @@ pub fn put_place(places: &mut [u32], i: usize, p: Place)
     let at = 2 * i;
     places[at] = p.first;
     places[at + 1] = p.span;
-}
-
-// What is kept of a table at its own place: how many rows and columns its grid has.
-pub fn table_place(rows: u32, columns: u32) -> Place
-    ensures { λ r. ⌜ r ≡ tablePlace rows columns ⌝ }
-{
-    Place {
-        first: rows,
-        span: columns,
-    }
 }
 
 // Number f of each of the first n records of w numbers, over the front of a buffer.

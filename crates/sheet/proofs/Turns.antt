@@ -10,7 +10,8 @@ use lib.Seq.{take-all}
 use borrow.Author.Tests.{le-ltb}
 use Rattle.lists.specs.Limits.{maxBytes, maxFeeds, maxDepth, depths}
 use Rattle.lists.specs.Refusals.{firstAnswer}
-use Rattle.records.specs.Kept.{keptsOf, keptCount}
+use Rattle.kinds.specs.Kinds.{kindCount}
+use Rattle.records.specs.Kept.{keptWith, keptsOf, keptCount}
 use Rattle.records.proofs.Kepts.{length-kepts}
 use Rattle.fields.specs.Lines.{Piece, feeds, pieces, headed, nodePieces, headingBytes}
 use Rattle.line.specs.Fields.{Line, noLine, Read, readLine, isUnread, hasBadByte, notExpression, outOfBounds, orNone}
@@ -20,19 +21,21 @@ use Rattle.line.proofs.Told.{good-line}
 use Rattle.line.specs.declared.Node.{Node}
 use Rattle.line.specs.declared.LineRead.{LineRead}
 use Rattle.line.specs.declared.LineRead.the-variants.{Good, BadFields, BadByte, NotExpression, OutOfBounds}
+use Rattle.eights.specs.Briefs.{figuresOf}
+use Rattle.eights.specs.declared.Brief.{Brief}
 use Rattle.sheet.specs.Nesting.{misplaced}
 use Rattle.sheet.specs.Sheet.{linesChecks, linesOf, sheetLines, sheetChecks}
 use Rattle.sheet.specs.Reading.{readingOf, keptOf}
-use Rattle.sheet.specs.Steps.{breaksNesting, judgementOf, figuresOf, endChecks, lineEnd, bare, Begun}
+use Rattle.sheet.specs.Steps.{sound, faulty, breaksNesting, judgementOf, BriefOf, endChecks, lineEnd, bare, Begun}
 use Rattle.sheet.specs.declared.Reading.{Reading}
 use Rattle.sheet.specs.declared.Reading.the-variants.{Lines, Refused}
-use Rattle.sheet.specs.declared.Judgement.the-variants.{Sound, Faulty}
 use Rattle.sheet.proofs.Heading.{heading-long, heading-feeds}
 use Rattle.sheet.proofs.Earlier.{earlier, drop-here, drop-none, lines-drop, lines-length}
 use Rattle.sheet.proofs.Chain.{Linked, linked-none, linked-more, linked-told}
 use Rattle.sheet.proofs.Ending.{bare-end}
 use Rattle.sheet.proofs.Ranges.{piece-ranged}
 use Rattle.sheet.proofs.Storing.{stored-more}
+use Rattle.sheet.proofs.Briefs.{depth-of, kind-of}
 
 -- after n lines, of the sheet s, at the place where the next one starts; the slice is a before the loop, and b now
 pub record ReadingLoop (s : List ℕ) (a b : List ℕ) (chain : List ℕ) (previous at n : ℕ) : Type 0 where
@@ -63,12 +66,12 @@ turns-start s a g = record {
     start : readingOf s ≡ firstAnswer Refused (Lines (length (sheetLines s))) (linesChecks 1 [] (nodePieces s) ++ endChecks (sheetLines s))
     start = rw (le-ltb maxBytes (length s) (g .short), le-ltb maxFeeds (feeds s) (g .few), g .headed)
 
--- what is known of a sound line's figures before they are stored
-pub record NextLine (s : List ℕ) (at n : ℕ) (v : Node) : Type 0 where
-  pub deep : v .depth ≤ maxDepth
-  pub ordered : v .from ≤ v .to
-  pub ahead : at < v .next
-  pub ends : v .to < length s
+-- what is known of a sound line before it is stored
+pub record NextLine (s : List ℕ) (at n depth kind next : ℕ) : Type 0 where
+  pub deep : depth ≤ maxDepth
+  pub known : kind < kindCount
+  pub ahead : at < next
+  pub ends : next ≤ length s
   pub few : n + 2 ≤ feeds s
 
 -- what the judgement of a line tells
@@ -78,7 +81,7 @@ abbrev answered : Bool → Bool → Bool → Bool → Node → LineRead
 answered u y x z w = cond u BadFields (cond y BadByte (cond x NotExpression (cond z OutOfBounds (Good w))))
 
 module _ (chain : List ℕ) (n previous : ℕ) where
-  told-good : (r : LineRead) (v : Node) → judgementOf chain n previous r ≡ Sound v → (r ≡ Good v) × (breaksNesting chain n previous (v .depth) (v .kind) ≡ false)
+  told-good : (r : LineRead) (v : Node) → judgementOf chain n previous r ≡ sound v → (r ≡ Good v) × (breaksNesting chain n previous (v .depth) (v .kind) ≡ false)
   unfolding judgementOf
   told-good BadFields v e = let z : _≡_ {A = ℕ} 0 1 = cc in absurd (omega arith)
   told-good BadByte v e = let z : _≡_ {A = ℕ} 0 1 = cc in absurd (omega arith)
@@ -86,13 +89,13 @@ module _ (chain : List ℕ) (n previous : ℕ) where
   told-good OutOfBounds v e = let z : _≡_ {A = ℕ} 0 1 = cc in absurd (omega arith)
   told-good (Good w) v e = at (breaksNesting chain n previous (w .depth) (w .kind)) refl e
     where
-      at : (m : Bool) → breaksNesting chain n previous (w .depth) (w .kind) ≡ m → cond m (Faulty 4) (Sound w) ≡ Sound v
+      at : (m : Bool) → breaksNesting chain n previous (w .depth) (w .kind) ≡ m → cond m (faulty 4) (sound w) ≡ sound v
           → (Good w ≡ Good v) × (breaksNesting chain n previous (v .depth) (v .kind) ≡ false)
       at true q e = let z : _≡_ {A = ℕ} 0 1 = cc in absurd (omega arith)
       at false q e = let f : w ≡ v = cc in (ap Good f, rw f at q)
 
   told-faulty : (u y x z m : Bool) (w : Node) (r : Reading) (k line : ℕ) → breaksNesting chain n previous (w .depth) (w .kind) ≡ m
-      → judgementOf chain n previous (answered u y x z w) ≡ Faulty k
+      → judgementOf chain n previous (answered u y x z w) ≡ faulty k
       → cond u (Refused 2 line) (cond y (Refused 3 line) (cond x (Refused 13 line) (cond z (Refused 14 line) (cond m (Refused 4 line) r)))) ≡ Refused k line
   unfolding judgementOf
   told-faulty true y x z m w r k line q e = let f : 2 ≡ k = cc in rw f
@@ -100,13 +103,13 @@ module _ (chain : List ℕ) (n previous : ℕ) where
   told-faulty false false true z m w r k line q e = let f : 13 ≡ k = cc in rw f
   told-faulty false false false true m w r k line q e = let f : 14 ≡ k = cc in rw f
   told-faulty false false false false true w r k line q e =
-      let g : cond (breaksNesting chain n previous (w .depth) (w .kind)) (Faulty 4) (Sound w) ≡ Faulty k = e in
-      let g′ : Faulty 4 ≡ Faulty k = rw q at g in
+      let g : cond (breaksNesting chain n previous (w .depth) (w .kind)) (faulty 4) (sound w) ≡ faulty k = e in
+      let g′ : faulty 4 ≡ faulty k = rw q at g in
       let f : 4 ≡ k = cc in
       rw f
   told-faulty false false false false false w r k line q e =
-      let g : cond (breaksNesting chain n previous (w .depth) (w .kind)) (Faulty 4) (Sound w) ≡ Faulty k = e in
-      let g′ : Sound w ≡ Faulty k = rw q at g in
+      let g : cond (breaksNesting chain n previous (w .depth) (w .kind)) (faulty 4) (sound w) ≡ faulty k = e in
+      let g′ : sound w ≡ faulty k = rw q at g in
       let z : _≡_ {A = ℕ} 0 1 = cc in
       absurd (omega arith)
 
@@ -153,7 +156,7 @@ module _ {s a b chain : List ℕ} {previous at n : ℕ} (t : ReadingLoop s a b c
   unfolding here
   broken = linked-told (t .linked) here (piece-ranged (pieceAt s at) .0 .deep)
 
-  pub turns-refuse : (k : ℕ) → judgementOf chain n previous (lineAt s at) ≡ Faulty k → Refused k (n + 1) ≡ readingOf s
+  pub turns-refuse : (k : ℕ) → judgementOf chain n previous (lineAt s at) ≡ faulty k → Refused k (n + 1) ≡ readingOf s
   unfolding here lineAt lineIn
   turns-refuse k e =
       sym
@@ -193,7 +196,7 @@ module _ {s a b chain : List ℕ} {previous at n : ℕ} (t : ReadingLoop s a b c
         }
 
   -- a sound line is the one that stands at the place
-  as-read : (v : Node) (G : Node → Type 0) → judgementOf chain n previous (lineAt s at) ≡ Sound v
+  as-read : (v : Node) (G : Node → Type 0) → judgementOf chain n previous (lineAt s at) ≡ sound v
       → (lineAt s at ≡ Good (nodeOf at (pieceAt s at) here) → breaksNesting chain n previous (here .depth) (here .kind) ≡ false → G (nodeOf at (pieceAt s at) here))
       → G v
   unfolding here lineAt lineIn
@@ -202,20 +205,25 @@ module _ {s a b chain : List ℕ} {previous at n : ℕ} (t : ReadingLoop s a b c
       let q = read-fair v g .same in
       subst G q (k (rw (sym q) at g) (rw (sym q) at f))
 
-  pub turns-next : (v : Node) → judgementOf chain n previous (lineAt s at) ≡ Sound v → NextLine s at n v
-  unfolding here
-  turns-next v e =
-      as-read v (λ (w : Node). NextLine s at n w) e
-      (λ g f.
-      let w = good-line s at (nodeOf at (pieceAt s at) here) g in
-      record { deep = piece-ranged (pieceAt s at) .0 .deep; ordered = omega arith; ahead = omega arith; ends = omega (arith, w .inside); few = omega (arith, feeds-at s at (w .ended), t .few) })
+  -- the line as it is kept
+  module _ (x : Brief) (w : (node : Node) × (judgementOf chain n previous (lineAt s at) ≡ sound node) × BriefOf node x) where
+    pub turns-next : NextLine s at n (x .depth) (x .kind) (x .next)
+    unfolding here
+    turns-next =
+        rw (depth-of (w .2), kind-of (w .2), w .2 .next)
+        (as-read (w .0) (λ (v : Node). NextLine s at n (v .depth) (v .kind) (v .next)) (w .1)
+        (λ g f.
+        let l = good-line s at (nodeOf at (pieceAt s at) here) g in
+        let p = piece-ranged (pieceAt s at) .0 in
+        record { deep = p .deep; known = p .known; ahead = omega arith; ends = l .inside; few = omega (arith, feeds-at s at (l .ended), t .few) }))
 
-  pub turns-more : (v : Node) (c : List ℕ) → judgementOf chain n previous (lineAt s at) ≡ Sound v → n < keptCount a → length c ≡ length b
-      → keptsOf c ≡ set (keptsOf b) n (figuresOf v) → ReadingLoop s a c (set chain (v .depth) (v .kind)) (v .depth) (v .next) (n + 1)
-  unfolding here
-  turns-more v c e r m p =
-      as-read v (λ (w : Node). keptsOf c ≡ set (keptsOf b) n (figuresOf w) → ReadingLoop s a c (set chain (w .depth) (w .kind)) (w .depth) (w .next) (n + 1)) e
-      (λ g f p. more g f c r m p) p
+    pub turns-more : (c : List ℕ) → n < keptCount a → length c ≡ length b → keptsOf c ≡ set (keptsOf b) n (keptWith (x .depth) (x .kind) (x .figure))
+        → ReadingLoop s a c (set chain (x .depth) (x .kind)) (x .depth) (x .next) (n + 1)
+    unfolding here
+    turns-more c r m p =
+        rw (depth-of (w .2), kind-of (w .2), w .2 .next)
+        (as-read (w .0) (λ (v : Node). keptsOf c ≡ set (keptsOf b) n (figuresOf v) → ReadingLoop s a c (set chain (v .depth) (v .kind)) (v .depth) (v .next) (n + 1)) (w .1)
+        (λ g f p. more g f c r m p) (p ∙ ap (set (keptsOf b) n) (w .2 .kept)))
 
 module _ {s a b chain : List ℕ} {previous at n : ℕ} (t : ReadingLoop s a b chain previous at n) (h : length s ≤ at) where
   none : drop n (nodePieces s) ≡ []

@@ -16,7 +16,7 @@ use Rattle.sheet.specs.declared.Reading.the-variants.{Lines, Refused}
 unfoldable pub readingOf : List ℕ → Reading
 readingOf s = firstAnswer Refused (Lines (length (sheetLines s))) (sheetChecks s)
 
--- what is kept of a line, six numbers: its text is not among them, only the size that it takes by itself. The number n of an ol may be below 0, and what is kept is
+-- what is kept of a line: not its text, only the size that it takes by itself. The number n of an ol may be below 0, and what is kept is
 -- not: it stands shifted up by 1,000,000,000, the largest that n can lie from 0, so that 0 is kept for the lowest.
 abbrev pub keptOf : Line → Kept
 keptOf l = record { depth = l .depth; kind = l .kind; number = shifted (l .n); cols = l .cols; rows = l .rows; own = ownSize l }

@@ -7,7 +7,7 @@ use lib.Dec.{leb, eqb}
 use lib.ListN.{length, getD}
 use Rattle.lists.specs.Limits.{maxBytes, maxLines, maxFeeds}
 use Rattle.lists.specs.Refusals.{Check, check, firstAnswer}
-use Rattle.records.specs.Kept.{noKept}
+use Rattle.records.specs.Kept.{keptWith, noKept}
 use Rattle.records.specs.declared.Kept.{Kept}
 use Rattle.text.specs.Bytes.{Classes}
 use Rattle.text.specs.Decimal.{plain}
@@ -17,6 +17,8 @@ use Rattle.line.specs.Fields.{Line}
 use Rattle.line.specs.declared.Node.{Node}
 use Rattle.line.specs.declared.LineRead.{LineRead}
 use Rattle.line.specs.declared.LineRead.the-variants.{Good, BadFields, BadByte, NotExpression, OutOfBounds}
+use Rattle.eights.specs.Briefs.{figuresOf}
+use Rattle.eights.specs.declared.Brief.{Brief}
 use Rattle.sheet.specs.Sheet.{isEmpty, emptyChecks}
 use Rattle.sheet.specs.declared.Reading.{Reading}
 use Rattle.sheet.specs.declared.Reading.the-variants.{Lines, Refused}
@@ -35,17 +37,36 @@ breaksNesting chain lines previous depth kind =
     cond (eqb lines 0) (not (eqb depth 0 && not (isFrame kind)))
     (not ((leb 1 depth && leb depth (previous + 1)) && mayHold (getD chain (depth - 1) 0) kind))
 
--- 2, 3, 13, 14 or 4, or the line
-unfoldable pub judgementOf : List ℕ → ℕ → ℕ → LineRead → Judgement
-judgementOf chain lines previous BadFields = Faulty 2
-judgementOf chain lines previous BadByte = Faulty 3
-judgementOf chain lines previous NotExpression = Faulty 13
-judgementOf chain lines previous OutOfBounds = Faulty 14
-judgementOf chain lines previous (Good n) = cond (breaksNesting chain lines previous (n .depth) (n .kind)) (Faulty 4) (Sound n)
+-- a line, or the number of its refusal
+pub data Judged : Type 0 where
+  sound : Node → Judged
+  faulty : ℕ → Judged
 
--- the figures that are kept of a line that was read
-abbrev pub figuresOf : Node → Kept
-figuresOf n = record { depth = n .depth; kind = n .kind; number = n .number; cols = n .cols; rows = n .rows; own = n .own }
+-- 2, 3, 13 or 14, or the line
+unfoldable pub readOf : LineRead → Judged
+readOf BadFields = faulty 2
+readOf BadByte = faulty 3
+readOf NotExpression = faulty 13
+readOf OutOfBounds = faulty 14
+readOf (Good n) = sound n
+
+-- these or 4, or the line
+unfoldable pub judgementOf : List ℕ → ℕ → ℕ → LineRead → Judged
+judgementOf chain lines previous BadFields = faulty 2
+judgementOf chain lines previous BadByte = faulty 3
+judgementOf chain lines previous NotExpression = faulty 13
+judgementOf chain lines previous OutOfBounds = faulty 14
+judgementOf chain lines previous (Good n) = cond (breaksNesting chain lines previous (n .depth) (n .kind)) (faulty 4) (sound n)
+
+-- a line as it is kept
+pub record BriefOf (node : Node) (b : Brief) : Type 0 where
+  pub kept : keptWith (b .depth) (b .kind) (b .figure) ≡ figuresOf node
+  pub next : b .next ≡ node .next
+
+-- the code's answer: the refusal, or the line as it is kept
+pub record Answers (j : Judged) (r : Judgement) : Type 0 where
+  pub refused : (k : ℕ) → r ≡ Faulty k → j ≡ faulty k
+  pub kept : (b : Brief) → r ≡ Sound b → (node : Node) × (j ≡ sound node) × BriefOf node b
 
 -- what remains to be asked after the lines: 4 for no node, or the first table or body left empty
 abbrev pub endChecks : List Line → List Check

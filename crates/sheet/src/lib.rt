@@ -1,4 +1,4 @@
-// The sheet reader: a whole sheet, line by line, into one slice for each figure.
+// The sheet reader: a whole sheet, line by line, into a slice of records.
 pub mod front; // front.rt: what is asked of a sheet before its lines
 pub mod nesting; // nesting.rt: what may stand below what
 pub mod cursor; // cursor.rt: a record that holds the sheet and the current place
@@ -6,11 +6,14 @@ pub mod cursor; // cursor.rt: a record that holds the sheet and the current plac
 ghost use mathlib.Core.Path.{_≡_};
 ghost use Prim.Native.Nat.{_≤_, _<_};
 ghost use Rattle.lists.specs.Limits.{maxLines, maxDepth};
-ghost use Rattle.records.specs.Kept.{keptsOf, keptCount};
+ghost use Rattle.records.specs.Kept.{OfItsKind, keptsOf, keptCount};
 ghost use Rattle.text.specs.Bytes.{Classes};
 ghost use Rattle.line.specs.LineAt.{lineAt};
+ghost use Rattle.eights.specs.Briefs.{figuresOf};
 ghost use Rattle.sheet.specs.Reading.{Reads};
-ghost use Rattle.sheet.specs.Steps.{AtLine, judgementOf, figuresOf, emptyAt, lineEnd, bare, Begun, roomFor};
+ghost use Rattle.sheet.specs.Steps.{AtLine, BriefOf, readOf, judgementOf, Answers, emptyAt, lineEnd, bare, Begun, roomFor};
+use eights::Brief;
+use eights::Common;
 use line::LineRead;
 use line::Node;
 use lists::DEPTHS;
@@ -22,37 +25,10 @@ pub enum Reading {
     Refused { number: u32, line: u32 },
 }
 
-// One line after those before it: its figures, or the number of its refusal.
+// One line: as it is kept, or the number of its refusal.
 pub enum Judgement {
-    Sound(Node),
+    Sound(Brief),
     Faulty(u32),
-}
-
-// The line that starts at a place, judged after the lines before it: 2, 3, 13, 14, 4.
-fn judge(
-    classes: &[u8],
-    bytes: &[u8],
-    at: usize,
-    chain: &[u32; DEPTHS],
-    lines: usize,
-    previous: u32,
-) -> Judgement
-    requires { ⌜ AtLine (now classes) (now bytes) at ⌝ }
-    requires { ⌜ previous ≤ maxDepth ⌝ }
-    ensures { λ r. ⌜ r ≡ judgementOf (now (chain .entry)) lines previous (lineAt (now (bytes .entry)) at) ⌝ }
-{
-    match cursor::line_from(classes, bytes, at) {
-        LineRead::BadFields => Judgement::Faulty(2),
-        LineRead::BadByte => Judgement::Faulty(3),
-        LineRead::NotExpression => Judgement::Faulty(13),
-        LineRead::OutOfBounds => Judgement::Faulty(14),
-        LineRead::Good(node) => {
-            if nesting::misplaced(chain, lines, previous, node.depth, node.kind) {
-                return Judgement::Faulty(4);
-            }
-            Judgement::Sound(node)
-        }
-    }
 }
 
 // What is kept of a line.
@@ -66,6 +42,60 @@ fn figures(node: Node) -> Kept
         cols: node.cols,
         rows: node.rows,
         own: node.own,
+    }
+}
+
+// A line as it is kept.
+fn brief(node: Node) -> Brief
+    requires { ⌜ OfItsKind (figuresOf node) ⌝ }
+    ensures { λ r. ⌜ BriefOf node r ⌝ }
+{
+    Brief {
+        depth: node.depth,
+        kind: node.kind,
+        figure: records::figure_of(figures(node)),
+        next: node.next,
+    }
+}
+
+// The line that starts at a place, by itself: 2, 3, 13, 14. The commonest lines are told by few comparisons.
+fn line_of(classes: &[u8], bytes: &[u8], at: usize) -> Judgement
+    requires { ⌜ AtLine (now classes) (now bytes) at ⌝ }
+    ensures { λ r. ⌜ Answers (readOf (lineAt (now (bytes .entry)) at)) r ⌝ }
+{
+    if let Common::Line(b) = eights::common_line(classes, bytes, at) {
+        return Judgement::Sound(b);
+    }
+    match cursor::line_from(classes, bytes, at) {
+        LineRead::BadFields => Judgement::Faulty(2),
+        LineRead::BadByte => Judgement::Faulty(3),
+        LineRead::NotExpression => Judgement::Faulty(13),
+        LineRead::OutOfBounds => Judgement::Faulty(14),
+        LineRead::Good(node) => Judgement::Sound(brief(node)),
+    }
+}
+
+// The line that starts at a place, judged after the lines before it: 2, 3, 13, 14, 4.
+fn judge(
+    classes: &[u8],
+    bytes: &[u8],
+    at: usize,
+    chain: &[u32; DEPTHS],
+    lines: usize,
+    previous: u32,
+) -> Judgement
+    requires { ⌜ AtLine (now classes) (now bytes) at ⌝ }
+    requires { ⌜ previous ≤ maxDepth ⌝ }
+    ensures { λ r. ⌜ Answers (judgementOf (now (chain .entry)) lines previous (lineAt (now (bytes .entry)) at)) r ⌝ }
+{
+    match line_of(classes, bytes, at) {
+        Judgement::Faulty(refusal) => Judgement::Faulty(refusal),
+        Judgement::Sound(b) => {
+            if nesting::misplaced(chain, lines, previous, b.depth, b.kind) {
+                return Judgement::Faulty(4);
+            }
+            Judgement::Sound(b)
+        }
     }
 }
 
@@ -128,12 +158,12 @@ fn read_lines(classes: &[u8], bytes: &[u8], lines: &mut [u32]) -> Reading
                     line: (n + 1) as u32,
                 };
             }
-            Judgement::Sound(node) => {
-                previous = node.depth;
+            Judgement::Sound(b) => {
+                previous = b.depth;
                 let here = previous as usize;
-                chain[here] = node.kind;
-                at = node.next;
-                records::keep_at(lines, n, figures(node));
+                chain[here] = b.kind;
+                at = b.next;
+                records::keep_at(lines, n, b.depth, b.kind, b.figure);
                 n += 1;
             }
         }

@@ -31,7 +31,7 @@ module _ {read : Reading} {lines : List ℕ} {line : ℕ} {figures : List Estima
   }
 
   pub read-made : {r : Spot} {n : ℕ} → read ≡ reading.Lines n → n ≤ keptCount lines
-      → SpotMade (keptsOf (take (6 * n) lines)) line figures raw width row r x wide → SpotRead read lines line figures raw width row r x wide
+      → SpotMade (keptsOf (take (2 * n) lines)) line figures raw width row r x wide → SpotRead read lines line figures raw width row r x wide
   read-made {r} {n} e h m = record {
     refused = λ number l f. let z : _≡_ {A = ℕ} 0 1 = cc in absurd (omega arith);
     made = λ k f.
@@ -55,7 +55,7 @@ module _ {s : List ℕ} {line wrap : ℕ} {read : Reading} {lines : List ℕ} {f
           let m = rw (w .opened .holds n e) at (g .made n e) in
           let b = opened-apt (w .opened) n e .from-one in
           let k : line - 1 + 1 ≡ line = omega arith in
-          let l = rw k at (m .made wrap (w .measured n e .figures)) in
+          let l = rw k at (m .made wrap (record { cells = w .measured n e .cells })) in
           record { answer = l .answer ∙ sym (first-passes Refused _ cs p); told = λ q. l .told }
       at (reading.Refused number l) e =
           let o = sym (w .opened .answer) ∙ e in

@@ -44,7 +44,7 @@ fn find_read(
     wide: &mut [u32],
 ) -> Spot
     requires { ⌜ AskedIn read (now lines) line ⌝ }
-    requires { ⌜ MeasuredIn read (now lines) (figuresOf (now figures)) ⌝ }
+    requires { ⌜ MeasuredIn read (now lines) line (figuresOf (now figures)) ⌝ }
     requires { ⌜ width ≤ maxSize ⌝ }
     requires { ⌜ PlacesRoom (now x) (now wide) ⌝ }
     ensures { λ r. ⌜ SpotRead read (now (lines .entry)) line (figuresOf (now (figures .entry))) raw width row r (now (x .exit)) (now (wide .exit)) ⌝ }
@@ -58,7 +58,7 @@ fn find_read(
     }
 }
 
-// Opens and measures the sheet. The widths are written last, and until then their slice is room to work in.
+// Opens and measures the sheet. The widths are written last, and until then their slice is scratch.
 fn find_sheet(
     sheet: &[u8],
     line: u32,
@@ -73,9 +73,19 @@ fn find_sheet(
     requires { ⌜ PlacesRoom (now x) (now wide) ⌝ }
     ensures { λ r. ⌜ SpotFound (openChecks true (now (sheet .entry)) line) (now (sheet .entry)) line wrap raw width row r (now (x .exit)) (now (wide .exit)) ⌝ }
 {
-    let mut lines = [0u32; 6 * MAX_LINES];
+    let mut lines = [0u32; records::WIDTH * MAX_LINES];
     let mut figures = [0u32; 3 * MAX_LINES];
-    let read = finding::layouts::measured_large(sheet, line, wrap, &mut lines, &mut figures, wide);
+    let mut scratch = [0u32; 2 * MAX_LINES];
+    let read = opening::measuring::measure_table(
+        sheet,
+        line,
+        wrap,
+        &mut lines,
+        &mut figures,
+        &mut scratch,
+        x,
+        wide,
+    );
     find_read(read, line, &lines, &figures, raw, width, row, x, wide)
 }
 

@@ -1,9 +1,9 @@
 // The row of one table of a measured sheet: the table is laid out first.
-ghost use Prim.Native.Nat.{_≤_};
+ghost use Prim.Native.Nat.{_-_, _≤_};
 ghost use Rattle.lists.specs.Limits.{maxSize};
 ghost use Rattle.records.specs.Kept.{keptsOf};
 ghost use Rattle.estimates.specs.inner.Figures.{figuresOf};
-ghost use Rattle.table.specs.Arranging.{AllMeasured};
+ghost use Rattle.table.specs.Arranging.{TableMeasured};
 ghost use Rattle.table.specs.inner.Fitting.{Asked};
 ghost use Rattle.spots.specs.inner.Spots.{PlacesRoom, SpotMade};
 use crate::Spot;
@@ -22,7 +22,7 @@ pub fn find_row(
     wide: &mut [u32],
 ) -> Spot
     requires { ⌜ Asked (keptsOf (now lines)) line ⌝ }
-    requires { ⌜ AllMeasured (keptsOf (now lines)) (figuresOf (now figures)) ⌝ }
+    requires { ⌜ TableMeasured (keptsOf (now lines)) (line - 1) (figuresOf (now figures)) ⌝ }
     requires { ⌜ width ≤ maxSize ⌝ }
     requires { ⌜ PlacesRoom (now x) (now wide) ⌝ }
     ensures { λ r. ⌜ SpotMade (keptsOf (now (lines .entry))) line (figuresOf (now (figures .entry))) raw width row r (now (x .exit)) (now (wide .exit)) ⌝ }

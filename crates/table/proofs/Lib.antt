@@ -6,3 +6,4 @@ pub mod Fronts
 pub mod Rooms
 pub mod GridFitted
 pub mod LayoutFitted
+pub mod Cells

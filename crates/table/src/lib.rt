@@ -9,7 +9,7 @@ ghost use Rattle.cells.specs.Listed.{tableRows};
 ghost use Rattle.estimates.specs.inner.Figures.{figuresOf};
 ghost use Rattle.gridding.specs.Packed.{TableReady};
 ghost use Rattle.table.specs.Laying.{boxRowsBy, LaidTable};
-ghost use Rattle.table.specs.Arranging.{AllMeasured, ArrangedAt};
+ghost use Rattle.table.specs.Arranging.{TableMeasured, ArrangedAt};
 ghost use Rattle.table.specs.inner.Room.{LayableTable, FrontLayable, LayoutRoom};
 
 // A table laid out: how many rows, entries and columns it has, its way and the width that it takes.
@@ -83,7 +83,7 @@ pub fn arrange(
     wide: &mut [u32],
 ) -> Arrangement
     requires { ⌜ TableReady (keptsOf (now lines)) at (entriesOf (now entries)) (rowsOf (now rows)) ⌝ }
-    requires { ⌜ AllMeasured (keptsOf (now lines)) (figuresOf (now figures)) ⌝ }
+    requires { ⌜ TableMeasured (keptsOf (now lines)) at (figuresOf (now figures)) ⌝ }
     requires { ⌜ LayoutRoom (tableRows (keptsOf (now lines)) at) width (now column) (now x) (now wide) ⌝ }
     ensures { λ r. ⌜ ArrangedAt (keptsOf (now (lines .entry))) at (figuresOf (now (figures .entry))) raw width (entriesOf (now (entries .exit))) (rowsOf (now (rows .exit))) (now (column .exit)) (now (x .exit)) (now (wide .exit)) (r .counts) (r .laid) ⌝ }
 {

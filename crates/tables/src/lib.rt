@@ -22,7 +22,7 @@ pub enum LaidOut {
     Refused { number: u32, line: u32 },
 }
 
-// Whether a sheet is accepted: read, and every table of it judged.
+// Whether a sheet is accepted: read, and every table of it checked.
 pub fn check(sheet: &[u8]) -> Verdict
     ensures { λ r. ⌜ r ≡ verdictOf (checkChecks (now (sheet .entry))) ⌝ }
 {

@@ -18,7 +18,7 @@ use Rattle.estimates.specs.Sheet.{lineAt}
 use Rattle.estimates.specs.inner.Cycle.{estAt, doneOf}
 use Rattle.estimates.proofs.Laws.{length-all, line-of, est-of}
 use Rattle.estimates.proofs.Nesting.{allowed}
-use Rattle.judge.specs.Places.{Nests}
+use Rattle.grid_bounds.specs.Sheets.{Nests}
 use Rattle.teaching.specs.Missing.{Inside, itself, below}
 
 -- ---- a child's least width is among those that its parent gathers

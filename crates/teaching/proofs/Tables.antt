@@ -33,11 +33,12 @@ use Rattle.grid.proofs.GridFacts.{held-spanned, grid-tiles, sound-passes}
 use Rattle.estimates.specs.Estimates.{Done, undone, boxOf}
 use Rattle.estimates.specs.inner.Cycle.{estAt, doneOf}
 use Rattle.estimates.proofs.Fillers.{flat-boxes}
-use Rattle.judge.specs.Places.{Nests}
-use Rattle.judge.proofs.CellKinds.{cell-kind}
-use Rattle.judge.proofs.Keeping.{cells-rise}
+use Rattle.grid_bounds.specs.Sheets.{Nests}
+use Rattle.grid_bounds.proofs.CellKinds.{cell-kind}
+use Rattle.table.proofs.Cells.{cells-rise}
 use Rattle.opening.specs.Opening.{keptLines}
-use Rattle.opening.proofs.Answers.{Apt, table-apt}
+use Rattle.opening.specs.inner.Opened.{Apt}
+use Rattle.opening.proofs.Answers.{table-apt}
 use Rattle.opening.proofs.Ready.{kept-lined, kept-nests}
 use Rattle.table.specs.inner.Grids.{Fits}
 use Rattle.table.proofs.Boxes.{tiles-of-grid}

@@ -27,7 +27,8 @@ use Rattle.grid.specs.Facts.{Sound, cellOwners, CellOf}
 use Rattle.grid.specs.Judging.{shown}
 use Rattle.grid.proofs.Tiling.{not-true}
 use Rattle.grid.proofs.GridCells.{held-owners, owner-cell, entries-cells, IsCell}
-use Rattle.judge.proofs.Keeping.{shown-within}
+use Rattle.table.proofs.Cells.{shown-within}
+use Rattle.table.proofs.Grids.{all-cells}
 use Rattle.grid.proofs.CellLines.{cell-line}
 use Rattle.grid.proofs.GridFacts.{grid-entries, grid-columns}
 use Rattle.gridding.specs.Packed.{TableReady}
@@ -132,7 +133,7 @@ module _ {ks : List Kept} {figures : List Estimate} (p : Walkable ks figures) {t
       unfolding cellWidth
       handed = record {
         cell = λ wrap f i c _.
-            let l = a .laid wrap f in
+            let l = a .laid wrap (all-cells t wrap f) in
             let vs : take N wide ≡ map widthIn (placesIn (columnsOf (tableRows ks t)) (boxesAt wrap ks t) raw v) =
             ap (λ (m : ℕ). take m wide) (e ∙ a .made .entries-are) ∙ l .wides-are in
             ap (λ (y : List Place). getD y i noPlace) w

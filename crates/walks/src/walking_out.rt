@@ -37,7 +37,7 @@ fn walk_out(
     requires { ⌜ WalkRoom (now given) (now wide) ⌝ }
     ensures { λ r. ⌜ WalkFound (walkedChecks false (now (sheet .entry)) 0 wrap raw width overflow) (now (sheet .entry)) wrap raw width r (now (given .exit)) (now (wide .exit)) ⌝ }
 {
-    let mut lines = [0u32; 6 * MAX_LINES];
+    let mut lines = [0u32; records::WIDTH * MAX_LINES];
     let mut figures = [0u32; 3 * MAX_LINES];
     let mut walk = [0u32; 2 * MAX_LINES];
     let read = pacing::walk_sheet(

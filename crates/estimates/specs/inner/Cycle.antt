@@ -8,13 +8,13 @@ use Rattle.lists.specs.Limits.{maxPosition}
 use Rattle.text.specs.declared.Estimate.{Estimate}
 use Rattle.text.specs.Decimal.{shift}
 use Rattle.kinds.specs.Kinds.{tableKind, bodyKind, rowKind, cellKind, headKind, olKind, isLeaf, isFrame}
-use Rattle.records.specs.Kept.{keptsOf, keptCount, placesOf}
+use Rattle.records.specs.Kept.{keptsOf, keptCount}
 use Rattle.records.specs.declared.Kept.{Kept}
+use Rattle.grid.specs.Judging.{Lined}
 use Rattle.estimates.specs.Estimates.{Done, undone, none, estimate, Children, noChildren, gather, measured}
-use Rattle.estimates.specs.Held.{Held, AllGrids}
+use Rattle.estimates.specs.Tables.{TablesFit}
 use Rattle.estimates.specs.Sheet.{Sheet, lineAt}
 use Rattle.estimates.specs.Meets.{Bounded}
-use Rattle.estimates.specs.inner.Spread.{Ends}
 use Rattle.estimates.specs.declared.Part.{Part}
 
 -- the children that a part combines
@@ -42,14 +42,18 @@ weight ls zero = 0
 weight ls (suc n) = weight ls n + (lineAt ls n .own + 4096)
 
 -- what a call at line `at` takes, in slices
-pub record NodeReady (lines places figures leasts : List ℕ) (at : ℕ) : Type 0 where
+pub record NodeReady (lines figures leasts entries rows : List ℕ) (at : ℕ) : Type 0 where
   pub sheet : Sheet (keptsOf lines)
-  pub held : Held (keptsOf lines) (placesOf places)
-  pub grids : AllGrids (keptsOf lines)
-  pub places-fit : keptCount lines ≤ length places / 2
+  pub lined : Lined (keptsOf lines)
+  pub tables : TablesFit (keptsOf lines) (length entries / 3)
   pub figures-fit : keptCount lines ≤ length figures / 3
   pub scratch : maxPosition ≤ length leasts
+  pub row-room : keptCount lines ≤ length rows / 2
   pub within : at < keptCount lines
+
+-- what is below a line of depth d ends at r
+abbrev pub Ends : List Kept → ℕ → ℕ → Type 0
+Ends ls d r = r < length ls → lineAt ls r .depth ≤ d
 
 -- the lines after `at` up to r stand below it; the results from `lo` up to r are the estimates es, and the others are as they were
 pub record Passed (ls : List Kept) (es : List Done) (b c : List Estimate) (at lo r : ℕ) : Type 0 where

@@ -2,7 +2,7 @@
 use mathlib.Core.Path.{_≡_}
 use mathlib.Core.Bool.{true}
 use mathlib.Core.List.{List, map}
-use Prim.Native.Nat.{ℕ, _≤_}
+use Prim.Native.Nat.{ℕ, _-_, _≤_}
 use lib.ListN.{length, take}
 use Rattle.lists.specs.Limits.{maxLines, maxEntries}
 use Rattle.lists.specs.Refusals.{Check, firstAnswer, passes, ifPasses}
@@ -13,8 +13,8 @@ use Rattle.sheet.specs.declared.Reading.the-variants.{Lines, Refused as NotRead
 use Rattle.grid.specs.Grid.{entriesOf}
 use Rattle.placing.specs.Promise.{Promised}
 use Rattle.opening.specs.Opening.{keptLines}
-use Rattle.opening.specs.inner.Measures.{LinesMeasured}
-use Rattle.table.specs.Arranging.{AllMeasured}
+use Rattle.opening.specs.inner.Measures.{CellsKnown}
+use Rattle.table.specs.Arranging.{TableMeasured}
 use Rattle.table.specs.declared.Arrangement as arranging
 use Rattle.table.specs.inner.Fitting.{LayoutMade}
 use Rattle.finding.specs.Figures.{xOf, widthOf, rowsAt, columnsAt, boxesAt, wayAt, widthsAt, widthAt, placesAt}
@@ -43,14 +43,14 @@ pub record LayoutFound (cs : List Check) (s : List ℕ) (line wrap raw width : �
 
 -- ---- with arrays of either size
 
--- a sheet opened for a line, and measured
+-- a sheet opened for a line, and the cells of its table measured
 pub record LinesOf (s : List ℕ) (line wrap : ℕ) (r : Reading) (lines : List ℕ) (figures : List Estimate) : Type 0 where
   pub opened : OpenedAt s line r lines
-  pub measured : (n : ℕ) → r ≡ Lines n → LinesMeasured wrap (keptLines s) figures
+  pub measured : (n : ℕ) → r ≡ Lines n → CellsKnown wrap (keptLines s) (line - 1) figures
 
--- the lines that were read are measured
-pub record MeasuredIn (read : Reading) (lines : List ℕ) (figures : List Estimate) : Type 0 where
-  pub measured : (n : ℕ) → read ≡ Lines n → AllMeasured (take n (keptsOf lines)) figures
+-- of the lines that were read the cells of the table in a line are measured
+pub record MeasuredIn (read : Reading) (lines : List ℕ) (line : ℕ) (figures : List Estimate) : Type 0 where
+  pub measured : (n : ℕ) → read ≡ Lines n → TableMeasured (take n (keptsOf lines)) (line - 1) figures
 
 -- a table laid out in the words of this crate
 abbrev pub tableOf : arranging.Arrangement → Arranged

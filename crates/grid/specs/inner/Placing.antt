@@ -11,14 +11,11 @@ use Rattle.edges.specs.declared.Numbered.the-variants.{Done}
 use Rattle.cells.specs.Cells as cells
 use Rattle.rows.specs.Row.{itemLine, itemSpan}
 use Rattle.positions.specs.declared.Positions.{Positions}
-use Rattle.positions.specs.declared.Positions.the-variants.{Rows, Past, Many}
-use Rattle.positions.specs.Positions.{allRows}
-use Rattle.positions.specs.inner.Slices.{allItems, entryEnds, placedLine, positionsOf}
-use Rattle.grid.specs.declared.Judged.{Judged}
-use Rattle.grid.specs.declared.Judged.the-variants.{Grid, Refused}
+use Rattle.positions.specs.Positions.{allRows, entryCount}
+use Rattle.positions.specs.inner.Slices.{allItems, entryEnds, placedLine}
 use Rattle.grid.specs.inner.Numbering.{RowsNumbered}
-use Rattle.grid.specs.Grid.{GridRow, gridOf, entriesOf, rowEnds}
-use Rattle.grid.specs.Judging.{judgedOf, shown}
+use Rattle.grid.specs.Grid.{GridRow, gridOf, columnsOf, entriesOf, rowEnds}
+use Rattle.grid.specs.Judging.{shown}
 
 -- a position is an edge of rows of spans if it is 0 or the end of an entry
 abbrev pub edgeOfRows : List (List ℕ) → ℕ → Bool
@@ -33,21 +30,10 @@ pub record RowsReady (rows entries : ℕ) (wide line ends : List ℕ) (es : List
   pub fit : RowsFit 0 (take rows ends) (take entries wide)
   pub entry-room : entries ≤ length es
 
--- what becomes of them in columns: their counts
-pub record RowsJudged (rows entries : ℕ) (wide line ends : List ℕ) (r : Judged) (es : List packed.Entry) : Type 0 where
-  pub columns : ℕ
-  pub answer : r ≡ Grid rows entries columns
-  pub written : RowsNumbered (edgeOfRows (rowsFrom 0 (take rows ends) (take entries wide))) (rowsFrom 0 (take rows ends) (take entries wide))
-      (take entries line) (Done columns) es
-
--- the same, or a refusal that is known before
-pub record PlacedReady (placed : Positions) (wide line ends : List ℕ) (es : List packed.Entry) : Type 0 where
-  pub ready : (rows entries : ℕ) → placed ≡ Rows rows entries → RowsReady rows entries wide line ends es
-
-pub record PlacedJudged (placed : Positions) (wide line ends : List ℕ) (r : Judged) (es : List packed.Entry) : Type 0 where
-  pub past : placed ≡ Past → r ≡ Refused 5
-  pub many : placed ≡ Many → r ≡ Refused 6
-  pub rows : (rows entries : ℕ) → placed ≡ Rows rows entries → RowsJudged rows entries wide line ends r es
+-- what becomes of them in columns, of which there are so many
+abbrev pub PlacedNumbered : ℕ → ℕ → List ℕ → List ℕ → List ℕ → ℕ → List packed.Entry → Type 0
+PlacedNumbered rows entries wide line ends columns es =
+    RowsNumbered (edgeOfRows (rowsFrom 0 (take rows ends) (take entries wide))) (rowsFrom 0 (take rows ends) (take entries wide)) (take entries line) (Done columns) es
 
 -- the rows of a table by positions stand in the first places of the slices
 pub record RowsStand (table : List cells.Row) (rows entries : ℕ) (wide line row end : List ℕ) : Type 0 where
@@ -57,24 +43,26 @@ pub record RowsStand (table : List cells.Row) (rows entries : ℕ) (wide line ro
   pub ends : take rows end ≡ entryEnds 0 (allRows table)
 
 pub record TablePlaced (table : List cells.Row) (placed : Positions) (wide line row end : List ℕ) : Type 0 where
-  pub answer : placed ≡ positionsOf table
-  pub stand : (rows entries : ℕ) → placed ≡ Rows rows entries → RowsStand table rows entries wide line row end
+  pub rows-are : placed .rows ≡ length table
+  pub entries-are : placed .entries ≡ entryCount (allRows table)
+  pub stand : RowsStand table (placed .rows) (placed .entries) wide line row end
 
 abbrev pub gridLine : GridRow → ℕ
 gridLine r = r .line
 
--- the answer; where there is a grid, its entries stand in the first records, and its rows in the first places of two slices
-pub record GridJudged (table : List cells.Row) (r : Judged) (es : List packed.Entry) (row end : List ℕ) : Type 0 where
-  pub answer : r ≡ judgedOf table
-  pub entries : (rows n columns : ℕ) → r ≡ Grid rows n columns → take n es ≡ map shown (entriesOf (gridOf table))
-  pub row-lines : (rows n columns : ℕ) → r ≡ Grid rows n columns → take rows row ≡ map gridLine (gridOf table)
-  pub row-ends : (rows n columns : ℕ) → r ≡ Grid rows n columns → take rows end ≡ rowEnds 0 (gridOf table)
+-- the counts of the grid are these, its entries stand in the first records, and its rows in the first places of two slices
+pub record GridStands (table : List cells.Row) (rows n columns : ℕ) (es : List packed.Entry) (row end : List ℕ) : Type 0 where
+  pub rows-are : rows ≡ length (gridOf table)
+  pub entries-are : n ≡ length (entriesOf (gridOf table))
+  pub columns-are : columns ≡ columnsOf table
+  pub entries : take (length (entriesOf (gridOf table))) es ≡ map shown (entriesOf (gridOf table))
+  pub row-lines : take (length (gridOf table)) row ≡ map gridLine (gridOf table)
+  pub row-ends : take (length (gridOf table)) end ≡ rowEnds 0 (gridOf table)
 
--- the lent slices have `room` places for entries, as many as there are lines or more, and places for n lines
-pub record Room (n room : ℕ) (wide line cell-line cell-span cell-rows cell-end row end : List ℕ) : Type 0 where
-  pub row-fits : n ≤ room
-  pub wide-room : room ≤ length wide
-  pub line-room : room ≤ length line
+-- the lent slices have a place for each entry, and for each of n lines
+pub record Room (n entries : ℕ) (wide line cell-line cell-span cell-rows cell-end row end : List ℕ) : Type 0 where
+  pub wide-room : entries ≤ length wide
+  pub line-room : entries ≤ length line
   pub cell-line-room : n ≤ length cell-line
   pub cell-span-room : n ≤ length cell-span
   pub cell-rows-room : n ≤ length cell-rows

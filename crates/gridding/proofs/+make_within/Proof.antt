@@ -35,7 +35,7 @@ abbrev make-within-claims : ℕ → make-within-lts.Claims
 make-within-claims t = (make-many-reads.Asked, make-many-reads.Learnt, count-reads.Asked, count-reads.Learnt, larger-reads.Asked, larger-reads.Learnt, make-some-reads.Asked, make-some-reads.Learnt, make-few-reads.Asked, make-few-reads.Learnt, make-least-reads.Asked, make-least-reads.Learnt, next-reads.Asked, next-reads.Learnt, make-within-below t, make-within.Post)
 
 make-within-make-many-requires : (t : ℕ) → make-within-lts.Need-make-many-requires (make-within-claims t) (make-within-at t) make-within.Post
-make-within-make-many-requires t c κs = let s = (c .before .before .before .before .before .before) .pre .1 in (s .0, fits-all _ (s .0 .lined))
+make-within-make-many-requires t c κs = let s = (c .before .before .before .before .before .before) .pre .1 in (s .0, fits-all (s .0))
 
 make-within-same-length : (t : ℕ) → make-within-lts.Need-same-length (make-within-claims t) (make-within-at t) make-within.Post
 make-within-same-length t c = search needs

@@ -1,17 +1,24 @@
--- `gridding::make_sound` meets its contract: no refusal applies, so there is a grid. Assumes nothing.
-use Rattle.gridding.proofs.Making.{sound-ready, sound-made, never-refused}
+-- `gridding::make_sound` meets its contract: the lines after the table's are none of it, and the lines up to its end stand in the first places. Assumes nothing.
+use mathlib.Core.Path.{sym}
+use native.Mathlib.Omega.{arith}
+use lib.Seq.{length-take-le}
+use Rattle.records.proofs.Kepts.{length-kepts, kepts-take}
+use Rattle.gridding.proofs.Ending.{held-front, ready-front}
 use borrow.Author.Needs.{needs}
 use Rattle.gridding.proofs.make_sound.Statement.{statement}
 use Rattle.gridding.proofs.make_sound.Tie as tie
 
-make-requires : tie.Need-make-requires
-make-requires c κs = sound-ready ((c .before .before .before .before .before) .pre)
+extent-of-requires : tie.Need-extent-of-requires
+extent-of-requires c κs = search needs
 
-enum-known-number : tie.Need-enum-known-number
-enum-known-number c = search needs
+mul-end : tie.Need-mul-end
+mul-end c = search needs
 
-enum-known-r : tie.Need-enum-known-r
-enum-known-r c = search needs
+slice-aggregate-make-within : tie.Need-slice-aggregate-make-within
+slice-aggregate-make-within c = sym (length-take-le _ _ (omega (arith, (c .before .before) .extent-of .ensures .within, length-kepts ((c .before .before .before .before .before .before) .args .lines .now))))
+
+make-within-requires : tie.Need-make-within-requires
+make-within-requires c κs = let e = (c .before .before .before .before) .extent-of .ensures in rw (kepts-take ((c .before .before .before .before .before .before .before .before) .args .lines .now) ((c .before .before .before .before) .extent-of .result .end) (omega (arith, (c .before .before .before .before) .extent-of .ensures .within, length-kepts ((c .before .before .before .before .before .before .before .before) .args .lines .now)))) (ready-front e ((c .before .before .before .before .before .before .before .before) .pre), e .rows)
 
 same-length : tie.Need-same-length
 same-length c = search needs
@@ -20,27 +27,16 @@ same-length-2 : tie.Need-same-length-2
 same-length-2 c = search needs
 
 returns : tie.Need-returns
-returns c = absurd (never-refused ((c .before .before .before .before .before .before .before .before .before .before .before .before .before) .pre) ((c .before .before .before .before .before .before .before) .make .ensures) _ ((c .before) .number .given .1))
-
-same-length-3 : tie.Need-same-length-3
-same-length-3 c = search needs
-
-same-length-4 : tie.Need-same-length-4
-same-length-4 c = search needs
-
-returns-2 : tie.Need-returns-2
-returns-2 c = sound-made ((c .before .before .before .before .before .before .before .before .before .before .before .before .before) .pre) ((c .before .before .before .before .before .before .before) .make .ensures) _ _ _ ((c .before) .r .given .1)
+returns c = let m = rw (kepts-take ((c .before .before .before .before .before .before .before .before .before .before .before .before .before) .args .lines .now) ((c .before .before .before .before .before .before .before .before .before) .extent-of .result .end) (omega (arith, (c .before .before .before .before .before .before .before .before .before) .extent-of .ensures .within, length-kepts ((c .before .before .before .before .before .before .before .before .before .before .before .before .before) .args .lines .now)))) at ((c .before .before .before .before) .make-within .ensures) in rw (held-front ((c .before .before .before .before .before .before .before .before .before) .extent-of .ensures)) at m
 
 pub make-sound-spec : {M : Type 1} → statement M
 make-sound-spec =
     tie.close
     (tie.spec
-    make-requires
-    enum-known-number
-    enum-known-r
+    extent-of-requires
+    mul-end
+    slice-aggregate-make-within
+    make-within-requires
     same-length
     same-length-2
-    returns
-    same-length-3
-    same-length-4
-    returns-2)
+    returns)

@@ -13,11 +13,9 @@ use Rattle.records.specs.declared.Entry.{Entry}
 use Rattle.records.specs.declared.Row.{Row}
 use Rattle.cells.specs.Listed.{tableRows}
 use Rattle.positions.specs.declared.Positions.{Positions}
-use Rattle.positions.specs.declared.Positions.the-variants.{Rows}
-use Rattle.positions.specs.inner.Slices.{Enough}
-use Rattle.grid.specs.declared.Judged.{Judged}
-use Rattle.grid.specs.declared.Judged.the-variants.{Grid}
-use Rattle.grid.specs.inner.Placing.{PlacedReady, PlacedJudged}
+use Rattle.positions.specs.Positions.{entryCount, allRows}
+use Rattle.grid.specs.inner.Placing.{RowsReady, PlacedNumbered}
+use Rattle.gridding.specs.declared.Counts.{Counts}
 use Rattle.gridding.specs.Packed.{row}
 
 -- ---- the table's lines
@@ -44,11 +42,10 @@ pub record Ended (ks : List Kept) (at end asked : ℕ) : Type 0 where
   pub stops : getD ks end noKept .depth ≤ getD ks at noKept .depth
   pub rows : asked ≡ askedAfter (take end ks) at
 
--- room for so many lines from the table's own on, and for so many entries, does
+-- arrays for so many lines from the table's own on, and for so many entries, do
 pub record Fits (lines entries : ℕ) (ks : List Kept) (at : ℕ) : Type 0 where
   pub few : length ks - at ≤ lines
-  pub more : lines ≤ entries
-  pub enough : Enough entries (tableRows ks at)
+  pub enough : entryCount (allRows (tableRows ks at)) ≤ entries
 
 -- ---- records
 
@@ -58,9 +55,12 @@ pub record RowsPacked (n : ℕ) (line end : List ℕ) (rs : List Row) : Type 0 w
 
 -- what rows by positions take to become a grid of records, and what becomes of them
 pub record FinishReady (placed : Positions) (wide line row-line row-end : List ℕ) (es : List Entry) (rs : List Row) : Type 0 where
-  pub ready : PlacedReady placed wide line row-end es
-  pub rows-in : (r n : ℕ) → placed ≡ Rows r n → (r ≤ length row-line) × (r ≤ length rs)
+  pub ready : RowsReady (placed .rows) (placed .entries) wide line row-end es
+  pub lines-in : placed .rows ≤ length row-line
+  pub rows-in : placed .rows ≤ length rs
 
-pub record Finished (placed : Positions) (wide line row-line row-end : List ℕ) (judged : Judged) (es : List Entry) (rs : List Row) : Type 0 where
-  pub numbered : PlacedJudged placed wide line row-end judged es
-  pub packed : (r n c : ℕ) → judged ≡ Grid r n c → RowsPacked r row-line row-end rs
+pub record Finished (placed : Positions) (wide line row-line row-end : List ℕ) (counts : Counts) (es : List Entry) (rs : List Row) : Type 0 where
+  pub rows-are : counts .rows ≡ placed .rows
+  pub entries-are : counts .entries ≡ placed .entries
+  pub numbered : PlacedNumbered (placed .rows) (placed .entries) wide line row-end (counts .columns) es
+  pub packed : RowsPacked (placed .rows) row-line row-end rs

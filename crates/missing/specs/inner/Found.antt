@@ -14,9 +14,8 @@ use Rattle.columns.specs.Boxes.{Box, flat}
 use Rattle.columns.specs.Columns.{sizeOf, leastOf, largest}
 use Rattle.cells.specs.Listed.{tableRows}
 use Rattle.grid.specs.Grid.{columnsOf}
-use Rattle.estimates.specs.Estimates.{estimates}
 use Rattle.table.specs.Laying.{widthsIn, placesIn}
-use Rattle.table.specs.Arranging.{boxesAt}
+use Rattle.table.specs.Arranging.{CellsAre, boxesAt}
 use Rattle.finding.specs.Figures.{columnsAt}
 use Rattle.causes.specs.Causes.{causes, missingFrom}
 use Rattle.causes.specs.Sheets.{causesAt, missingAt}
@@ -48,7 +47,7 @@ pub record TableTold (columns : ℕ) (rows : List (List Box)) (raw width : ℕ) 
 pub record MissingMade (ks : List Kept) (line : ℕ) (figures : List Estimate) (raw width : ℕ) (r : Explained) (entry cause : List ℕ) : Type 0 where
   pub few-entries : missedTotal r ≤ maxEntries
   pub few-columns : columnTotal r ≤ maxLines
-  pub told : (wrap : ℕ) → take (length ks) figures ≡ estimates wrap ks
+  pub told : (wrap : ℕ) → CellsAre wrap ks (line - 1) figures
       → TableTold (columnsOf (tableRows ks (line - 1))) (boxesAt wrap ks (line - 1)) raw width r entry cause
 
 -- the refusal handed up, or those of the lines that were read

@@ -1,6 +1,6 @@
 -- `pacing::open_measured` meets its contract: a sheet has no more lines than the arrays have room for. Assumes nothing.
 use native.Mathlib.Omega.{arith}
-use Rattle.opening.proofs.Passing.{places-room, figures-room}
+use Rattle.opening.proofs.Passing.{figures-room}
 use Rattle.estimates.specs.inner.Figures.{figureBy}
 use Rattle.records.proofs.Records.{length-of}
 use Rattle.pacing.proofs.Opening.{sheet-opened}
@@ -11,8 +11,11 @@ use Rattle.pacing.proofs.open_measured.Tie as tie
 slice-aggregate-measure-sheet : tie.Need-slice-aggregate-measure-sheet
 slice-aggregate-measure-sheet c = search needs
 
+slice-aggregate-measure-sheet-2 : tie.Need-slice-aggregate-measure-sheet-2
+slice-aggregate-measure-sheet-2 c = search needs
+
 measure-sheet-requires : tie.Need-measure-sheet-requires
-measure-sheet-requires c κs = ((c .before .before .before .before .before .before .before .before) .pre .0, (places-room _ _ (omega arith), (c .before .before .before .before .before .before .before .before) .pre .1))
+measure-sheet-requires c κs = (c .before .before .before .before .before .before .before .before .before) .pre
 
 same-length : tie.Need-same-length
 same-length c = search needs
@@ -25,16 +28,17 @@ same-length-3 c = search needs
 
 returns : tie.Need-returns
 returns c =
-    let s = (c .before .before .before .before .before .before .before .before .before .before .before .before .before .before .before .before) in
-    let m = (c .before .before .before .before .before .before .before) .measure-sheet in
-    sheet-opened (m .ensures) (omega (arith, s .pre .0, m .kept .1 .1 .1 .1 .0)) (places-room _ (m .last .1 .1 .1 .1 .1 .0) (omega (arith, m .kept .1 .1 .1 .1 .1 .0)))
-    (figures-room _ (m .last .1 .1 .1 .1 .1 .1 .0) (omega (arith, s .pre .1 .0, length-of 3 figureBy (s .args .figures .now), m .kept .1 .1 .1 .1 .1 .1 .0)))
+    let s = (c .before .before .before .before .before .before .before .before .before .before .before .before .before .before .before .before .before .before) in
+    let m = (c .before .before .before .before .before .before .before .before) .measure-sheet in
+    sheet-opened (m .ensures) (omega (arith, s .pre .0, m .kept .1 .1 .1 .1 .0))
+    (figures-room _ (m .last .1 .1 .1 .1 .1 .0) (omega (arith, s .pre .1 .0, length-of 3 figureBy (s .args .figures .now), m .kept .1 .1 .1 .1 .1 .0)))
 
 pub open-measured-spec : {M : Type 1} → statement M
 open-measured-spec =
     tie.close
     (tie.spec
     slice-aggregate-measure-sheet
+    slice-aggregate-measure-sheet-2
     measure-sheet-requires
     same-length
     same-length-2

@@ -1,4 +1,4 @@
--- `pacing::walk_read` meets its contract: the first n records stand in the first 6 * n places, and a refusal is handed up. Assumes nothing.
+-- `pacing::walk_read` meets its contract: the first n records stand in the first 2 * n places, and a refusal is handed up. Assumes nothing.
 use mathlib.Core.Path.{sym}
 use native.Mathlib.Omega.{arith}
 use lib.Seq.{length-take-le}

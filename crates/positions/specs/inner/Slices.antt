@@ -1,20 +1,17 @@
 -- A table and its rows by positions as number slices, and what the answers and the written slices are. These are definitions; nothing is
 -- assumed.
 use mathlib.Core.Path.{_≡_}
-use mathlib.Core.Bool.{false, cond}
+use mathlib.Core.Bool.{false}
 use mathlib.Core.List.{List, [], _∷_, _++_, map}
 use Prim.Native.Nat.{ℕ, _+_, _-_, _≤_}
-use lib.Dec.{ltb}
 use lib.ListN.{length, getD, take, drop}
 use Rattle.lists.specs.Lists.{over}
 use Rattle.lists.specs.Limits.{maxLines, maxPosition, maxEntries}
 use Rattle.cells.specs.Cells.{Cell, cell}
 use Rattle.cells.specs.Cells as cells
 use Rattle.cells.specs.Spans.{part}
-use Rattle.rows.specs.declared.Merged.{Merged}
-use Rattle.rows.specs.Row.{Item, itemLine, itemLeft, itemPos, itemSpan, itemsEnd, nexts, rowOf, mergedOf}
+use Rattle.rows.specs.Row.{Item, itemLine, itemLeft, itemPos, itemSpan, itemsEnd, nexts, rowOf}
 use Rattle.positions.specs.declared.Positions.{Positions}
-use Rattle.positions.specs.declared.Positions.the-variants.{Rows, Past, Many}
 use Rattle.positions.specs.Positions.{Row, allRows, endsPast, entryCount}
 
 -- ---- the table
@@ -56,11 +53,6 @@ overAt n xs o = over (take n o ++ xs) o
 
 -- ---- one row
 
--- where the entries of a row of `count` go, after n others, where there are `room` places: behind them while all are stored, and then anywhere
-pub record Place (room n count r : ℕ) : Type 0 where
-  pub inside : r + count ≤ room
-  pub behind : n + count ≤ room → r ≡ n
-
 -- the row of the cells from place a up to place e, with the first k that hang
 unfoldable pub rowAt : List ℕ → List ℕ → List ℕ → ℕ → ℕ → List ℕ → List ℕ → List ℕ → ℕ → List Item
 rowAt lines spans rows a e left at wide k = rowOf (part a e lines) (part a e spans) (part a e rows) (take k left) (take k at) (take k wide)
@@ -73,11 +65,12 @@ pub record WrittenAt (n : ℕ) (xs : List Item) (l₀ s₀ nl₀ na₀ nw₀ l s
   pub ats : na ≡ over (map itemPos (nexts xs)) na₀
   pub wides : nw ≡ over (map itemSpan (nexts xs)) nw₀
 
-pub record OneRow (n : ℕ) (xs : List Item) (r : Merged) (l₀ s₀ nl₀ na₀ nw₀ l s nl na nw : List ℕ) : Type 0 where
-  pub answer : r ≡ mergedOf xs
-  pub written : itemsEnd xs ≤ maxPosition → WrittenAt n xs l₀ s₀ nl₀ na₀ nw₀ l s nl na nw
+-- r of them do
+pub record OneRow (n : ℕ) (xs : List Item) (r : ℕ) (l₀ s₀ nl₀ na₀ nw₀ l s nl na nw : List ℕ) : Type 0 where
+  pub hangs : r ≡ length (nexts xs)
+  pub written : WrittenAt n xs l₀ s₀ nl₀ na₀ nw₀ l s nl na nw
 
--- what one row takes: its cells and what hangs lie within the slices, and there is room for as many entries
+-- what one row takes: its cells and what hangs lie within the slices, it ends within position 4,096, and there is room for as many entries
 pub record RowReady (lines spans rows : List ℕ) (a e : ℕ) (left at wide : List ℕ) (k : ℕ) (l s : List ℕ) (n : ℕ) (nl na nw : List ℕ) : Type 0 where
   pub rises : a ≤ e
   pub lines-in : e ≤ length lines
@@ -86,6 +79,7 @@ pub record RowReady (lines spans rows : List ℕ) (a e : ℕ) (left at wide : Li
   pub left-in : k ≤ length left
   pub at-in : k ≤ length at
   pub wide-in : k ≤ length wide
+  pub ends : itemsEnd (rowAt lines spans rows a e left at wide k) ≤ maxPosition
   pub line-room : n + (e - a) + k ≤ length l
   pub span-room : n + (e - a) + k ≤ length s
   pub next-left-room : e - a + k ≤ length nl
@@ -93,13 +87,6 @@ pub record RowReady (lines spans rows : List ℕ) (a e : ℕ) (left at wide : Li
   pub next-wide-room : e - a + k ≤ length nw
 
 -- ---- all rows
-
--- 5 before 6: how many rows and entries there are; that a row ends past position 4,096; that there are more than 8,192 entries
-abbrev pub counted : ℕ → ℕ → Positions
-counted rows entries = cond (ltb maxEntries entries) Many (Rows rows entries)
-
-unfoldable pub positionsOf : List cells.Row → Positions
-positionsOf table = cond (endsPast (allRows table)) Past (counted (length table) (entryCount (allRows table)))
 
 -- lines and spans of entries
 pub record Stored (xs : List Item) (l₀ s₀ l s : List ℕ) : Type 0 where
@@ -111,25 +98,28 @@ pub record Positioned (table : List cells.Row) (l₀ s₀ e₀ l s e : List ℕ)
   pub stored : Stored (allItems (allRows table)) l₀ s₀ l s
   pub ends : e ≡ over (entryEnds 0 (allRows table)) e₀
 
--- where none ends past position 4,096 and there is room for the entries
-pub record PositionsDone (room : ℕ) (table : List cells.Row) (r : Positions) (l₀ s₀ e₀ l s e : List ℕ) : Type 0 where
-  pub answer : r ≡ positionsOf table
-  pub written : endsPast (allRows table) ≡ false → entryCount (allRows table) ≤ room → Positioned table l₀ s₀ e₀ l s e
+-- and counted
+pub record PositionsDone (table : List cells.Row) (r : Positions) (l₀ s₀ e₀ l s e : List ℕ) : Type 0 where
+  pub rows-are : r .rows ≡ length table
+  pub entries-are : r .entries ≡ entryCount (allRows table)
+  pub positioned : Positioned table l₀ s₀ e₀ l s e
 
--- there is room for the entries of a table that has no more than 8,192
-abbrev pub Enough : ℕ → List cells.Row → Type 0
-Enough room table = entryCount (allRows table) ≤ maxEntries → entryCount (allRows table) ≤ room
+-- the table of the slices is sound, whichever the lines of its rows are: no row ends past position 4,096, and there are at most 8,192 entries,
+-- with a place for each
+pub record RowsWithin (lines spans rows ends l s : List ℕ) : Type 0 where
+  pub ends-in : (rowLines : List ℕ) → endsPast (allRows (tableOf lines spans rows rowLines 0 ends)) ≡ false
+  pub few : (rowLines : List ℕ) → entryCount (allRows (tableOf lines spans rows rowLines 0 ends)) ≤ maxEntries
+  pub line-room : (rowLines : List ℕ) → entryCount (allRows (tableOf lines spans rows rowLines 0 ends)) ≤ length l
+  pub span-room : (rowLines : List ℕ) → entryCount (allRows (tableOf lines spans rows rowLines 0 ends)) ≤ length s
 
--- what all rows take: cells in slices of one length, each row's up to its end, few enough of both, and slices with room for as many as there
--- are rows and cells, the entries' with `room` places
-pub record Ready (room : ℕ) (lines spans rows ends l s e left at wide nl na nw : List ℕ) : Type 0 where
+-- what all rows take: a sound table, its cells in slices of one length, each row's up to its end, few enough of both, and slices with room for as
+-- many as there are rows and cells
+pub record Ready (lines spans rows ends l s e left at wide nl na nw : List ℕ) : Type 0 where
   pub rising : Rising 0 ends (length lines)
   pub spans-length : length spans ≡ length lines
   pub rows-length : length rows ≡ length lines
   pub few : length ends + length lines ≤ maxLines
-  pub row-fits : length ends + length lines ≤ room
-  pub line-room : room ≤ length l
-  pub span-room : room ≤ length s
+  pub within : RowsWithin lines spans rows ends l s
   pub row-end-room : length ends ≤ length e
   pub left-room : length lines ≤ length left
   pub at-room : length lines ≤ length at

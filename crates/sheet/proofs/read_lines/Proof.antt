@@ -12,18 +12,14 @@ use borrow.Author.Needs.{needs}
 use Rattle.lists.specs.Limits.{maxDepth}
 use Rattle.records.specs.declared.Kept.{Kept}
 use Rattle.records.proofs.Kepts.{kepts-take}
-use Rattle.sheet.specs.Steps.{lineEnd, bare}
+use Rattle.line.specs.LineAt.{lineAt}
+use Rattle.line.specs.declared.Node.{Node}
+use Rattle.sheet.specs.Steps.{sound, judgementOf, BriefOf, lineEnd, bare}
 use Rattle.sheet.proofs.Heading.{refused-reads}
 use Rattle.sheet.proofs.Accepted.{accepted-passed}
 use Rattle.sheet.proofs.Turns.{ReadingLoop, NextLine, turns-start, turns-refuse, turns-next, turns-more, turns-end, turns-stored}
 use Rattle.sheet.proofs.read_lines.Statement.{statement}
 use Rattle.sheet.proofs.read_lines.Tie as tie
-use Rattle.sheet.proofs.read_lines.Reads as reads
-use Rattle.sheet.proofs.read_lines.Lts as lts
-use Rattle.records.proofs.keep_at.Reads as keep-at-reads
-use Rattle.sheet.proofs.figures.Reads as figures-reads
-use Rattle.sheet.proofs.finish.Reads as finish-reads
-use Rattle.sheet.proofs.judge.Reads as judge-reads
 
 abbrev Inv-loop : tie.InvT-loop
 Inv-loop classes bytes lines₀ chain₀ previous₀ at₀ n₀ lines chain previous at n = ReadingLoop bytes lines₀ lines chain previous at n
@@ -33,13 +29,15 @@ abbrev μ-loop : tie.MeasureT-loop
 
 -- where a sound line is known, before it is kept
 abbrev Here : Type 0
-Here =
-    lts.After-known-told2 (judge-reads.Asked, judge-reads.Learnt, figures-reads.Asked, figures-reads.Learnt, keep-at-reads.Asked, keep-at-reads.Learnt, finish-reads.Asked, finish-reads.Learnt)
-    reads.Pre reads.Post Inv-loop μ-loop
+Here = tie.After-known-told2 Inv-loop μ-loop
 
-next-line : (c : Here) → NextLine (c .before .before .before .before .before .before .before .before .before .before .args .bytes .now) (c .before .before .before .before .before .before .loop .at) (c .before .before .before .before .before .before .loop .n) (c .before .node .given .0 .0)
-next-line c =
-    turns-next (c .before .before .before .before .before .before .loop .inv) (c .before .before .before .before .before .loop-test .taken) _ (sym (c .before .before .before .judge .ensures) ∙ c .before .node .given .1)
+known : (c : Here)
+    → (node : Node) × (judgementOf (c .before .before .before .before .before .before .loop .chain) (c .before .before .before .before .before .before .loop .n) (c .before .before .before .before .before .before .loop .previous) (lineAt (c .before .before .before .before .before .before .before .before .before .before .args .bytes .now) (c .before .before .before .before .before .before .loop .at)) ≡ sound node) × BriefOf node (c .before .b .given .0 .0)
+known c = c .before .before .before .judge .ensures .kept _ (c .before .b .given .1)
+
+next-line : (c : Here)
+    → (let b = c .before .b .given .0 .0 in NextLine (c .before .before .before .before .before .before .before .before .before .before .args .bytes .now) (c .before .before .before .before .before .before .loop .at) (c .before .before .before .before .before .before .loop .n) (b .depth) (b .kind) (b .next))
+next-line c = turns-next (c .before .before .before .before .before .before .loop .inv) (c .before .before .before .before .before .loop-test .taken) _ (known c)
 
 loop-holds : tie.Need-loop-holds Inv-loop μ-loop
 loop-holds c = turns-start _ _ (c .before .before .before .pre .1 .0)
@@ -61,10 +59,10 @@ same-length c = search needs
 
 returns : tie.Need-returns Inv-loop μ-loop
 returns c =
-    refused-reads (turns-refuse (c .before .before .before .before .before .before .loop .inv) (c .before .before .before .before .before .loop-test .taken) _ (sym (c .before .before .before .judge .ensures) ∙ c .before .refusal .given .1))
+    refused-reads (turns-refuse (c .before .before .before .before .before .before .loop .inv) (c .before .before .before .before .before .loop-test .taken) _ (c .before .before .before .judge .ensures .refused _ (c .before .refusal .given .1)))
 
-enum-known-node : tie.Need-enum-known-node Inv-loop μ-loop
-enum-known-node c = search needs
+enum-known-b : tie.Need-enum-known-b Inv-loop μ-loop
+enum-known-b c = search needs
 
 cast-here : tie.Need-cast-here Inv-loop μ-loop
 cast-here c = search needs
@@ -74,28 +72,25 @@ mul-chain c = search needs
 
 array-write-chain : tie.Need-array-write-chain Inv-loop μ-loop
 array-write-chain c =
-    let h : c .before .node .given .0 .0 .depth ≤ maxDepth = next-line c .deep in
+    let h : c .before .b .given .0 .0 .depth ≤ maxDepth = next-line c .deep in
     omega arith
 
-figures-requires : tie.Need-figures-requires Inv-loop μ-loop
-figures-requires c κs = search needs
-
 keep-at-requires : tie.Need-keep-at-requires Inv-loop μ-loop
-keep-at-requires c κs = omega (arith, next-line (c .before .before) .few)
+keep-at-requires c κs = let l = next-line (c .before) in (omega (arith, l .few), (l .deep, l .known))
 
 add-n : tie.Need-add-n Inv-loop μ-loop
-add-n c = record { fits = omega (arith, c .before .before .before .before .before .before .before .before .before .before .before .loop .inv .few, c .before .before .before .before .before .before .before .before .before .before .before .before .before .before .before .pre .1 .0 .few) }
+add-n c = record { fits = omega (arith, c .before .before .before .before .before .before .before .before .before .before .loop .inv .few, c .before .before .before .before .before .before .before .before .before .before .before .before .before .before .pre .1 .0 .few) }
 
 loop-less : tie.Need-loop-less Inv-loop μ-loop
 loop-less c =
-    let l = next-line (c .before .before .before .before .before) in
+    let l = next-line (c .before .before .before .before) in
     omega (arith, l .ahead, l .ends)
 
 loop-again : tie.Need-loop-again Inv-loop μ-loop
 loop-again c =
-    let w = c .before .before .before .before .before in
-    turns-more (w .before .before .before .before .before .before .loop .inv) (w .before .before .before .before .before .loop-test .taken) _ _ (sym (w .before .before .before .judge .ensures) ∙ w .before .node .given .1) (omega (arith, next-line w .few, w .before .before .before .before .before .before .before .before .before .before .pre .1 .0 .few, w .before .before .before .before .before .before .before .before .before .before .pre .1 .1))
-    (c .before .before .keep-at .kept .0) (rw (c .before .before .before .figures .ensures) at (c .before .before .keep-at .ensures))
+    let w = c .before .before .before .before in
+    turns-more (w .before .before .before .before .before .before .loop .inv) (w .before .before .before .before .before .loop-test .taken) _ (known w) _ (omega (arith, next-line w .few, w .before .before .before .before .before .before .before .before .before .before .pre .1 .0 .few, w .before .before .before .before .before .before .before .before .before .before .pre .1 .1)) (c .before .before .keep-at .kept .0)
+    (c .before .before .keep-at .ensures)
 
 mul-end : tie.Need-mul-end Inv-loop μ-loop
 mul-end c = search needs
@@ -109,7 +104,7 @@ slice-aggregate-finish c = sym (length-take-le _ _ (search needs))
 finish-requires : tie.Need-finish-requires Inv-loop μ-loop
 finish-requires c κs =
     let v = c .before .before .loop in
-    omega (arith, length-take-le (6 * v .n) (v .lines) (search needs))
+    omega (arith, length-take-le (2 * v .n) (v .lines) (search needs))
 
 same-length-2 : tie.Need-same-length-2 Inv-loop μ-loop
 same-length-2 c = search needs
@@ -134,11 +129,10 @@ read-lines-spec =
     cast-t17
     same-length
     returns
-    enum-known-node
+    enum-known-b
     cast-here
     mul-chain
     array-write-chain
-    figures-requires
     keep-at-requires
     add-n
     loop-less

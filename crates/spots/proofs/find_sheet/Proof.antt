@@ -1,23 +1,24 @@
--- `spots::find_sheet` meets its contract: a sheet has no more lines than the arrays have room for, and the slice of the widths has a place
--- for each column. Assumes nothing.
-use mathlib.Core.Path.{refl}
+-- `spots::find_sheet` meets its contract: a sheet has no more lines than the arrays have room for. Assumes nothing.
 use native.Mathlib.Omega.{arith}
 use Rattle.opening.proofs.Passing.{figures-room}
 use Rattle.finding.proofs.Openings.{asked-in}
-use Rattle.finding.proofs.LaidOut.{measured-in}
+use Rattle.finding.proofs.LaidOut.{lines-of, measured-in}
 use Rattle.spots.proofs.Read.{room-still, spot-found}
 use borrow.Author.Needs.{needs}
 use Rattle.spots.proofs.find_sheet.Statement.{statement}
 use Rattle.spots.proofs.find_sheet.Tie as tie
 
-slice-aggregate-measured-large : tie.Need-slice-aggregate-measured-large
-slice-aggregate-measured-large c = search needs
+slice-aggregate-measure-table : tie.Need-slice-aggregate-measure-table
+slice-aggregate-measure-table c = search needs
 
-slice-aggregate-measured-large-2 : tie.Need-slice-aggregate-measured-large-2
-slice-aggregate-measured-large-2 c = search needs
+slice-aggregate-measure-table-2 : tie.Need-slice-aggregate-measure-table-2
+slice-aggregate-measure-table-2 c = search needs
 
-measured-large-requires : tie.Need-measured-large-requires
-measured-large-requires c κs = (omega arith, (figures-room _ _ (omega arith), omega (arith, (c .before .before .before .before .before .before) .pre .1 .wide-room)))
+slice-aggregate-measure-table-3 : tie.Need-slice-aggregate-measure-table-3
+slice-aggregate-measure-table-3 c = search needs
+
+measure-table-requires : tie.Need-measure-table-requires
+measure-table-requires c κs = (omega arith, (figures-room _ _ (omega arith), omega arith))
 
 slice-aggregate-find-read : tie.Need-slice-aggregate-find-read
 slice-aggregate-find-read c = search needs
@@ -26,7 +27,7 @@ slice-aggregate-find-read-2 : tie.Need-slice-aggregate-find-read-2
 slice-aggregate-find-read-2 c = search needs
 
 find-read-requires : tie.Need-find-read-requires
-find-read-requires c κs = let m = (c .before .before .before .before .before .before .before .before) .measured-large in (asked-in (m .ensures .opened) (omega arith), (measured-in (m .ensures) (figures-room _ _ (omega arith)), ((c .before .before .before .before .before .before .before .before .before .before .before .before .before .before .before) .pre .0, room-still refl (m .kept .1 .1 .1 .1 .1 .0) ((c .before .before .before .before .before .before .before .before .before .before .before .before .before .before .before) .pre .1))))
+find-read-requires c κs = let m = (c .before .before .before .before .before .before .before .before .before .before .before) .measure-table in (asked-in (lines-of (m .ensures) .opened) (omega arith), (measured-in (lines-of (m .ensures)) (figures-room _ _ (omega arith)), ((c .before .before .before .before .before .before .before .before .before .before .before .before .before .before .before .before .before .before .before .before) .pre .0, room-still (m .kept .1 .1 .1 .1 .1 .1 .0) (m .kept .1 .1 .1 .1 .1 .1 .1 .0) ((c .before .before .before .before .before .before .before .before .before .before .before .before .before .before .before .before .before .before .before .before) .pre .1))))
 
 same-length : tie.Need-same-length
 same-length c = search needs
@@ -35,15 +36,16 @@ same-length-2 : tie.Need-same-length-2
 same-length-2 c = search needs
 
 returns : tie.Need-returns
-returns c = spot-found ((c .before .before .before .before .before .before .before .before .before .before .before .before .before) .measured-large .ensures) ((c .before .before .before .before) .find-read .ensures)
+returns c = spot-found (lines-of ((c .before .before .before .before .before .before .before .before .before .before .before .before .before .before .before .before) .measure-table .ensures)) ((c .before .before .before .before) .find-read .ensures)
 
 pub find-sheet-spec : {M : Type 1} → statement M
 find-sheet-spec =
     tie.close
     (tie.spec
-    slice-aggregate-measured-large
-    slice-aggregate-measured-large-2
-    measured-large-requires
+    slice-aggregate-measure-table
+    slice-aggregate-measure-table-2
+    slice-aggregate-measure-table-3
+    measure-table-requires
     slice-aggregate-find-read
     slice-aggregate-find-read-2
     find-read-requires

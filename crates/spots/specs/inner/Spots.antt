@@ -15,7 +15,6 @@ use Rattle.sheet.specs.declared.Reading.the-variants.{Lines, Refused as NotRead
 use Rattle.columns.specs.Boxes.{Box}
 use Rattle.cells.specs.Listed.{tableRows}
 use Rattle.grid.specs.Grid.{GridRow, gridOf, columnsOf}
-use Rattle.estimates.specs.Estimates.{estimates}
 use Rattle.gridding.specs.Packed.{endedRows}
 use Rattle.widths.specs.declared.Way.{Way}
 use Rattle.placing.specs.Place.{placeRow}
@@ -53,7 +52,7 @@ pub record SpotTold (columns : ℕ) (g : List GridRow) (rows : List (List Box)) 
   pub told : RowsTold (wayIn columns rows raw width) (widthsIn columns rows raw width) width g rows x wide
 
 pub record SpotMade (ks : List Kept) (line : ℕ) (figures : List Estimate) (raw width row : ℕ) (r : Spot) (x wide : List ℕ) : Type 0 where
-  pub made : (wrap : ℕ) → take (length ks) figures ≡ estimates wrap ks
+  pub made : (wrap : ℕ) → table.CellsAre wrap ks (line - 1) figures
       → SpotTold (columnsOf (tableRows ks (line - 1))) (gridOf (tableRows ks (line - 1))) (table.boxesAt wrap ks (line - 1)) raw width row r x wide
 
 -- the refusal handed up, or that of the lines that were read

@@ -15,11 +15,10 @@ use Rattle.cells.specs.Listed.{tableRows}
 use Rattle.grid.specs.Grid.{shownLine, firstOf, spanOf, rowLine, gridOf, columnsOf, entriesOf, rowEnds}
 use Rattle.grid.specs.Facts.{Sound}
 use Rattle.grid.specs.Judging.{Lined}
-use Rattle.estimates.specs.Estimates.{estimates}
 use Rattle.gridding.specs.declared.Counts.{Counts}
-use Rattle.judge.specs.Places.{Nests}
+use Rattle.grid_bounds.specs.Sheets.{Nests}
 use Rattle.table.specs.Laying.{LaidTable}
-use Rattle.table.specs.Arranging.{boxesAt}
+use Rattle.table.specs.Arranging.{CellsAre, boxesAt}
 use Rattle.table.specs.declared.Arrangement.{Arrangement}
 
 -- a line that is a table of an accepted sheet
@@ -102,7 +101,7 @@ pub record LayoutMade (ks : List Kept) (line : ℕ) (figures : List Estimate) (r
   pub columns-are : r .counts .columns ≡ columnsOf (tableRows ks (line - 1))
   pub few-columns : columnsOf (tableRows ks (line - 1)) ≤ maxPosition
   pub few-entries : length (entriesOf (gridOf (tableRows ks (line - 1)))) ≤ maxEntries
-  pub laid : (wrap : ℕ) → take (length ks) figures ≡ estimates wrap ks
+  pub laid : (wrap : ℕ) → CellsAre wrap ks (line - 1) figures
       → LaidTable (columnsOf (tableRows ks (line - 1))) (boxesAt wrap ks (line - 1)) raw width
       (take (columnsOf (tableRows ks (line - 1))) column)
       (take (length (entriesOf (gridOf (tableRows ks (line - 1))))) x)

@@ -1,10 +1,10 @@
 // The grid of one table, written to the lent buffers.
 ghost use Prim.Native.Nat.{_-_};
+ghost use Rattle.lists.specs.Sizes.{smallLines};
 ghost use Rattle.records.specs.Kept.{keptsOf, entriesOf, rowsOf};
 ghost use Rattle.cells.specs.Listed.{tableRows};
-ghost use Rattle.judge.specs.inner.Keeping.{Sparse};
+ghost use Rattle.grid_bounds.specs.Sheets.{Suffice};
 ghost use Rattle.table.specs.inner.Fitting.{Asked, GridRoom, GridFits, GridTold, GridMade};
-use super::FEW_ENTRIES;
 use gridding::Counts;
 use lists::MAX_ENTRIES;
 use lists::MAX_LINES;
@@ -33,7 +33,7 @@ fn tell_grid(
     records::unpack(rows, 2, 1, r, row_end);
 }
 
-// The grid of a table of a sheet whose tables have few entries.
+// The grid of a table of a small sheet.
 fn grid_few(
     line: u32,
     lines: &[u32],
@@ -44,12 +44,12 @@ fn grid_few(
     row_end: &mut [u32],
 ) -> Counts
     requires { ⌜ Asked (keptsOf (now lines)) line ⌝ }
-    requires { ⌜ Sparse 512 (keptsOf (now lines)) ⌝ }
+    requires { ⌜ Suffice smallLines smallLines (keptsOf (now lines)) ⌝ }
     requires { ⌜ GridRoom (now cell) (now first) (now span) (now row) (now «row_end») ⌝ }
     ensures { λ r. ⌜ GridMade (tableRows (keptsOf (now (lines .entry))) (line - 1)) r
         (now (cell .exit)) (now (first .exit)) (now (span .exit)) (now (row .exit)) (now («row_end» .exit)) ⌝ }
 {
-    let mut entries = [0u32; 3 * FEW_ENTRIES];
+    let mut entries = [0u32; 3 * SMALL_LINES];
     let mut rows = [0u32; 2 * SMALL_LINES];
     let at = (line - 1) as usize;
     let counts = gridding::make_sound(lines, at, &mut entries, &mut rows);
@@ -115,7 +115,7 @@ pub fn grid(
     ensures { λ r. ⌜ GridMade (tableRows (keptsOf (now (lines .entry))) (line - 1)) r
         (now (cell .exit)) (now (first .exit)) (now (span .exit)) (now (row .exit)) (now («row_end» .exit)) ⌝ }
 {
-    if judge::is_sparse(lines, 512) {
+    if grid_bounds::whole::suffice(lines, SMALL_LINES, SMALL_LINES) {
         return grid_few(line, lines, cell, first, span, row, row_end);
     }
     grid_many(line, lines, cell, first, span, row, row_end)

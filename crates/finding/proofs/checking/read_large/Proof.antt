@@ -1,6 +1,5 @@
 -- `finding::checking::read_large` meets its contract: a sheet has no more lines than the arrays have room for. Assumes nothing.
 use native.Mathlib.Omega.{arith}
-use Rattle.opening.proofs.Passing.{places-room}
 use borrow.Author.Needs.{needs}
 use Rattle.finding.proofs.checking.read_large.Statement.{statement}
 use Rattle.finding.proofs.checking.read_large.Tie as tie
@@ -12,7 +11,7 @@ slice-aggregate-open-sheet-2 : tie.Need-slice-aggregate-open-sheet-2
 slice-aggregate-open-sheet-2 c = search needs
 
 open-sheet-requires : tie.Need-open-sheet-requires
-open-sheet-requires c κs = (omega arith, places-room _ _ (omega arith))
+open-sheet-requires c κs = (omega arith, omega arith)
 
 returns : tie.Need-returns
 returns c = search needs

@@ -1,6 +1,5 @@
 -- `finding::grids::grid_small` meets its contract: a sheet has no more lines than short arrays have room for. Assumes nothing.
 use native.Mathlib.Omega.{arith}
-use Rattle.opening.proofs.Passing.{places-room}
 use Rattle.finding.proofs.Openings.{opened-at, asked-in}
 use Rattle.finding.proofs.GridFound.{grid-found}
 use borrow.Author.Needs.{needs}
@@ -14,7 +13,7 @@ slice-aggregate-open-sheet-2 : tie.Need-slice-aggregate-open-sheet-2
 slice-aggregate-open-sheet-2 c = search needs
 
 open-sheet-requires : tie.Need-open-sheet-requires
-open-sheet-requires c κs = (omega arith, places-room _ _ (omega arith))
+open-sheet-requires c κs = (omega arith, omega arith)
 
 slice-aggregate-grid-of : tie.Need-slice-aggregate-grid-of
 slice-aggregate-grid-of c = search needs

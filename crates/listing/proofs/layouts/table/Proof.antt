@@ -2,6 +2,7 @@
 -- few columns. Assumes nothing.
 use native.Mathlib.Omega.{arith}
 use Rattle.listing.proofs.Ready.{table-ready, layout-room, few-columns}
+use Rattle.table.proofs.Grids.{all-table}
 use borrow.Author.Needs.{needs}
 use Rattle.listing.proofs.layouts.table.Statement.{statement}
 use Rattle.listing.proofs.layouts.table.Tie as tie
@@ -10,7 +11,7 @@ arrange-requires : tie.Need-arrange-requires
 arrange-requires c κs =
     let pre = (c .before .before .before .before .before .before .before .before .before .before .before .before .before) .pre in (
       table-ready (pre .1 .1 .0) (pre .1 .0) (pre .1 .1 .1),
-      (pre .1 .1 .0 .measured, layout-room (pre .1 .1 .0) (pre .1 .0) (pre .1 .1 .1)),
+      (all-table _ (pre .1 .1 .0 .measured), layout-room (pre .1 .1 .0) (pre .1 .0) (pre .1 .1 .1)),
     )
 
 cast-columns : tie.Need-cast-columns

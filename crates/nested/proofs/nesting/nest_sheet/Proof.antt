@@ -1,5 +1,6 @@
 -- `nested::nesting::nest_sheet` meets its contract: a sheet has no more lines than the arrays have room for, and the buffer of the columns a place for each.
 -- Assumes nothing.
+use mathlib.Core.Path.{refl}
 use native.Mathlib.Omega.{arith}
 use Rattle.opening.proofs.Passing.{places-room, figures-room}
 use Rattle.finding.proofs.LaidOut.{out-still}
@@ -36,7 +37,7 @@ nest-read-requires : tie.Need-nest-read-requires
 nest-read-requires c κs =
     let s = (c .before .before .before .before .before .before .before .before .before .before .before .before .before .before .before .before .before .before .before .before .before) in
     let w = (c .before .before .before .before .before .before .before .before .before .before .before .before) .walk-sheet in
-    (nest-asked (w .ensures) (omega arith), (nest-measured (w .ensures) (figures-room _ _ (omega arith)), ((s .pre .0 .0, width-small (w .ensures) _ ((c .before .before .before .before .before) .width-for .ensures)), out-still (w .kept .1 .1 .1 .1 .1 .1 .1 .1 .1 .1 .0) (s .pre .1))))
+    (nest-asked (w .ensures) (omega arith), (nest-measured (w .ensures) (figures-room _ _ (omega arith)), ((s .pre .0 .0, width-small (w .ensures) _ ((c .before .before .before .before .before) .width-for .ensures)), out-still (w .kept .1 .1 .1 .1 .1 .1 .1 .1 .1 .1 .0) refl refl (s .pre .1))))
 
 same-length : tie.Need-same-length
 same-length c = search needs

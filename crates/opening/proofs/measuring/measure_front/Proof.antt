@@ -1,4 +1,4 @@
--- `opening::measuring::measure_front` meets its contract: the first n records stand in the first 6 * n places. Assumes nothing.
+-- `opening::measuring::measure_front` meets its contract: the first n records stand in the first 2 * n places. Assumes nothing.
 use mathlib.Core.Path.{sym}
 use native.Mathlib.Omega.{arith}
 use lib.Seq.{length-take-le}
@@ -10,11 +10,11 @@ use Rattle.opening.proofs.measuring.measure_front.Tie as tie
 mul-end : tie.Need-mul-end
 mul-end c = search needs
 
-slice-aggregate-measure : tie.Need-slice-aggregate-measure
-slice-aggregate-measure c = sym (length-take-le _ _ (omega (arith, (c .before .before .before .before .before) .pre .0)))
+slice-aggregate-measure-lines : tie.Need-slice-aggregate-measure-lines
+slice-aggregate-measure-lines c = sym (length-take-le _ _ (omega (arith, (c .before .before .before .before .before .before) .pre .0)))
 
-measure-requires : tie.Need-measure-requires
-measure-requires c κs = rw (kepts-take ((c .before .before .before .before .before .before .before) .args .lines .now) ((c .before .before .before .before .before .before .before) .args .n) ((c .before .before .before .before .before .before .before) .pre .0)) ((c .before .before .before .before .before .before .before) .pre .1 .1 .lent _ ((c .before .before .before .before .before .before .before) .pre .1 .0))
+measure-lines-requires : tie.Need-measure-lines-requires
+measure-lines-requires c κs = rw (kepts-take ((c .before .before .before .before .before .before .before .before .before .before) .args .lines .now) ((c .before .before .before .before .before .before .before .before .before .before) .args .n) ((c .before .before .before .before .before .before .before .before .before .before) .pre .0)) ((c .before .before .before .before .before .before .before .before .before .before) .pre .1)
 
 same-length : tie.Need-same-length
 same-length c = search needs
@@ -22,10 +22,24 @@ same-length c = search needs
 same-length-2 : tie.Need-same-length-2
 same-length-2 c = search needs
 
+same-length-3 : tie.Need-same-length-3
+same-length-3 c = search needs
+
+same-length-4 : tie.Need-same-length-4
+same-length-4 c = search needs
+
 returns : tie.Need-returns
-returns c = rw (kepts-take ((c .before .before .before .before .before .before .before .before .before .before .before .before) .args .lines .now) ((c .before .before .before .before .before .before .before .before .before .before .before .before) .args .n) ((c .before .before .before .before .before .before .before .before .before .before .before .before) .pre .0)) at ((c .before .before .before .before) .measure .ensures)
+returns c = rw (kepts-take ((c .before .before .before .before .before .before .before .before .before .before .before .before .before .before .before .before .before .before .before) .args .lines .now) ((c .before .before .before .before .before .before .before .before .before .before .before .before .before .before .before .before .before .before .before) .args .n) ((c .before .before .before .before .before .before .before .before .before .before .before .before .before .before .before .before .before .before .before) .pre .0)) at ((c .before .before .before .before .before .before .before .before) .measure-lines .ensures)
 
 pub measure-front-spec : {M : Type 1} → statement M
 measure-front-spec =
     tie.close
-    (tie.spec mul-end slice-aggregate-measure measure-requires same-length same-length-2 returns)
+    (tie.spec
+    mul-end
+    slice-aggregate-measure-lines
+    measure-lines-requires
+    same-length
+    same-length-2
+    same-length-3
+    same-length-4
+    returns)

@@ -1,7 +1,6 @@
 -- `opening::measuring::measure_sheet` meets its contract: an opened sheet can be measured, in slices that are as long as they were. Assumes nothing.
 use native.Mathlib.Omega.{arith}
-use Rattle.judge.proofs.JudgeLoop.{places-still}
-use Rattle.opening.proofs.Measurable.{front-measurable, sheet-refused, sheet-measured}
+use Rattle.opening.proofs.Measurable.{sheet-in, front-measurable, sheet-refused, sheet-measured}
 use borrow.Author.Needs.{needs}
 use Rattle.opening.proofs.measuring.measure_sheet.Statement.{statement}
 use Rattle.opening.proofs.measuring.measure_sheet.Tie as tie
@@ -17,10 +16,10 @@ enum-known-n c = search needs
 
 measure-front-requires : tie.Need-measure-front-requires
 measure-front-requires c κs =
-    let s = (c .before .before .before .before .before .before .before .before .before .before .before .before .before .before .before .before .before .before .before) .pre in
-    let o = (c .before .before .before .before .before .before .before .before .before .before .before) .open-sheet in
-    let m = front-measurable (o .ensures) _ ((c .before .before .before .before .before) .n .given .1) (omega (arith, s .0, o .kept .1 .1 .1 .0)) (places-still _ _ (o .kept .1 .1 .1 .1 .0) (s .1 .0)) (s .1 .1 .0) in
-    (m .0, (s .1 .1 .1, m .1))
+    let s = (c .before .before .before .before .before .before .before .before .before .before .before .before .before .before .before .before .before .before .before .before .before) .pre in
+    let o = (c .before .before .before .before .before .before .before .before .before .before .before .before) .open-sheet in
+    let m = front-measurable (o .ensures) _ ((c .before .before .before .before .before .before) .n .given .1) (omega (arith, s .0, o .kept .1 .1 .1 .0)) (s .1 .0) in
+    (m .0, (m .1, (sheet-in _, omega (arith, s .1 .1, o .kept .1 .1 .1 .1 .0))))
 
 same-length : tie.Need-same-length
 same-length c = search needs
@@ -43,8 +42,11 @@ same-length-5 c = search needs
 same-length-6 : tie.Need-same-length-6
 same-length-6 c = search needs
 
+same-length-7 : tie.Need-same-length-7
+same-length-7 c = search needs
+
 returns-2 : tie.Need-returns-2
-returns-2 c = sheet-measured ((c .before .before .before .before .before .before .before .before .before .before .before .before .before .before .before .before) .open-sheet .ensures) _ ((c .before .before .before .before .before .before .before .before .before .before) .n .given .1) ((c .before .before .before .before) .measure-front .ensures)
+returns-2 c = sheet-measured ((c .before .before .before .before .before .before .before .before .before .before .before .before .before .before .before .before .before .before .before .before .before) .open-sheet .ensures) _ ((c .before .before .before .before .before .before .before .before .before .before .before .before .before .before .before) .n .given .1) ((c .before .before .before .before .before .before .before .before) .measure-front .ensures)
 
 pub measure-sheet-spec : {M : Type 1} → statement M
 measure-sheet-spec =
@@ -61,4 +63,5 @@ measure-sheet-spec =
     same-length-4
     same-length-5
     same-length-6
+    same-length-7
     returns-2)

@@ -5,6 +5,7 @@ use native.Mathlib.Omega.{arith}
 use Rattle.records.specs.declared.Kept.{Kept}
 use Rattle.records.proofs.Kepts.{length-kepts}
 use Rattle.walking.proofs.HandOut.{table-ready, layout-room, small-here, cells-fit, cells-room, wides-room, handed, handed-at, handed-other, handed-none}
+use Rattle.table.proofs.Grids.{all-table}
 use borrow.Author.Needs.{needs}
 use Rattle.walking.proofs.giving.hand_out.Statement.{statement}
 use Rattle.walking.proofs.giving.hand_out.Tie as tie
@@ -30,7 +31,7 @@ arrange-requires c κs =
     let kind = sym (ap (λ (k : Kept). k .kind) ((c .before .before .before .before .before .before .before .before .before .before) .kept-at .ensures)) ∙ (c .before .before .before .before .before .before .before .before) .if1 .left in
     let within = s .pre .1 .0 .within in
     let rooms = s .pre .1 .1 .1 in
-    (table-ready (s .pre .0) within kind rooms, (s .pre .0 .measured, layout-room (s .pre .0) within kind rooms (small-here ((c .before .before .before .before .before .before) .width .given .1) (s .pre .1 .0))))
+    (table-ready (s .pre .0) within kind rooms, (all-table _ (s .pre .0 .measured), layout-room (s .pre .0) within kind rooms (small-here ((c .before .before .before .before .before .before) .width .given .1) (s .pre .1 .0))))
 
 print-cells-requires : tie.Need-print-cells-requires
 print-cells-requires c κs =

@@ -1,13 +1,13 @@
--- `table::fitting::grids::grid` meets its contract: short arrays do for a sparse sheet. Assumes nothing.
+-- `table::fitting::grids::grid` meets its contract: short arrays suffice for a small sheet. Assumes nothing.
 use borrow.Author.Needs.{needs}
 use Rattle.table.proofs.fitting.grids.grid.Statement.{statement}
 use Rattle.table.proofs.fitting.grids.grid.Tie as tie
 
-is-sparse-requires : tie.Need-is-sparse-requires
-is-sparse-requires c κs = search needs
+suffice-requires : tie.Need-suffice-requires
+suffice-requires c κs = search needs
 
 grid-few-requires : tie.Need-grid-few-requires
-grid-few-requires c κs = ((c .before .before .before .before .before .before .before .before .before .before .before .before .before) .pre .0, ((c .before .before .before .before .before .before) .is-sparse .ensures ((c .before .before .before .before .before) .if1 .taken), (c .before .before .before .before .before .before .before .before .before .before .before .before .before) .pre .1))
+grid-few-requires c κs = ((c .before .before .before .before .before .before .before .before .before .before .before .before .before) .pre .0, ((c .before .before .before .before .before .before) .suffice .ensures ((c .before .before .before .before .before) .if1 .taken), (c .before .before .before .before .before .before .before .before .before .before .before .before .before) .pre .1))
 
 same-length : tie.Need-same-length
 same-length c = search needs
@@ -52,7 +52,7 @@ pub grid-spec : {M : Type 1} → statement M
 grid-spec =
     tie.close
     (tie.spec
-    is-sparse-requires
+    suffice-requires
     grid-few-requires
     same-length
     same-length-2

@@ -1,13 +1,13 @@
--- `table::fitting::layouts::layout` meets its contract: short arrays do for a sparse sheet. Assumes nothing.
+-- `table::fitting::layouts::layout` meets its contract: short arrays suffice for a small sheet. Assumes nothing.
 use borrow.Author.Needs.{needs}
 use Rattle.table.proofs.fitting.layouts.layout.Statement.{statement}
 use Rattle.table.proofs.fitting.layouts.layout.Tie as tie
 
-is-sparse-requires : tie.Need-is-sparse-requires
-is-sparse-requires c κs = search needs
+suffice-requires : tie.Need-suffice-requires
+suffice-requires c κs = search needs
 
 layout-few-requires : tie.Need-layout-few-requires
-layout-few-requires c κs = ((c .before .before .before .before .before .before .before .before .before .before) .pre .0, ((c .before .before .before .before .before .before .before .before .before .before) .pre .1 .0, ((c .before .before .before .before) .is-sparse .ensures ((c .before .before .before) .if1 .taken), (c .before .before .before .before .before .before .before .before .before .before) .pre .1 .1)))
+layout-few-requires c κs = ((c .before .before .before .before .before .before .before .before .before .before) .pre .0, ((c .before .before .before .before .before .before .before .before .before .before) .pre .1 .0, ((c .before .before .before .before) .suffice .ensures ((c .before .before .before) .if1 .taken), (c .before .before .before .before .before .before .before .before .before .before) .pre .1 .1)))
 
 same-length : tie.Need-same-length
 same-length c = search needs
@@ -40,7 +40,7 @@ pub layout-spec : {M : Type 1} → statement M
 layout-spec =
     tie.close
     (tie.spec
-    is-sparse-requires
+    suffice-requires
     layout-few-requires
     same-length
     same-length-2
