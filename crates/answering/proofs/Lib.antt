@@ -1,2 +1,1 @@
--- What the functions that print a sheet's answers need of its records.
-pub mod Fronts
+-- The proofs of this crate need no laws of their own.

@@ -1,13 +1,14 @@
 // What the public calls answer for an input, which holds settings and a sheet, so that a program can print it: the layouts as `layout` prints
 // them, the estimates of all lines and each table's grid. The format is our own: the Rust has no counterpart.
-mod grids; // grids.rt: a grid by the public call, as records
-pub mod calls; // calls.rt: how each table is laid out
-pub mod figures; // figures.rt: the estimates of all lines, and each table's grid
+mod calls; // calls.rt: what the calls answer of a sheet and of each table
 
 ghost use Prim.Native.Nat.{_≤_};
 ghost use Rattle.lists.specs.Limits.{maxLines};
 ghost use Rattle.records.specs.Kept.{keptCount};
 ghost use Rattle.writing.specs.Writing.{Place};
+use calls::Part;
+use calls::all_tables;
+use calls::estimates;
 use lists::MAX_LINES;
 use lists::Verdict;
 use settings::Given;
@@ -33,9 +34,9 @@ fn listed(out: &mut [u8], at: usize, sheet: &[u8], kept: &[u32], n: usize, given
     requires { ⌜ (n ≤ maxLines) × (n ≤ keptCount (now kept)) ⌝ }
     ensures { λ r. ⌜ Place (now (out .exit)) r ⌝ }
 {
-    let end = records::WIDTH * n;
-    let next = calls::layouts(out, at, sheet, &kept[..end], given);
-    figures::figures(out, next, sheet, &kept[..end], given.wrap)
+    let at_estimates = all_tables(out, at, sheet, kept, n, given, Part::Layout);
+    let next = estimates(out, at_estimates, sheet, given.wrap);
+    all_tables(out, next, sheet, kept, n, given, Part::Grid)
 }
 
 // The same, with the lines read.
@@ -53,7 +54,7 @@ fn checked(out: &mut [u8], at: usize, sheet: &[u8], given: Given) -> usize
     requires { ⌜ Place (now out) at ⌝ }
     ensures { λ r. ⌜ Place (now (out .exit)) r ⌝ }
 {
-    match tables::check(sheet) {
+    match call_estimates::check(sheet) {
         Verdict::Accepted => accepted(out, at, sheet, given),
         Verdict::Refused { number, line } => refusal(out, at, number, line),
     }

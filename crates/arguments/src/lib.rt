@@ -8,6 +8,14 @@ ghost use Rattle.arguments.specs.Arguments.{anyShorter, estimatesArgumen
 ghost use Rattle.lists.specs.Refusals.{verdictOf};
 use lists::Verdict;
 
+// The settings of a call. Those that a call does not have are 0.
+pub struct Settings {
+    pub wrap: u32,
+    pub raw: u32,
+    pub width: u32,
+    pub overflow: u32,
+}
+
 // Whether one of three is below n.
 fn any_below(a: usize, b: usize, c: usize, n: usize) -> bool
     ensures { λ r. ⌜ r ≡ anyShorter n (a ∷ b ∷ c ∷ []) ⌝ }

@@ -21,7 +21,7 @@ use Rattle.grid.specs.Grid.{entry, endsOf, entriesFrom, longest, gridOf, column
 use Rattle.cutting.specs.Cut.{pick, cutOnce, cutBy, cut}
 use Rattle.widths.specs.Share.{share, sharesOf}
 use Rattle.widths.specs.Widths.{wayOf, finalWidths, nonzero, tableWidth}
-use Rattle.widths.specs.declared.Way.the-variants.{Sideways, Down}
+use Rattle.answers.specs.declared.Way.the-variants.{Sideways, Down}
 
 -- " a  b ", wrap 3: 4,3
 pub text-inner-run : measureOf (word " a  b ") 3 false ≡ Figures (record { size = 4; least = 3; prefix = 0 })

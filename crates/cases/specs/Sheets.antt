@@ -36,10 +36,10 @@ use Rattle.widths.specs.Share.{share, sharesOf}
 use Rattle.widths.specs.Widths.{wayOf, finalWidths, nonzero, tableWidth}
 use Rattle.placing.specs.Place.{at, placeSide, placeDown, placeRow, placeRows}
 use Rattle.lists.specs.declared.Verdict.the-variants.{Accepted, Refused}
-use Rattle.widths.specs.declared.Way.the-variants.{Sideways, Down}
+use Rattle.answers.specs.declared.Way.the-variants.{Sideways, Down}
 use Rattle.opening.specs.Opening.{keptLines}
-use Rattle.finding.specs.Figures.{columnsAt, wayAt, widthsAt, widthAt, placesAt}
-use Rattle.tables.specs.Calls.{checkChecks}
+use Rattle.sheet_figures.specs.Figures.{columnsAt, wayAt, widthsAt, widthAt, placesAt}
+use Rattle.sheet_figures.specs.Calls.{checkChecks}
 
 -- a text as a line of a sheet
 abbrev line : String → List ℕ

@@ -10,7 +10,7 @@ use Rattle.text.specs.declared.Estimate.{Estimate}
 use Rattle.records.specs.declared.Entry.{Entry}
 use Rattle.columns.specs.Columns.{upTo}
 use Rattle.widths.specs.Widths.{finalWidths}
-use Rattle.widths.specs.declared.Way.{Way}
+use Rattle.answers.specs.declared.Way.{Way}
 use Rattle.widths.specs.declared.Laid.{Laid}
 use Rattle.sizing.specs.Sizing.{sizesIn, leastsIn}
 use Rattle.sizing.specs.inner.Room.{Entered}

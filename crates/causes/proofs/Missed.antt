@@ -20,8 +20,8 @@ use Rattle.columns.proofs.Upto.{length-upTo, at-upTo}
 use Rattle.cutting.specs.Cut as cut
 use Rattle.widths.specs.Share.{shares}
 use Rattle.widths.specs.Widths.{wayOf, finalWidths}
-use Rattle.widths.specs.declared.Way.{Way}
-use Rattle.widths.specs.declared.Way.the-variants.{Sideways, Down}
+use Rattle.answers.specs.declared.Way.{Way}
+use Rattle.answers.specs.declared.Way.the-variants.{Sideways, Down}
 use Rattle.widths.proofs.Whole.{way-raw, way-zero}
 use Rattle.widths.proofs.Laying.{final-down, length-final}
 use Rattle.placing.specs.Place.{Placed, at, across, placeDown, placeRow, placeRows}

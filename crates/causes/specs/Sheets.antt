@@ -2,7 +2,7 @@
 -- These are definitions; nothing is assumed.
 use mathlib.Core.List.{List}
 use Prim.Native.Nat.{ℕ}
-use Rattle.finding.specs.Figures.{sizesAt, leastsAt, widthsAt, placesAt}
+use Rattle.sheet_figures.specs.Figures.{sizesAt, leastsAt, widthsAt, placesAt}
 use Rattle.causes.specs.Causes.{causes, missingFrom}
 
 -- the number of each column's cause

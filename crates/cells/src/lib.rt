@@ -1,15 +1,16 @@
 // The cells of a table as they are written, row by row and body by body, what a colspan of 0 becomes, and where a rowspan ends.
+use records::Row;
 ghost use mathlib.Core.Path.{_≡_};
 ghost use mathlib.Core.Bool.{cond};
-ghost use mathlib.Core.List.{map};
-ghost use lib.ListN.{getD};
+ghost use lib.ListN.{length, getD, set};
 ghost use lib.Dec.{ltb, eqb};
-ghost use Prim.Native.Nat.{_<_};
+ghost use Prim.Native.Nat.{_+_, _<_, _/_};
 ghost use Rattle.lists.specs.Limits.{maxLines};
 ghost use Rattle.records.specs.Kept.{keptsOf, noKept};
-ghost use Rattle.cells.specs.Cells.{rowSum, resolveCell, fillBody, taken};
-ghost use Rattle.cells.specs.Listed.{cellCols, tableRows, ListingReady, TableListed};
-ghost use Rattle.cells.specs.Spans.{bare, rowsAt, Narrow, BodyHeld, LargestSum, WrittenBack, RowsHeld, CutBack, BodyDone};
+ghost use Rattle.cells.specs.Cells.{rowSum, taken};
+ghost use Rattle.cells.specs.Listed.{tableRows, ListingReady, TableListed};
+ghost use Rattle.cells.specs.Held.{noCell, cellsOf, linesOf, spansOf, rowspansOf, rowLinesOf, rowEndsOf};
+ghost use Rattle.cells.specs.Spans.{bare, part, rowsAt, Narrow, BodyHeld, LargestSum, RowsHeld, RowEnded, RowResolved, BodyRows, BodyResolved};
 
 // How many cells and rows a table has.
 pub struct Listed {
@@ -17,15 +18,58 @@ pub struct Listed {
     pub rows: usize,
 }
 
+// A cell of a table: its line, the columns that it spans, and the rows that it takes.
+pub struct Cell {
+    pub line: u32,
+    pub span: u32,
+    pub rows: u32,
+}
+
+pub fn cell_at(cells: &[u32], i: usize) -> Cell
+    requires { ⌜ i < length (now cells) / 3 ⌝ }
+    ensures { λ r. ⌜ r ≡ getD (cellsOf (now (cells .entry))) i noCell ⌝ }
+{
+    let at = 3 * i;
+    Cell {
+        line: cells[at],
+        span: cells[at + 1],
+        rows: cells[at + 2],
+    }
+}
+
+pub fn put_cell(cells: &mut [u32], i: usize, c: Cell)
+    requires { ⌜ i < length (now cells) / 3 ⌝ }
+    ensures { λ _. ⌜ cellsOf (now (cells .exit)) ≡ set (cellsOf (now (cells .entry))) i c ⌝ }
+{
+    let at = 3 * i;
+    cells[at] = c.line;
+    cells[at + 1] = c.span;
+    cells[at + 2] = c.rows;
+}
+
+// Writes where row i ends; its line stays.
+pub fn end_row(rows: &mut [u32], i: usize, end: u32)
+    requires { ⌜ i < length (now rows) / 2 ⌝ }
+    ensures { λ _. ⌜ RowEnded i end (rowLinesOf (now (rows .entry))) (rowEndsOf (now (rows .entry))) (rowLinesOf (now (rows .exit))) (rowEndsOf (now (rows .exit))) ⌝ }
+{
+    let row = records::row_at(rows, i);
+    let ended = Row {
+        line: row.line,
+        end: end,
+    };
+    records::put_row(rows, i, ended);
+}
+
 // A row's sum: every cell's cols, 0 as 1. It is the sum in `num_columns` of `tbody_to_render_tree`.
-fn row_sum(spans: &[u32]) -> u32
-    requires { ⌜ Narrow (now spans) ⌝ }
-    ensures { λ r. ⌜ r ≡ rowSum (bare (now (spans .entry))) ⌝ }
+fn row_sum(cells: &[u32]) -> u32
+    requires { ⌜ Narrow (spansOf (now cells)) ⌝ }
+    ensures { λ r. ⌜ r ≡ rowSum (bare (spansOf (now (cells .entry)))) ⌝ }
 {
     let mut sum: u32 = 0;
     let mut i = 0;
-    while i < spans.len() {
-        sum += lists::larger(spans[i], 1);
+    while i < cells.len() / 3 {
+        let c = cell_at(cells, i);
+        sum += lists::larger(c.span, 1);
         i += 1;
     }
     sum
@@ -36,52 +80,6 @@ fn filled(cols: u32, instead: u32) -> u32
     ensures { λ r. ⌜ r ≡ cond (eqb cols 0) instead cols ⌝ }
 {
     if cols == 0 { instead } else { cols }
-}
-
-// Puts `instead` in the place of each 0 of a row.
-fn fill_zeros(spans: &mut [u32], instead: u32)
-    ensures { λ _. ⌜ now (spans .exit) ≡ map cellCols (map (resolveCell instead) (bare (now (spans .entry)))) ⌝ }
-{
-    let mut i = 0;
-    while i < spans.len() {
-        spans[i] = filled(spans[i], instead);
-        i += 1;
-    }
-}
-
-// The largest sum of a body's rows: `max_columns` of `tbody_to_render_tree`. The first row's cells begin at `first`, and each row's
-// cells end at its place in `ends`.
-fn widest_row(spans: &[u32], ends: &[u32], first: usize) -> u32
-    requires { ⌜ BodyHeld first (now ends) (now spans) ⌝ }
-    ensures { λ r. ⌜ LargestSum (rowsAt first (now (ends .entry)) (now (spans .entry))) r ⌝ }
-{
-    let mut most: u32 = 0;
-    let mut from = first;
-    let mut j = 0;
-    while j < ends.len() {
-        let to = ends[j] as usize;
-        most = lists::larger(most, row_sum(&spans[from..to]));
-        from = to;
-        j += 1;
-    }
-    most
-}
-
-// Fills the zeros of each row of a body, whose largest sum is `most`. A row's sum is added up again, since there is no place to keep it.
-fn fill_rows(spans: &mut [u32], ends: &[u32], first: usize, most: u32)
-    requires { ⌜ BodyHeld first (now ends) (now spans) ⌝ }
-    requires { ⌜ LargestSum (rowsAt first (now ends) (now spans)) most ⌝ }
-    ensures { λ _. ⌜ WrittenBack (fillBody (rowsAt first (now (ends .entry)) (now (spans .entry)))) first (now (ends .entry)) (now (spans .entry)) (now (spans .exit)) ⌝ }
-{
-    let mut from = first;
-    let mut j = 0;
-    while j < ends.len() {
-        let to = ends[j] as usize;
-        let sum = row_sum(&spans[from..to]);
-        fill_zeros(&mut spans[from..to], most - sum + 1);
-        from = to;
-        j += 1;
-    }
 }
 
 // How many rows a cell takes where `left` rows follow its own in the body: a rowspan never leaves its body, and rows 0 runs to the last row.
@@ -95,43 +93,79 @@ fn rows_within(rows: u32, left: u32) -> u32
     if left < rows { left + 1 } else { rows }
 }
 
-// Cuts the rows of a row's cells to the rows that are left.
-fn cut_row(rows: &mut [u32], left: u32)
+// Resolves a row's cells: puts `instead` in the place of each 0 of their cols, and cuts their rows to the rows that are left.
+fn resolve_row(cells: &mut [u32], instead: u32, left: u32)
     requires { ⌜ left < maxLines ⌝ }
-    ensures { λ _. ⌜ now (rows .exit) ≡ map (taken left) (now (rows .entry)) ⌝ }
+    ensures { λ _. ⌜ RowResolved instead left
+        (linesOf (now (cells .entry))) (spansOf (now (cells .entry))) (rowspansOf (now (cells .entry)))
+        (linesOf (now (cells .exit))) (spansOf (now (cells .exit))) (rowspansOf (now (cells .exit))) ⌝ }
 {
     let mut i = 0;
-    while i < rows.len() {
-        rows[i] = rows_within(rows[i], left);
+    while i < cells.len() / 3 {
+        let c = cell_at(cells, i);
+        let resolved = Cell {
+            line: c.line,
+            span: filled(c.span, instead),
+            rows: rows_within(c.rows, left),
+        };
+        put_cell(cells, i, resolved);
         i += 1;
     }
 }
 
-// Ends each rowspan of a body with the body. The first row's cells begin at `first`, and each row's cells end at its place in `ends`.
-fn cut_rows(rows: &mut [u32], ends: &[u32], first: usize)
-    requires { ⌜ RowsHeld first (now ends) (now rows) ⌝ }
-    ensures { λ _. ⌜ CutBack first (now (ends .entry)) (now (rows .entry)) (now (rows .exit)) ⌝ }
+// The largest sum of a body's rows: `max_columns` of `tbody_to_render_tree`. The first row's cells begin at `first`, and each row says where its
+// cells end.
+fn widest_row(cells: &[u32], rows: &[u32], first: usize) -> u32
+    requires { ⌜ BodyHeld first (rowEndsOf (now rows)) (spansOf (now cells)) ⌝ }
+    ensures { λ r. ⌜ LargestSum (rowsAt first (rowEndsOf (now (rows .entry))) (spansOf (now (cells .entry)))) r ⌝ }
 {
+    let mut most: u32 = 0;
     let mut from = first;
     let mut j = 0;
-    while j < ends.len() {
-        let to = ends[j] as usize;
-        let left = (ends.len() - j - 1) as u32;
-        cut_row(&mut rows[from..to], left);
+    while j < rows.len() / 2 {
+        let row = records::row_at(rows, j);
+        let to = row.end as usize;
+        most = lists::larger(most, row_sum(&cells[3 * from..3 * to]));
+        from = to;
+        j += 1;
+    }
+    most
+}
+
+// Resolves each row of a body, whose largest sum is `most`. A row's sum is added up again, since there is no place to keep it.
+fn resolve_rows(cells: &mut [u32], rows: &[u32], first: usize, most: u32)
+    requires { ⌜ BodyHeld first (rowEndsOf (now rows)) (spansOf (now cells)) ⌝ }
+    requires { ⌜ RowsHeld first (rowEndsOf (now rows)) (rowspansOf (now cells)) ⌝ }
+    requires { ⌜ LargestSum (rowsAt first (rowEndsOf (now rows)) (spansOf (now cells))) most ⌝ }
+    ensures { λ _. ⌜ BodyResolved first (rowEndsOf (now (rows .entry)))
+        (linesOf (now (cells .entry))) (spansOf (now (cells .entry))) (rowspansOf (now (cells .entry)))
+        (linesOf (now (cells .exit))) (spansOf (now (cells .exit))) (rowspansOf (now (cells .exit))) ⌝ }
+{
+    let count = rows.len() / 2;
+    let mut from = first;
+    let mut j = 0;
+    while j < count {
+        let row = records::row_at(rows, j);
+        let to = row.end as usize;
+        let sum = row_sum(&cells[3 * from..3 * to]);
+        let left = (count - j - 1) as u32;
+        resolve_row(&mut cells[3 * from..3 * to], most - sum + 1, left);
         from = to;
         j += 1;
     }
 }
 
-// Resolves the cols of a body's cells in place, as `tbody_to_render_tree` does, and then their rows.
-fn resolve_body(spans: &mut [u32], rows: &mut [u32], ends: &[u32], first: usize)
-    requires { ⌜ BodyHeld first (now ends) (now spans) ⌝ }
-    requires { ⌜ RowsHeld first (now ends) (now rows) ⌝ }
-    ensures { λ _. ⌜ BodyDone first (now (ends .entry)) (now (spans .entry)) (now (rows .entry)) (now (spans .exit)) (now (rows .exit)) ⌝ }
+// Resolves the cells of a body in place, as `tbody_to_render_tree` does: its rows are those from `from` up to `to`, and its first cell is at `first`.
+fn resolve_body(cells: &mut [u32], rows: &[u32], from: usize, to: usize, first: usize)
+    requires { ⌜ BodyRows from to (rowEndsOf (now rows)) ⌝ }
+    requires { ⌜ BodyHeld first (part from to (rowEndsOf (now rows))) (spansOf (now cells)) ⌝ }
+    requires { ⌜ RowsHeld first (part from to (rowEndsOf (now rows))) (rowspansOf (now cells)) ⌝ }
+    ensures { λ _. ⌜ BodyResolved first (part from to (rowEndsOf (now (rows .entry))))
+        (linesOf (now (cells .entry))) (spansOf (now (cells .entry))) (rowspansOf (now (cells .entry)))
+        (linesOf (now (cells .exit))) (spansOf (now (cells .exit))) (rowspansOf (now (cells .exit))) ⌝ }
 {
-    let most = widest_row(spans, ends, first);
-    fill_rows(spans, ends, first, most);
-    cut_rows(rows, ends, first);
+    let most = widest_row(cells, &rows[2 * from..2 * to], first);
+    resolve_rows(cells, &rows[2 * from..2 * to], first, most);
 }
 
 // Whether there is a line at the place i that is deeper than d.
@@ -145,21 +179,37 @@ pub fn below(lines: &[u32], i: usize, d: u32) -> bool
     false
 }
 
-// Lists the rows and the cells of the table at the place `at`, resolved: what `tr_to_render_tree` and `tbody_to_render_tree` gather. A body
-// is resolved where the next one begins, since only then its largest sum and its last row are known, and the last one where the table ends.
-pub fn list_rows(
-    lines: &[u32],
-    at: usize,
-    cell_line: &mut [u32],
-    cell_span: &mut [u32],
-    cell_rows: &mut [u32],
-    row_line: &mut [u32],
-    row_end: &mut [u32],
-) -> Listed
-    requires { ⌜ ListingReady (keptsOf (now lines)) at (now «cell_line») (now «cell_span») (now «cell_rows») (now «row_line») (now «row_end») ⌝ }
+// The row of the line at the place i, up to which there are n cells.
+fn row_of(i: usize, n: usize) -> Row
+    requires { ⌜ (i < maxLines) × (n < maxLines) ⌝ }
+    ensures { λ r. ⌜ (r .line ≡ i + 1) × (r .end ≡ n) ⌝ }
+{
+    Row {
+        line: (i + 1) as u32,
+        end: n as u32,
+    }
+}
+
+// The cell of the line at the place i.
+fn cell_of(i: usize, cols: u32, rows: u32) -> Cell
+    requires { ⌜ i < maxLines ⌝ }
+    ensures { λ r. ⌜ (r .line ≡ i + 1) × (r .span ≡ cols) × (r .rows ≡ rows) ⌝ }
+{
+    Cell {
+        line: (i + 1) as u32,
+        span: cols,
+        rows: rows,
+    }
+}
+
+// Lists the rows and the cells of the table at the place `at`, resolved: what `tr_to_render_tree` and `tbody_to_render_tree` gather. A row's
+// record says how many cells there are up to and including it. A body is resolved where the next one begins, since only then its largest sum and
+// its last row are known, and the last one where the table ends.
+pub fn list_rows(lines: &[u32], at: usize, cells: &mut [u32], rows: &mut [u32]) -> Listed
+    requires { ⌜ ListingReady (keptsOf (now lines)) at (linesOf (now cells)) (spansOf (now cells)) (rowspansOf (now cells)) (rowLinesOf (now rows)) (rowEndsOf (now rows)) ⌝ }
     ensures { λ r. ⌜ TableListed (tableRows (keptsOf (now (lines .entry))) at)
-        (now («cell_line» .entry)) (now («cell_span» .entry)) (now («cell_rows» .entry)) (now («row_line» .entry)) (now («row_end» .entry))
-        (now («cell_line» .exit)) (now («cell_span» .exit)) (now («cell_rows» .exit)) (now («row_line» .exit)) (now («row_end» .exit)) (r .cells) (r .rows) ⌝ }
+        (linesOf (now (cells .entry))) (spansOf (now (cells .entry))) (rowspansOf (now (cells .entry))) (rowLinesOf (now (rows .entry))) (rowEndsOf (now (rows .entry)))
+        (linesOf (now (cells .exit))) (spansOf (now (cells .exit))) (rowspansOf (now (cells .exit))) (rowLinesOf (now (rows .exit))) (rowEndsOf (now (rows .exit))) (r .cells) (r .rows) ⌝ }
 {
     let table = records::kept_at(lines, at);
     let d = table.depth;
@@ -173,26 +223,23 @@ pub fn list_rows(
         let line = records::kept_at(lines, i);
         let e = line.depth;
         if e == d + 1 {
-            resolve_body(cell_span, cell_rows, &row_end[first_row..r], first_cell);
+            resolve_body(cells, rows, first_row, r, first_cell);
             first_cell = n;
             first_row = r;
             i += 1;
         } else if e == d + 2 {
-            row_line[r] = (i + 1) as u32;
-            row_end[r] = n as u32;
+            records::put_row(rows, r, row_of(i, n));
             r += 1;
             i += 1;
         } else if e == d + 3 {
-            cell_line[n] = (i + 1) as u32;
-            cell_span[n] = line.cols;
-            cell_rows[n] = line.rows;
+            put_cell(cells, n, cell_of(i, line.cols, line.rows));
             n += 1;
-            row_end[r - 1] = n as u32;
+            end_row(rows, r - 1, n as u32);
             i += 1;
         } else {
             i += 1;
         }
     }
-    resolve_body(cell_span, cell_rows, &row_end[first_row..r], first_cell);
+    resolve_body(cells, rows, first_row, r, first_cell);
     Listed { cells: n, rows: r }
 }

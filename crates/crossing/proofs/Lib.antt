@@ -1,2 +1,2 @@
+-- Laws of what crosses.
 pub mod Crossing
-pub mod Never

@@ -7,27 +7,25 @@ use Rattle.lists.specs.declared.Verdict.{Verdict}
 use Rattle.lists.specs.declared.Verdict.the-variants as verdict
 use Rattle.text.specs.declared.Measured.{Measured}
 use Rattle.text.specs.declared.Measured.the-variants as measured
-use Rattle.tables.specs.declared.Estimated.{Estimated}
-use Rattle.tables.specs.declared.Estimated.the-variants as estimated
-use Rattle.finding.specs.declared.Gridded.{Gridded}
-use Rattle.finding.specs.declared.Gridded.the-variants as gridded
-use Rattle.tables.specs.declared.LaidOut.{LaidOut}
-use Rattle.tables.specs.declared.LaidOut.the-variants as laidOut
-use Rattle.missing.specs.declared.Explained.{Explained}
-use Rattle.missing.specs.declared.Explained.the-variants as explained
-use Rattle.preview.specs.Preview.{whatNumber, jointNumber}
-use Rattle.preview.specs.declared.Pointed.{Pointed}
-use Rattle.preview.specs.declared.Pointed.the-variants as pointed
-use Rattle.preview.specs.declared.Listed.{Listed}
-use Rattle.preview.specs.declared.Listed.the-variants as listed
-use Rattle.preview.specs.declared.Joined.{Joined}
-use Rattle.preview.specs.declared.Joined.the-variants as joined
-use Rattle.walks.specs.declared.Walked.{Walked}
-use Rattle.walks.specs.declared.Walked.the-variants as walked
-use Rattle.nested.specs.declared.NestedLayout.{NestedLayout}
-use Rattle.nested.specs.declared.NestedLayout.the-variants as nested
-use Rattle.widths.specs.declared.Way.{Way}
-use Rattle.widths.specs.declared.Way.the-variants.{Sideways, Down}
+use Rattle.answers.specs.declared.Estimated.{Estimated}
+use Rattle.answers.specs.declared.Estimated.the-variants as estimated
+use Rattle.answers.specs.declared.Gridded.{Gridded}
+use Rattle.answers.specs.declared.Gridded.the-variants as gridded
+use Rattle.answers.specs.declared.LaidOut.{LaidOut}
+use Rattle.answers.specs.declared.LaidOut.the-variants as laidOut
+use Rattle.answers.specs.declared.Explained.{Explained}
+use Rattle.answers.specs.declared.Explained.the-variants as explained
+use Rattle.answers.specs.Numbers.{wayNumber, whatNumber, jointNumber}
+use Rattle.answers.specs.declared.Pointed.{Pointed}
+use Rattle.answers.specs.declared.Pointed.the-variants as pointed
+use Rattle.answers.specs.declared.Listed.{Listed}
+use Rattle.answers.specs.declared.Listed.the-variants as listed
+use Rattle.answers.specs.declared.Joined.{Joined}
+use Rattle.answers.specs.declared.Joined.the-variants as joined
+use Rattle.answers.specs.declared.Walked.{Walked}
+use Rattle.answers.specs.declared.Walked.the-variants as walked
+use Rattle.answers.specs.declared.NestedLayout.{NestedLayout}
+use Rattle.answers.specs.declared.NestedLayout.the-variants as nested
 use Rattle.crossing.specs.declared.CheckResult.{CheckResult}
 use Rattle.crossing.specs.declared.MeasureResult.{MeasureResult}
 use Rattle.crossing.specs.declared.EstimatesResult.{EstimatesResult}
@@ -60,13 +58,8 @@ unfoldable pub gridResult : Gridded → GridResult
 gridResult (gridded.Grid rows entries columns) = record { number = 0; line = 0; rows = rows; entries = entries; columns = columns }
 gridResult (gridded.Refused number line) = record { number = number; line = line; rows = 0; entries = 0; columns = 0 }
 
--- 0 sideways, 1 down
-unfoldable pub wayNumber : Way → ℕ
-wayNumber Sideways = 0
-wayNumber Down = 1
-
 unfoldable pub layoutResult : LaidOut → LayoutResult
-layoutResult (laidOut.Layout way columns width) = record { number = 0; line = 0; way = wayNumber way; columns = columns; width = width }
+layoutResult (laidOut.Layout way entries columns width) = record { number = 0; line = 0; way = wayNumber way; columns = columns; width = width }
 layoutResult (laidOut.Refused number line) = record { number = number; line = line; way = 0; columns = 0; width = 0 }
 
 unfoldable pub missingResult : Explained → MissingResult
@@ -93,6 +86,6 @@ walkResult (walked.Refused number line) = record { number = number; line = line;
 
 -- given 1 and the width at which the table is laid out; all zeros if the walk gives it none
 unfoldable pub nestedResult : NestedLayout → NestedResult
-nestedResult (nested.Table at way columns width) = record { number = 0; line = 0; given = 1; at = at; way = wayNumber way; columns = columns; width = width }
+nestedResult (nested.Table at way entries columns width) = record { number = 0; line = 0; given = 1; at = at; way = wayNumber way; columns = columns; width = width }
 nestedResult nested.Missing = record { number = 0; line = 0; given = 0; at = 0; way = 0; columns = 0; width = 0 }
 nestedResult (nested.Refused number line) = record { number = number; line = line; given = 0; at = 0; way = 0; columns = 0; width = 0 }

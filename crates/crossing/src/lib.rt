@@ -1,20 +1,20 @@
 // What crosses to C: `#[repr(C)]` structs of numbers alone, and a function for each that turns an answer of the calls inside into it.
 ghost use mathlib.Core.Path.{_≡_};
-ghost use Rattle.preview.specs.Preview.{jointNumber};
-ghost use Rattle.crossing.specs.Answers.{checkResult, asImg, measureResult, estimatesResult, gridResult, wayNumber, layoutResult, missingResult, atResult, withinResult, joiningResult, walkResult, nestedResult};
-use finding::Gridded;
+ghost use Rattle.answers.specs.Numbers.{wayNumber, jointNumber};
+ghost use Rattle.crossing.specs.Answers.{checkResult, asImg, measureResult, estimatesResult, gridResult, layoutResult, missingResult, atResult, withinResult, joiningResult, walkResult, nestedResult};
+use answers::Estimated;
+use answers::Explained;
+use answers::Gridded;
+use answers::Joined;
+use answers::Joint;
+use answers::LaidOut;
+use answers::Listed;
+use answers::NestedLayout;
+use answers::Pointed;
+use answers::Walked;
+use answers::Way;
 use lists::Verdict;
-use missing::Explained;
-use nested::NestedLayout;
-use pointing::Joint;
-use preview::Joined;
-use preview::Listed;
-use preview::Pointed;
-use tables::Estimated;
-use tables::LaidOut;
 use text::Measured;
-use walks::Walked;
-use widths::Way;
 
 // In each result: number 0 and line 0 if the call is accepted; else the refusal, its line, and zeros.
 #[repr(C)]
@@ -209,6 +209,7 @@ pub fn layout_result(told: LaidOut) -> LayoutResult
     match told {
         LaidOut::Layout {
             way,
+            entries: _,
             columns,
             width,
         } => LayoutResult {
@@ -354,6 +355,7 @@ pub fn nested_result(told: NestedLayout) -> NestedResult
         NestedLayout::Table {
             at,
             way,
+            entries: _,
             columns,
             width,
         } => NestedResult {

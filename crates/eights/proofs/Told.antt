@@ -15,6 +15,8 @@ use Rattle.lists.specs.Lists.{All}
 use Rattle.records.specs.Kept.{keptWith}
 use Rattle.text.specs.Decimal.{plain, shift}
 use Rattle.text.specs.Text.{withImg}
+use Rattle.octets.specs.inner.Digits.{Eight}
+use Rattle.octets.proofs.Standing.{stand, joined}
 use Rattle.kinds.specs.Kinds.{same, place, kindOf, imgKind, textKind, tableKind, bodyKind, rowKind, cellKind, calcKind}
 use Rattle.fields.specs.Blanks.{untilBlank, blank}
 use Rattle.fields.specs.Numbers.{upTo}
@@ -22,11 +24,10 @@ use Rattle.fields.specs.Reading.{kindRead}
 use Rattle.line.specs.Fields.{nFits}
 use Rattle.line.specs.Reading.{spanLimit}
 use Rattle.line.proofs.OneDigit.{Name, line-is, bare-is}
-use Rattle.eights.specs.Briefs.{figuresOf, InBrief}
-use Rattle.eights.specs.inner.Bytes.{Eight, Digit, Bare, Cell, Texts, ending}
+use Rattle.eights.specs.inner.Briefs.{figuresOf, InBrief}
+use Rattle.eights.specs.inner.Bytes.{Digit, Bare, Cell, Texts, ending}
 use Rattle.eights.specs.declared.Brief.{Brief}
 use Rattle.eights.specs.declared.Common.the-variants.{Line, Other}
-use Rattle.eights.proofs.Numbers.{joined}
 
 -- nothing is told of another line
 pub untold : (b : Brief) → Other ≡ Line b → ⊥
@@ -68,7 +69,7 @@ cell-ends {r = r} w h m p q b e =
       narrow = p;
       low = q;
       stands =
-          w .stand (ending cols rows) refl
+          stand w (ending cols rows) refl
           (omega arith, (omega arith, (omega arith, (omega arith, (omega arith, (omega arith, (omega arith, (omega arith, tt)))))))) (omega arith);
       is = cc;
     }

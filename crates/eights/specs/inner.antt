@@ -1,2 +1,3 @@
--- How the code goes about it: bytes compared as numbers, and what a comparison tells.
+-- How the code goes about it: a line as it is kept, and what a comparison of bytes tells.
+pub mod Briefs
 pub mod Bytes

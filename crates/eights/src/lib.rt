@@ -1,13 +1,12 @@
 // The commonest lines of a sheet, told by comparing eight bytes at once, in the form in which lines are kept. Every other line is left to the
 // crate line, which reads all.
 ghost use mathlib.Core.Path.{_≡_};
-ghost use mathlib.Core.List.{[], _∷_};
 ghost use Prim.Native.Nat.{_+_, _≤_};
 ghost use lib.ListN.{length};
 ghost use Rattle.lists.specs.Limits.{maxBytes};
 ghost use Rattle.text.specs.Bytes.{Classes};
-ghost use Rattle.eights.specs.Briefs.{Tells};
-ghost use Rattle.eights.specs.inner.Bytes.{asNumber, Eight, Digit, Bare, Cell, Texts};
+ghost use Rattle.eights.specs.inner.Briefs.{Tells};
+ghost use Rattle.eights.specs.inner.Bytes.{Digit, Bare, Cell, Texts};
 ghost use Rattle.eights.specs.declared.Brief.{Brief};
 ghost use Rattle.eights.specs.declared.Common.the-variants.{Line};
 
@@ -19,12 +18,13 @@ pub struct Brief {
     pub next: usize,
 }
 
+// What the comparisons tell: the line, or nothing.
 pub enum Common {
     Line(Brief),
     Other,
 }
 
-// ` cell 0 `, ` text 0 `, ` row 0 0`, ` body 0 ` and ` table 0` as `eight` takes them: what follows a depth of one digit.
+// ` cell 0 `, ` text 0 `, ` row 0 0`, ` body 0 ` and ` table 0` as `octets::eight` takes them: what follows a depth of one digit.
 const CELL_FRONT: u64 = 2319389458142946080;
 
 const TEXT_FRONT: u64 = 2319389492704015392;
@@ -50,43 +50,12 @@ const ROWS_STEP: u64 = 65536;
 // The bytes of ` table 0 0 0 ` with its depth and its line feed, the longest of these without a text.
 const LONGEST: usize = 15;
 
-// Eight bytes as one number, the first lowest. The compiled code takes them at once.
-fn number(a: u8, b: u8, c: u8, d: u8, e: u8, f: u8, g: u8, h: u8) -> u64
-    ensures { λ r. ⌜ r ≡ asNumber (a ∷ b ∷ c ∷ d ∷ e ∷ f ∷ g ∷ h ∷ []) ⌝ }
-{
-    a as u64
-        + 256 * b as u64
-        + 65536 * c as u64
-        + 16777216 * d as u64
-        + 4294967296 * e as u64
-        + 1099511627776 * f as u64
-        + 281474976710656 * g as u64
-        + 72057594037927936 * h as u64
-}
-
-// The eight bytes from a place on.
-fn eight(bytes: &[u8], at: usize) -> u64
-    requires { ⌜ at + 8 ≤ length (now bytes) ⌝ }
-    ensures { λ r. ⌜ Eight (now (bytes .entry)) at r ⌝ }
-{
-    number(
-        bytes[at],
-        bytes[at + 1],
-        bytes[at + 2],
-        bytes[at + 3],
-        bytes[at + 4],
-        bytes[at + 5],
-        bytes[at + 6],
-        bytes[at + 7],
-    )
-}
-
-// A line without a text, whose n is at a place after a space: there it ends, if n, cols and rows are 0.
+// A line without a text. The space before its n stands at a place, and the line ends seven bytes on, if n, cols and rows are 0.
 fn bare_line(bytes: &[u8], depth: u32, kind: u32, at: usize) -> Common
     requires { ⌜ at + 8 ≤ length (now bytes) ⌝ }
     ensures { λ r. ⌜ ((b : Brief) → r ≡ Line b → Bare (now (bytes .entry)) at depth kind b) ⌝ }
 {
-    if eight(bytes, at) != ZEROS {
+    if octets::eight(bytes, at) != ZEROS {
         return Common::Other;
     }
     Common::Line(Brief {
@@ -97,12 +66,13 @@ fn bare_line(bytes: &[u8], depth: u32, kind: u32, at: usize) -> Common
     })
 }
 
-// A cell whose cols and rows have one digit: the eight bytes from the space before its n differ from ` 0 0 0 ` in these alone.
+// A cell whose cols and rows have one digit: the eight bytes from the space before its n, which stands at a place, differ from ` 0 0 0 ` and a line feed in
+// these digits alone.
 fn cell_line(bytes: &[u8], depth: u32, at: usize) -> Common
     requires { ⌜ at + 8 ≤ length (now bytes) ⌝ }
     ensures { λ r. ⌜ ((b : Brief) → r ≡ Line b → Cell (now (bytes .entry)) at depth b) ⌝ }
 {
-    let end = eight(bytes, at);
+    let end = octets::eight(bytes, at);
     if end < ZEROS {
         return Common::Other;
     }
@@ -155,12 +125,12 @@ fn line_with(classes: &[u8], bytes: &[u8], at: usize, depth: u32) -> Common
     requires { ⌜ Digit (now bytes) at depth ⌝ }
     ensures { λ r. ⌜ Tells (now (bytes .entry)) at r ⌝ }
 {
-    let front = eight(bytes, at + 1);
+    let front = octets::eight(bytes, at + 1);
     if front == CELL_FRONT {
         return cell_line(bytes, depth, at + 6);
     }
     if front == TEXT_FRONT {
-        if eight(bytes, at + 5) != TEXT_END {
+        if octets::eight(bytes, at + 5) != TEXT_END {
             return Common::Other;
         }
         return text_line(classes, bytes, depth, at + 13);

@@ -2,8 +2,8 @@
 -- cells than there are lines from the table's on. Assumes nothing.
 use mathlib.Core.Path.{_≡_, refl, sym, ap, ap₂, _∙_, subst}
 use mathlib.Core.Bool.{Bool, _||_}
-use mathlib.Core.List.{List, [], _∷_, map}
-use Prim.Native.Nat.{ℕ, _+_, _-_, _≤_, _<_}
+use mathlib.Core.List.{List, [], _∷_, _++_, map}
+use Prim.Native.Nat.{ℕ, _+_, _*_, _-_, _≤_, _<_}
 use native.Mathlib.Omega.{arith}
 use lib.Dec.{ltb}
 use lib.ListN.{length, getD, take, drop, length-map, length-drop}
@@ -13,15 +13,16 @@ use Rattle.lists.proofs.Over.{over-front}
 use lib.Seq.{length-take-le}
 use Rattle.records.specs.Kept.{noKept}
 use Rattle.records.specs.declared.Kept.{Kept}
+use Rattle.cells.specs.Held.{figures}
 use Rattle.cells.specs.Cells.{Row}
+use Rattle.cells.proofs.Figures.{figures-append, figures-drop}
 use Rattle.cells.specs.Listed.{cellLine, cellCols, cellRows, allCells, cellEnds, tableRows, ListingReady, TableListed}
 use Rattle.cells.proofs.Rows.{length-ends}
 use Rattle.cells.proofs.Facts.{rows-few}
 use Rattle.cells.specs.Spans.{part}
 use Rattle.rows.specs.Row.{Item, itemOf, itemsEnd, rowFrom, nexts}
 use Rattle.positions.specs.Positions.{originals, allRows, endsPast, entryCount}
-use Rattle.positions.specs.inner.Slices.{cellsIn, tableOf, Rising, RowsWithin}
-use Rattle.hanging.specs.Placeable.{Placeable}
+use Rattle.positions.specs.inner.Slices.{cellsIn, tableOf, Rising, RowsWithin, Ready}
 use Rattle.grid.specs.Judging.{Lined}
 use Rattle.grid.specs.Facts.{Sound}
 use Rattle.positions.proofs.TableSlices.{table-listed, listed-rises}
@@ -47,6 +48,13 @@ module _ (lines spans rows : List ℕ) where
 -- a list that is written over the front of a buffer is found there
 pub front : (l o₀ o : List ℕ) (n : ℕ) → n ≡ length l → o ≡ over l o₀ → take n o ≡ l
 front l o₀ o n q e = ap₂ take q e ∙ over-front l o₀
+
+-- records whose front is lent and comes back
+pub figures-front : {A : Type 0} (w : ℕ) (make : List ℕ → A) (f : A → ℕ) → 0 < w → (m : ℕ) (xs ys : List ℕ) → w * m ≤ length xs → length ys ≡ length (take (w * m) xs)
+    → figures w make f (ys ++ drop (w * m) xs) ≡ figures w make f ys ++ drop m (figures w make f xs)
+figures-front w make f p m xs ys h e =
+    figures-append w make f p m ys (drop (w * m) xs) (e ∙ length-take-le (w * m) xs h)
+    ∙ ap (λ (l : List ℕ). figures w make f ys ++ l) (figures-drop w make f p m xs h)
 
 module _ {rs : List Row} {line₀ span₀ rows₀ row₀ end₀ line span rows row end : List ℕ} {cells count : ℕ}
     (w : TableListed rs line₀ span₀ rows₀ row₀ end₀ line span rows row end cells count) where
@@ -89,9 +97,10 @@ module _ {rs : List Row} {line₀ span₀ rows₀ row₀ end₀ line span rows r
 
   pub listed-ready : {m : ℕ} → length rs + length (allCells rs) ≤ m → m ≤ maxLines
       → cells ≤ length line → cells ≤ length span → cells ≤ length rows → count ≤ length end
-      → Sound rs → {l s e : List ℕ} → entryCount (allRows rs) ≤ length l → entryCount (allRows rs) ≤ length s → m ≤ length e
-      → Placeable (take cells line) (take cells span) (take cells rows) (take count end) l s e
-  listed-ready few short a b d f z g h i =
+      → Sound rs → {l s left at wide nl na nw : List ℕ} → entryCount (allRows rs) ≤ length l → entryCount (allRows rs) ≤ length s
+      → m ≤ length left → m ≤ length at → m ≤ length wide → m ≤ length nl → m ≤ length na → m ≤ length nw
+      → Ready (take cells line) (take cells span) (take cells rows) (take count end) l s (take count end) left at wide nl na nw
+  listed-ready few short a b d f z g h l₁ l₂ l₃ l₄ l₅ l₆ =
       let u = length-take-le count end f in
       let v = length-take-le cells line a in
       let x = w .cells-are in
@@ -103,6 +112,12 @@ module _ {rs : List Row} {line₀ span₀ rows₀ row₀ end₀ line span rows r
         few = omega arith;
         within = listed-within z g h;
         row-end-room = omega arith;
+        left-room = omega arith;
+        at-room = omega arith;
+        wide-room = omega arith;
+        next-left-room = omega arith;
+        next-at-room = omega arith;
+        next-wide-room = omega arith;
       }
 
 -- ---- how many

@@ -20,7 +20,6 @@ use Rattle.records.specs.declared.Kept.{Kept}
 use Rattle.cells.specs.Cells.{Cell, Row, Frame, cell, frame}
 use Rattle.cells.specs.Listed.{allCells, tableRows}
 use Rattle.positions.specs.Positions.{allRows, entryCount}
-use Rattle.positions.proofs.Asked.{AtCells}
 use Rattle.grid.specs.Facts.{CellOf}
 use Rattle.grid.specs.Facts.{Sound}
 use Rattle.grid_bounds.specs.Bound.{wideOf, hungOf, rowsOf, wide, hung, RowsBound, BodiesBound, bodiesAsked}
@@ -29,6 +28,11 @@ use Rattle.grid_bounds.specs.Sheets.{colsBy, rowsBy, SheetBound, Suffice
 use Rattle.grid_bounds.proofs.CellKinds.{cell-kind}
 
 -- ---- the cells of a table, by a figure of each, are no more than the lines'
+
+-- a property of the lines that are cells of a table of depth d, of the lines that follow it: those three deeper, up to the first that is no deeper
+abbrev AtCells : (Kept → Type 0) → ℕ → List Kept → Type 0
+AtCells P d [] = Unit {0}
+AtCells P d (l ∷ ls) = d < l .depth → (l .depth ≡ d + 3 → P l) × AtCells P d ls
 
 module _ (m : Cell → ℕ) where
   abbrev total : List Cell → ℕ

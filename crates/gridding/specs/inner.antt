@@ -1,2 +1,2 @@
--- How the code goes about it: where a table's lines end, the room that it asks for, and figures of slices as records.
+-- How the code goes about it: where a table's lines end, and the room that is lent.
 pub mod Making

@@ -7,6 +7,6 @@ fn main() {
     let mut input = [0u8; INPUT_BYTES];
     let mut out = [0u8; 65536];
     let n = io::read_full(libc::STDIN_FILENO, &mut input);
-    let end = listing::answer(&mut out, 0, &input[..n]);
+    let end = report::answer(&mut out, 0, &input[..n], report::Form::Layout);
     printing::flush(&out, end);
 }

@@ -16,13 +16,13 @@ use Rattle.sheet.proofs.First.{neither}
 use Rattle.opening.specs.Opening.{asked, openChecks}
 use Rattle.arguments.specs.Arguments.{anyShorter, missingArguments}
 use Rattle.arguments.proofs.Shorter.{or-false}
-use Rattle.finding.specs.Figures.{columnsAt}
-use Rattle.tables.specs.inner.Telling.{early}
-use Rattle.tables.proofs.Early.{early-nines, none-nines, fits, leaving}
+use Rattle.sheet_figures.specs.Figures.{columnsAt}
+use Rattle.sheet_figures.specs.inner.Early.{early}
+use Rattle.sheet_figures.proofs.Early.{early-nines, none-nines, fits, leaving}
 use Rattle.causes.specs.Sheets.{missingAt}
 use Rattle.missing.specs.Missing.{missingChecks, explainedOf, forOne, MissingAnswer}
-use Rattle.missing.specs.declared.Explained.{Explained}
-use Rattle.missing.specs.declared.Explained.the-variants.{Causes, Refused}
+use Rattle.answers.specs.declared.Explained.{Explained}
+use Rattle.answers.specs.declared.Explained.the-variants.{Causes, Refused}
 use Rattle.missing.specs.inner.Found.{ExplainRoom, missedTotal, columnTotal, MissingFound}
 
 -- refused for the arguments

@@ -22,7 +22,7 @@ use Rattle.sizing.specs.Sizing.{entryBox}
 use Rattle.table.specs.Laying.{boxRowsBy, widthsIn, placesIn}
 use Rattle.table.specs.Arranging.{TableMeasured}
 use Rattle.table.specs.inner.Room.{FrontLayable}
-use Rattle.table.specs.inner.Fitting.{Asked}
+use Rattle.table.specs.inner.Asked.{Asked}
 use Rattle.table.proofs.Steps.{entered, rows-flat}
 use Rattle.table.proofs.Grids.{made-rows, made-front}
 use Rattle.table.proofs.Rooms.{any-most, table-ready}
@@ -32,8 +32,8 @@ use Rattle.causes.specs.inner.Hidden.{hiddenFrom}
 use Rattle.causes.proofs.Missed.{missing-are, hidden-entries}
 use Rattle.causes.specs.inner.Fronts.{causesIn, hiddenIn, FrontReady, FrontTold}
 use Rattle.missing.specs.inner.Found.{ExplainRoom, missedTotal, columnTotal, TableTold, MissingMade}
-use Rattle.missing.specs.declared.Explained.{Explained}
-use Rattle.missing.specs.declared.Explained.the-variants.{Causes}
+use Rattle.answers.specs.declared.Explained.{Explained}
+use Rattle.answers.specs.declared.Explained.the-variants.{Causes}
 use Rattle.causes.proofs.Told.{front-few}
 
 -- ---- the boxes of the entries

@@ -3,7 +3,7 @@ use mathlib.Core.List.{List}
 use Prim.Native.Nat.{ℕ}
 use native.Mathlib.Omega.{arith}
 use Rattle.lists.specs.Lists.{All}
-use Rattle.tables.proofs.Never.{Other, no-more, more, asked-other}
+use Rattle.sheet_figures.proofs.Never.{Other, no-more, more, asked-other}
 use Rattle.missing.specs.Missing.{missingChecks}
 
 pub missing-other : (s : List ℕ) (line wrap raw width : ℕ) (entries columns : List ℕ) → All Other (missingChecks s line wrap raw width entries columns)

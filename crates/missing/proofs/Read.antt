@@ -13,10 +13,10 @@ use Rattle.sheet.specs.declared.Reading.{Reading}
 use Rattle.sheet.specs.declared.Reading.the-variants as reading
 use Rattle.sheet.proofs.First.{first-passes, figures-pass, figures-fail}
 use Rattle.opening.specs.Opening.{openChecks}
-use Rattle.finding.specs.inner.Layouts.{LinesOf}
-use Rattle.finding.proofs.Openings.{failed, told, opened-passed, opened-apt}
-use Rattle.missing.specs.declared.Explained.{Explained}
-use Rattle.missing.specs.declared.Explained.the-variants.{Refused}
+use Rattle.sheet_figures.specs.inner.Opened.{LinesOf}
+use Rattle.sheet_figures.proofs.Openings.{failed, told, opened-passed, opened-apt}
+use Rattle.answers.specs.declared.Explained.{Explained}
+use Rattle.answers.specs.declared.Explained.the-variants.{Refused}
 use Rattle.missing.specs.inner.Found.{ExplainRoom, missedTotal, columnTotal, MissingMade, MissingRead, MissingFound}
 
 -- buffers that are as long as they were have the same room

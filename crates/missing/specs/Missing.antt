@@ -7,12 +7,12 @@ use Rattle.lists.specs.Refusals.{Check, firstAnswer}
 use Rattle.sheet.specs.Sheet.{sheetChecks}
 use Rattle.arguments.specs.Arguments.{missingArguments}
 use Rattle.opening.specs.Opening.{keptLines, lineCheck}
-use Rattle.finding.specs.Figures.{columnsAt}
-use Rattle.tables.specs.Calls.{everyTable}
-use Rattle.tables.specs.Answers.{leaves}
+use Rattle.sheet_figures.specs.Figures.{columnsAt}
+use Rattle.sheet_figures.specs.Calls.{everyTable}
+use Rattle.sheet_figures.specs.Calls.{leaves}
 use Rattle.causes.specs.Sheets.{causesAt, missingAt}
-use Rattle.missing.specs.declared.Explained.{Explained}
-use Rattle.missing.specs.declared.Explained.the-variants.{Causes, Refused}
+use Rattle.answers.specs.declared.Explained.{Explained}
+use Rattle.answers.specs.declared.Explained.the-variants.{Causes, Refused}
 
 -- the last two are the lengths of the buffers that are lent for entries, and for columns
 abbrev pub missingChecks : List ℕ → ℕ → ℕ → ℕ → ℕ → List ℕ → List ℕ → List Check

@@ -10,16 +10,11 @@ ghost use Prim.Native.Nat.{_≤_};
 ghost use Rattle.lists.specs.Limits.{maxSize};
 ghost use Rattle.lists.specs.declared.Verdict.the-variants.{Accepted};
 ghost use Rattle.opening.specs.Opening.{openChecks};
-ghost use Rattle.tables.specs.inner.Telling.{early};
+ghost use Rattle.sheet_figures.specs.inner.Early.{early};
 ghost use Rattle.missing.specs.Missing.{MissingAnswer};
 ghost use Rattle.missing.specs.inner.Found.{ExplainRoom, missedTotal, columnTotal, MissingFound};
+use answers::Explained;
 use lists::Verdict;
-
-// The answer: how many entries are missing and how many columns there are, or the refusal.
-pub enum Explained {
-    Causes { count: u32, columns: u32 },
-    Refused { number: u32, line: u32 },
-}
 
 // What is found in the sheet, unless the arguments are refused.
 fn find_missing(

@@ -1,13 +1,14 @@
 // The missing entries and the causes of the table in a line of a sheet, written to the lent buffers.
 ghost use mathlib.Core.Bool.{true};
-ghost use Prim.Native.Nat.{_≤_};
-ghost use Rattle.lists.specs.Limits.{maxSize};
+ghost use Prim.Native.Nat.{_/_, _≤_};
+ghost use lib.ListN.{length};
+ghost use Rattle.lists.specs.Limits.{maxEntries, maxLines, maxSize};
 ghost use Rattle.estimates.specs.inner.Figures.{figuresOf};
 ghost use Rattle.opening.specs.Opening.{openChecks};
-ghost use Rattle.finding.specs.inner.Made.{AskedIn};
-ghost use Rattle.finding.specs.inner.Layouts.{MeasuredIn};
+ghost use Rattle.sheet_figures.specs.inner.Opened.{AskedIn, MeasuredIn};
 ghost use Rattle.missing.specs.inner.Found.{ExplainRoom, MissingRead, MissingFound};
-use crate::Explained;
+use answers::Explained;
+use lists::MAX_ENTRIES;
 use lists::MAX_LINES;
 use sheet::Reading;
 
@@ -19,10 +20,13 @@ fn explain_read(
     figures: &[u32],
     raw: u32,
     width: u32,
+    entries: &mut [u32],
+    rows: &mut [u32],
     entry: &mut [u32],
     cause: &mut [u32],
 ) -> Explained
     requires { ⌜ AskedIn read (now lines) line ⌝ }
+    requires { ⌜ (maxEntries ≤ length (now entries) / 3) × (maxLines ≤ length (now rows) / 2) ⌝ }
     requires { ⌜ MeasuredIn read (now lines) line (figuresOf (now figures)) ⌝ }
     requires { ⌜ width ≤ maxSize ⌝ }
     requires { ⌜ ExplainRoom (now entry) (now cause) ⌝ }
@@ -32,7 +36,17 @@ fn explain_read(
         Reading::Refused { number, line: at } => Explained::Refused { number, line: at },
         Reading::Lines(n) => {
             let end = records::WIDTH * n;
-            crate::making::explain(line, &lines[..end], figures, raw, width, entry, cause)
+            crate::making::explain(
+                line,
+                &lines[..end],
+                figures,
+                raw,
+                width,
+                entries,
+                rows,
+                entry,
+                cause,
+            )
         }
     }
 }
@@ -53,7 +67,8 @@ pub fn explain_sheet(
 {
     let mut lines = [0u32; records::WIDTH * MAX_LINES];
     let mut figures = [0u32; 3 * MAX_LINES];
-    let mut scratch = [0u32; 2 * MAX_LINES];
+    let mut entries = [0u32; 3 * MAX_ENTRIES];
+    let mut rows = [0u32; 2 * MAX_LINES];
     let read = opening::measuring::measure_table(
         sheet,
         line,
@@ -61,8 +76,19 @@ pub fn explain_sheet(
         &mut lines,
         &mut figures,
         cause,
-        entry,
-        &mut scratch,
+        &mut entries,
+        &mut rows,
     );
-    explain_read(read, line, &lines, &figures, raw, width, entry, cause)
+    explain_read(
+        read,
+        line,
+        &lines,
+        &figures,
+        raw,
+        width,
+        &mut entries,
+        &mut rows,
+        entry,
+        cause,
+    )
 }

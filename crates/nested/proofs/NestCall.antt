@@ -20,25 +20,28 @@ use Rattle.sheet.specs.Sheet.{sheetLines}
 use Rattle.sheet.specs.Steps.{roomFor}
 use Rattle.sheet.specs.declared.Reading.{Reading}
 use Rattle.sheet.specs.declared.Reading.the-variants.{Lines, Refused}
-use Rattle.sheet.proofs.First.{neither, first-passes, first-accepts, first-carries, first-told, figures-pass, figures-fail}
+use Rattle.sheet.proofs.First.{neither, first-passes, first-accepts, first-carries, figures-pass, figures-fail}
 use Rattle.opening.specs.Opening.{keptLines, asked, openChecks}
 use Rattle.opening.specs.inner.Opened.{Apt}
 use Rattle.opening.proofs.Answers.{table-apt}
 use Rattle.opening.proofs.Opens.{opened-asked}
-use Rattle.table.specs.inner.Fitting.{OutRoom}
+use Rattle.table.specs.inner.Asked.{OutRoom}
 use Rattle.table.proofs.Grids.{all-cells}
 use Rattle.arguments.specs.Arguments.{anyShorter, nestedArguments}
 use Rattle.arguments.proofs.Shorter.{two-fit, or-false}
-use Rattle.finding.specs.inner.Made.{AskedIn, OpenedAt}
-use Rattle.finding.specs.inner.Layouts.{LinesOf, MeasuredIn, LayoutFound, LayoutRead}
-use Rattle.finding.specs.inner.Layouts as layouts
-use Rattle.finding.specs.declared.Arranged.{Arranged}
-use Rattle.finding.specs.declared.Arranged.the-variants as arranged
-use Rattle.finding.proofs.Openings.{asked-in}
-use Rattle.finding.proofs.LaidOut.{measured-in, layout-found}
-use Rattle.tables.specs.Answers.{forColumns, forPlaces}
-use Rattle.tables.specs.inner.Telling.{early}
-use Rattle.tables.proofs.Early.{early-nines, none-nines, fits, leaving}
+use Rattle.arguments.specs.declared.Settings.{Settings}
+use Rattle.answers.specs.declared.LaidOut.{LaidOut}
+use Rattle.answers.specs.declared.LaidOut.the-variants as laidOut
+use Rattle.sheet_figures.specs.inner.Opened.{AskedIn, MeasuredIn, OpenedAt, LinesOf}
+use Rattle.sheet_figures.proofs.Openings.{asked-in}
+use Rattle.sheet_figures.proofs.Tables.{measured-in}
+use Rattle.call_layout.specs.inner.Found as layouts
+use Rattle.call_layout.specs.inner.Read.{LayoutRead}
+use Rattle.call_layout.proofs.Answers.{settings}
+use Rattle.call_layout.proofs.Found.{layout-found}
+use Rattle.call_layout.specs.Layout.{forColumns, forPlaces}
+use Rattle.sheet_figures.specs.inner.Early.{early}
+use Rattle.sheet_figures.proofs.Early.{early-nines, none-nines, fits, leaving}
 use Rattle.passing.specs.Walk.{givenNumber, widthNumber}
 use Rattle.passing.specs.inner.Places.{widthPlace, widthBy}
 use Rattle.walking.specs.inner.Steps.{AtMost}
@@ -48,11 +51,9 @@ use Rattle.passing.specs.declared.Width.the-variants.{Wide, Without}
 use Rattle.pacing.specs.Sheets.{walkOf}
 use Rattle.nested.specs.Nested.{widthTo, toldAt, columnsFor, xsFor, widesFor, nestedChecks, nestedOf, NestedAnswer}
 use Rattle.pacing.specs.inner.Found.{SheetOpened, walkedChecks, SheetWalked}
-use Rattle.nested.specs.inner.Found.{widthFor, PlaceIn, nestIn, withoutIn, NestRead, columnTotal, placeTotal, nestAt, NestFound, nestedIn}
-use Rattle.nested.specs.declared.Nest.{Nest}
-use Rattle.nested.specs.declared.Nest.the-variants as nest
-use Rattle.nested.specs.declared.NestedLayout.{NestedLayout}
-use Rattle.nested.specs.declared.NestedLayout.the-variants as nested
+use Rattle.nested.specs.inner.Found.{widthFor, PlaceIn, nestIn, withoutIn, NestRead, columnsIn, entriesIn, NestFound}
+use Rattle.answers.specs.declared.NestedLayout.{NestedLayout}
+use Rattle.answers.specs.declared.NestedLayout.the-variants as nested
 use Rattle.pacing.proofs.Opening.{opened-passed}
 
 -- ---- the table asked for, of a sheet that was walked
@@ -92,7 +93,7 @@ module _ {s : List ℕ} {line wrap raw width overflow : ℕ} {r : Reading} {line
   }
 
   pub nest-measured : roomFor s ≤ length figures → MeasuredIn r lines line figures
-  nest-measured h = record { measured = λ n e. measured-in (lines-of n e) h .measured n refl }
+  nest-measured h n e = measured-in (lines-of n e) h n refl
 
   pub place-in : (walk : List ℕ) → roomFor s ≤ length walk / 2 → PlaceIn r line walk
   place-in walk h = record {
@@ -123,21 +124,21 @@ module _ {s : List ℕ} {line wrap raw width overflow : ℕ} {r : Reading} {line
 
   -- ---- what is found
 
-  module _ (low : raw ≤ 1) (v : Width) (f : v ≡ widthFor r line ps) {t : Nest} {column x wide : List ℕ} (g : NestRead r v lines line figures raw t column x wide) where
+  module _ (low : raw ≤ 1) (v : Width) (f : v ≡ widthFor r line ps) {t : NestedLayout} {column x wide : List ℕ} (g : NestRead r v lines line figures raw t column x wide) where
     -- read, with a width
     laid-found : (n k : ℕ) → r ≡ Lines n → v ≡ Wide k → NestFound cs s line wrap raw width t column x wide
-    unfolding nestIn nestAt columnTotal placeTotal columnsFor xsFor widesFor layouts.columnTotal layouts.placeTotal
+    unfolding nestIn toldAt columnsIn entriesIn columnsFor xsFor widesFor layouts.columnsIn layouts.entriesIn
     laid-found n k e d =
         let u : W ≡ Wide k = sym (width-is n e) ∙ sym f ∙ d in
-        let l = layout-found (lines-of n e) low (rw e at (g .laid k d)) in
+        let l = layout-found (settings wrap raw k) (lines-of n e) low (rw e at (g .laid k d)) in
         let p = opened-passed (w .opened n e) n refl .all in
         let q = all-pass n e in
-        let a = l .answer ∙ first-passes arranged.Refused _ (openChecks true s line) p in
+        let a = l .answer ∙ first-passes laidOut.Refused _ (openChecks true s line) p in
         let b = g .answer k d ∙ ap (nestIn k) a in
-        let m : columnTotal t ≡ layouts.columnTotal (g .arranged k d) = ap columnTotal b ∙ sym (ap layouts.columnTotal a) in
-        let o : placeTotal t ≡ layouts.placeTotal (g .arranged k d) = ap placeTotal b ∙ sym (ap layouts.placeTotal a) in
+        let m : columnsIn t ≡ layouts.columnsIn (g .arranged k d) = ap columnsIn b ∙ sym (ap layouts.columnsIn a) in
+        let o : entriesIn t ≡ layouts.entriesIn (g .arranged k d) = ap entriesIn b ∙ sym (ap layouts.entriesIn a) in
         record {
-          answer = b ∙ sym (first-passes nest.Refused (nestAt s line wrap raw W) cs q ∙ ap (nestAt s line wrap raw) u);
+          answer = b ∙ sym (first-passes nested.Refused (toldAt s line wrap raw W) cs q ∙ ap (toldAt s line wrap raw) u);
           few-columns = omega (arith, m, l .few-columns);
           few-entries = omega (arith, o, l .few-entries);
           widths = ap (λ (y : ℕ). take y column) m ∙ l .widths ∙ figures-pass (openChecks true s line) _ p ∙ sym (figures-pass cs _ q ∙ ap (columnsFor s line wrap raw) u);
@@ -148,14 +149,14 @@ module _ {s : List ℕ} {line wrap raw width overflow : ℕ} {r : Reading} {line
 
     -- read, without one
     none-found : (n : ℕ) → r ≡ Lines n → v ≡ Without → NestFound cs s line wrap raw width t column x wide
-    unfolding withoutIn nestAt columnTotal placeTotal columnsFor xsFor widesFor
+    unfolding withoutIn toldAt columnsIn entriesIn columnsFor xsFor widesFor
     none-found n e d =
         let u : W ≡ Without = sym (width-is n e) ∙ sym f ∙ d in
         let q = all-pass n e in
-        let b : t ≡ nest.Missing = g .without d ∙ ap withoutIn e in
+        let b : t ≡ nested.Missing = g .without d ∙ ap withoutIn e in
         rw b
         (record {
-          answer = sym (first-passes nest.Refused (nestAt s line wrap raw W) cs q ∙ ap (nestAt s line wrap raw) u);
+          answer = sym (first-passes nested.Refused (toldAt s line wrap raw W) cs q ∙ ap (toldAt s line wrap raw) u);
           few-columns = omega arith;
           few-entries = omega arith;
           widths = sym (figures-pass cs _ q ∙ ap (columnsFor s line wrap raw) u);
@@ -165,15 +166,15 @@ module _ {s : List ℕ} {line wrap raw width overflow : ℕ} {r : Reading} {line
         })
 
     refused-found : (number l : ℕ) → r ≡ Refused number l → v ≡ Without → NestFound cs s line wrap raw width t column x wide
-    unfolding withoutIn columnTotal placeTotal
+    unfolding withoutIn columnsIn entriesIn
     refused-found number l e d =
-        let b : t ≡ nest.Refused number l = g .without d ∙ ap withoutIn e in
+        let b : t ≡ nested.Refused number l = g .without d ∙ ap withoutIn e in
         let o : firstAnswer Refused (Lines (length (sheetLines s))) cs ≡ Refused number l = sym (w .answer) ∙ e in
         let q : passes cs ≡ false = fails o (passes cs) refl in
         rw b
         (record {
-          answer = sym (ap (firstAnswer nest.Refused _) (sym (append-nil cs))
-              ∙ first-carries Refused (Lines (length (sheetLines s))) nest.Refused _ number l (λ a b f. (cc, cc)) (λ f. let z : _≡_ {A = ℕ} 0 1 = cc in omega arith) cs [] o);
+          answer = sym (ap (firstAnswer nested.Refused _) (sym (append-nil cs))
+              ∙ first-carries Refused (Lines (length (sheetLines s))) nested.Refused _ number l (λ a b f. (cc, cc)) (λ f. let z : _≡_ {A = ℕ} 0 1 = cc in omega arith) cs [] o);
           few-columns = omega arith;
           few-entries = omega arith;
           widths = sym (figures-fail cs _ q);
@@ -199,7 +200,7 @@ module _ {s : List ℕ} {line wrap raw width overflow : ℕ} {r : Reading} {line
 
 -- ---- what is laid out, by its width
 
-module _ {read : Reading} {w : Width} {lines : List ℕ} {line : ℕ} {figures : List Estimate} {raw : ℕ} {r : Nest} {column x wide : List ℕ} where
+module _ {read : Reading} {w : Width} {lines : List ℕ} {line : ℕ} {figures : List Estimate} {raw : ℕ} {r : NestedLayout} {column x wide : List ℕ} where
   pub read-without : w ≡ Without → r ≡ withoutIn read → NestRead read w lines line figures raw r column x wide
   read-without e q = record {
     without = λ _. q;
@@ -208,7 +209,7 @@ module _ {read : Reading} {w : Width} {lines : List ℕ} {line : ℕ} {figures :
     laid = λ v f. let z : _≡_ {A = ℕ} 0 1 = cc in absurd (omega arith);
   }
 
-  pub read-laid : (v : ℕ) → w ≡ Wide v → (a : Arranged) → r ≡ nestIn v a → LayoutRead read lines line figures raw v a column x wide → NestRead read w lines line figures raw r column x wide
+  pub read-laid : (v : ℕ) → w ≡ Wide v → (a : LaidOut) → r ≡ nestIn v a → LayoutRead read lines line figures raw v a column x wide → NestRead read w lines line figures raw r column x wide
   read-laid v e a q l = record {
     without = λ f. let z : _≡_ {A = ℕ} 0 1 = cc in absurd (omega arith);
     arranged = λ k f. a;
@@ -224,8 +225,8 @@ small-width e h = rw e at h
 -- ---- refused for the arguments, or not
 
 pub nest-early : (number at : ℕ) (cs : List Check) (s : List ℕ) (line wrap raw width : ℕ) (column x wide : List ℕ)
-    → NestFound (early (Refuses number at) ∷ cs) s line wrap raw width (nest.Refused number at) column x wide
-unfolding firstAnswer early passes ifPasses columnTotal placeTotal
+    → NestFound (early (Refuses number at) ∷ cs) s line wrap raw width (nested.Refused number at) column x wide
+unfolding firstAnswer early passes ifPasses columnsIn entriesIn
 nest-early number at cs s line wrap raw width column x wide =
     record {
       answer = refl;
@@ -237,7 +238,7 @@ nest-early number at cs s line wrap raw width column x wide =
       promised = λ p. let z : _≡_ {A = ℕ} 0 1 = cc in absurd (omega arith);
     }
 
-pub nest-late : {v : Verdict} {cs : List Check} {s : List ℕ} {line wrap raw width : ℕ} {r : Nest} {column x wide : List ℕ} → v ≡ Accepted
+pub nest-late : {v : Verdict} {cs : List Check} {s : List ℕ} {line wrap raw width : ℕ} {r : NestedLayout} {column x wide : List ℕ} → v ≡ Accepted
     → NestFound cs s line wrap raw width r column x wide → NestFound (early v ∷ cs) s line wrap raw width r column x wide
 unfolding firstAnswer early passes ifPasses
 nest-late z f =
@@ -268,15 +269,15 @@ nest-fit wrap raw width overflow v column x wide judged z =
     let (l, t) = neither (ltb maxWrap wrap) (ltb 1 raw) o in
     ((ltb-false 1 raw t, omega (arith, ltb-false maxWidth width q)), record { column-room = a; x-room = b; wide-room = c })
 
-pub nest-rooms : {s : List ℕ} {line : ℕ} (wrap raw width overflow : ℕ) {v : Verdict} (a b c : ℕ) {r : Nest} {column x wide : List ℕ} (ds : List Check)
+pub nest-rooms : {s : List ℕ} {line : ℕ} (wrap raw width overflow : ℕ) {v : Verdict} (a b c : ℕ) {r : NestedLayout} {column x wide : List ℕ} (ds : List Check)
     → v ≡ verdictOf (nestedArguments wrap raw width overflow (a ∷ []) (b ∷ c ∷ [])) → NestFound (early v ∷ ds) s line wrap raw width r column x wide
-    → (columnTotal r ≤ a) × (placeTotal r ≤ b) × (placeTotal r ≤ c)
-unfolding columnTotal placeTotal
+    → (columnsIn r ≤ a) × (entriesIn r ≤ b) × (entriesIn r ≤ c)
+unfolding columnsIn entriesIn
 nest-rooms wrap raw width overflow {v} a b c {r} ds judged found =
     let f = fit wrap raw width overflow v a b c judged in
-    let g : (room : ℕ) → (v ≡ Accepted → maxEntries ≤ room) → placeTotal r ≤ room =
-    λ room. fits nest.Refused _ placeTotal (λ n l. refl) v ds r maxEntries room (found .answer) (found .few-entries) in (
-      fits nest.Refused _ columnTotal (λ n l. refl) v ds r maxLines a (found .answer) (found .few-columns) (λ z. f z .0),
+    let g : (room : ℕ) → (v ≡ Accepted → maxEntries ≤ room) → entriesIn r ≤ room =
+    λ room. fits nested.Refused _ entriesIn (λ n l. refl) v ds r maxEntries room (found .answer) (found .few-entries) in (
+      fits nested.Refused _ columnsIn (λ n l. refl) v ds r maxLines a (found .answer) (found .few-columns) (λ z. f z .0),
       g b (λ z. f z .1),
       g c (λ z. f z .2),
     )
@@ -285,29 +286,20 @@ nest-rooms wrap raw width overflow {v} a b c {r} ds judged found =
 pub keep-fits : {n t a l : ℕ} → n ≡ t → t ≤ a → l ≡ a → n ≤ l
 keep-fits e h k = omega arith
 
-told-same : (s : List ℕ) (line wrap raw : ℕ) (w : Width) → nestedIn (nestAt s line wrap raw w) ≡ toldAt s line wrap raw w
-unfolding nestedIn nestAt toldAt
-told-same s line wrap raw Without = refl
-told-same s line wrap raw (Wide v) = refl
-
-module _ {s : List ℕ} {line wrap raw width overflow : ℕ} {v : Verdict} {column₀ x₀ wide₀ : List ℕ} {r : Nest} {column x wide : List ℕ}
+module _ {s : List ℕ} {line wrap raw width overflow : ℕ} {v : Verdict} {column₀ x₀ wide₀ : List ℕ} {r : NestedLayout} {column x wide : List ℕ}
     (judged : v ≡ verdictOf (nestedArguments wrap raw width overflow (forColumns column₀) (forPlaces x₀ wide₀)))
     (found : NestFound (early v ∷ walkedChecks true s line wrap raw width overflow) s line wrap raw width r column x wide) where
-  pub nest-answered : {t : NestedLayout} {n m : ℕ} {a b c : List ℕ} → t ≡ nestedIn r → n ≡ columnTotal r → m ≡ placeTotal r
+  pub nest-answered : {n m : ℕ} {a b c : List ℕ} → n ≡ columnsIn r → m ≡ entriesIn r
       → length column ≡ length column₀ → length x ≡ length x₀ → length wide ≡ length wide₀
       → a ≡ padded (length column) (take n column) → b ≡ padded (length x) (take m x) → c ≡ padded (length wide) (take m wide)
-      → NestedAnswer s line wrap raw width overflow column₀ x₀ wide₀ t a b c
-  unfolding nestedOf nestedIn asked passes ifPasses
-  nest-answered t k l ka kb kc a b c =
+      → NestedAnswer s line wrap raw width overflow column₀ x₀ wide₀ r a b c
+  unfolding nestedOf asked passes ifPasses
+  nest-answered k l ka kb kc a b c =
       let ds = walkedChecks true s line wrap raw width overflow in
       let f : (xs : List ℕ) → firstAnswer (λ number line. []) xs (early v ∷ ds) ≡ firstAnswer (λ number line. []) xs (nestedChecks s line wrap raw width overflow (forColumns column₀) (forPlaces x₀ wide₀)) =
       λ xs. early-nines (λ number line. []) xs v ds _ _ judged in
       record {
-        answer =
-            t ∙ ap nestedIn (found .answer)
-            ∙ first-told nestedIn nest.Refused _ (early v ∷ ds)
-            ∙ early-nines nested.Refused _ v ds _ _ judged
-            ∙ ap (λ (y : NestedLayout). firstAnswer nested.Refused y (nestedChecks s line wrap raw width overflow (forColumns column₀) (forPlaces x₀ wide₀))) (told-same s line wrap raw (widthTo s line wrap raw width));
+        answer = found .answer ∙ early-nines nested.Refused _ v ds _ _ judged;
         left =
             record {
               widths = leaving column₀ column (f _) k ka a (found .widths);

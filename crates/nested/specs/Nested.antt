@@ -3,21 +3,22 @@ use mathlib.Core.Path.{_≡_}
 use mathlib.Core.Bool.{true}
 use mathlib.Core.List.{List, [], _∷_, _++_, map}
 use Prim.Native.Nat.{ℕ, _-_}
-use lib.ListN.{getD}
+use lib.ListN.{length, getD}
 use Rattle.lists.specs.Refusals.{Check, firstAnswer, passes}
 use Rattle.sheet.specs.Sheet.{sheetChecks}
 use Rattle.arguments.specs.Arguments.{nestedArguments}
 use Rattle.opening.specs.Opening.{keptLines, lineCheck}
+use Rattle.grid.specs.Grid.{entriesOf}
 use Rattle.placing.specs.Promise.{Promised}
-use Rattle.finding.specs.Figures.{xOf, widthOf, columnsAt, boxesAt, wayAt, widthsAt, widthAt, placesAt}
-use Rattle.tables.specs.Calls.{everyTable}
-use Rattle.tables.specs.Answers.{leaves, forColumns, forPlaces}
+use Rattle.sheet_figures.specs.Figures.{xOf, widthOf, rowsAt, columnsAt, boxesAt, wayAt, widthsAt, widthAt, placesAt}
+use Rattle.sheet_figures.specs.Calls.{everyTable, leaves}
+use Rattle.call_layout.specs.Layout.{forColumns, forPlaces}
 use Rattle.passing.specs.Walk.{narrowChecks}
 use Rattle.passing.specs.declared.Width.{Width}
 use Rattle.passing.specs.declared.Width.the-variants.{Wide, Without}
 use Rattle.pacing.specs.Sheets.{walkOf}
-use Rattle.nested.specs.declared.NestedLayout.{NestedLayout}
-use Rattle.nested.specs.declared.NestedLayout.the-variants as nested
+use Rattle.answers.specs.declared.NestedLayout.{NestedLayout}
+use Rattle.answers.specs.declared.NestedLayout.the-variants as nested
 
 abbrev pub nestedChecks : List ℕ → ℕ → ℕ → ℕ → ℕ → ℕ → List ℕ → List ℕ → List Check
 nestedChecks s line wrap raw width overflow columns entries =
@@ -31,7 +32,7 @@ widthTo s line wrap raw width = getD (walkOf s wrap raw width) (line - 1) Withou
 -- the table laid out at that width; without one nothing is
 unfoldable pub toldAt : List ℕ → ℕ → ℕ → ℕ → Width → NestedLayout
 toldAt s line wrap raw Without = nested.Missing
-toldAt s line wrap raw (Wide v) = nested.Table v (wayAt s line wrap raw v) (columnsAt s line) (widthAt s line wrap raw v)
+toldAt s line wrap raw (Wide v) = nested.Table v (wayAt s line wrap raw v) (length (entriesOf (rowsAt s line))) (columnsAt s line) (widthAt s line wrap raw v)
 
 unfoldable pub columnsFor : List ℕ → ℕ → ℕ → ℕ → Width → List ℕ
 columnsFor s line wrap raw Without = []

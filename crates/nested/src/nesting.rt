@@ -7,15 +7,15 @@ ghost use Rattle.lists.specs.Limits.{maxSize};
 ghost use Rattle.lists.specs.declared.Verdict.the-variants.{Accepted};
 ghost use Rattle.records.specs.Kept.{placesOf};
 ghost use Rattle.estimates.specs.inner.Figures.{figuresOf};
-ghost use Rattle.table.specs.inner.Fitting.{OutRoom};
-ghost use Rattle.finding.specs.inner.Made.{AskedIn};
-ghost use Rattle.finding.specs.inner.Layouts.{MeasuredIn};
-ghost use Rattle.tables.specs.inner.Telling.{early};
+ghost use Rattle.table.specs.inner.Asked.{OutRoom};
+ghost use Rattle.sheet_figures.specs.inner.Opened.{AskedIn, MeasuredIn};
+ghost use Rattle.sheet_figures.specs.inner.Early.{early};
 ghost use Rattle.walking.specs.inner.Steps.{AtMost};
 ghost use Rattle.pacing.specs.inner.Found.{walkedChecks};
-ghost use Rattle.nested.specs.inner.Found.{widthFor, PlaceIn, nestIn, withoutIn, NestRead, columnTotal, placeTotal, NestFound};
-use crate::Nest;
-use finding::Arranged;
+ghost use Rattle.nested.specs.inner.Found.{widthFor, PlaceIn, nestIn, withoutIn, NestRead, columnsIn, entriesIn, NestFound};
+use answers::LaidOut;
+use answers::NestedLayout;
+use lists::MAX_ENTRIES;
 use lists::MAX_LINES;
 use lists::Verdict;
 use passing::Width;
@@ -36,33 +36,33 @@ fn width_for(read: Reading, line: u32, walk: &[u32]) -> Width
 }
 
 // A table that was laid out at a width, in the words of this crate.
-fn nest_in(at: u32, arranged: Arranged) -> Nest
+fn nest_in(at: u32, arranged: LaidOut) -> NestedLayout
     ensures { λ r. ⌜ r ≡ nestIn at arranged ⌝ }
 {
     match arranged {
-        Arranged::Table {
+        LaidOut::Layout {
             way,
             entries,
             columns,
             width,
-        } => Nest::Table {
+        } => NestedLayout::Table {
             at,
             way,
             entries,
             columns,
             width,
         },
-        Arranged::Refused { number, line } => Nest::Refused { number, line },
+        LaidOut::Refused { number, line } => NestedLayout::Refused { number, line },
     }
 }
 
 // A table without a width, or the refusal.
-fn without_in(read: Reading) -> Nest
+fn without_in(read: Reading) -> NestedLayout
     ensures { λ r. ⌜ r ≡ withoutIn read ⌝ }
 {
     match read {
-        Reading::Lines(_) => Nest::Missing,
-        Reading::Refused { number, line } => Nest::Refused { number, line },
+        Reading::Lines(_) => NestedLayout::Missing,
+        Reading::Refused { number, line } => NestedLayout::Refused { number, line },
     }
 }
 
@@ -77,7 +77,7 @@ fn nest_read(
     column: &mut [u32],
     x: &mut [u32],
     wide: &mut [u32],
-) -> Nest
+) -> NestedLayout
     requires { ⌜ AskedIn read (now lines) line ⌝ }
     requires { ⌜ MeasuredIn read (now lines) line (figuresOf (now figures)) ⌝ }
     requires { ⌜ (raw ≤ 1) × AtMost maxSize at ⌝ }
@@ -88,13 +88,17 @@ fn nest_read(
     match at {
         Width::Without => without_in(read),
         Width::Wide(v) => {
-            let arranged = finding::layouts::layout_of(
+            let mut entries = [0u32; 3 * MAX_ENTRIES];
+            let mut rows = [0u32; 2 * MAX_LINES];
+            let arranged = call_layout::read::layout_read(
                 read,
                 line,
                 lines,
                 figures,
                 raw,
                 v,
+                &mut entries,
+                &mut rows,
                 column,
                 x,
                 wide,
@@ -115,7 +119,7 @@ fn nest_sheet(
     column: &mut [u32],
     x: &mut [u32],
     wide: &mut [u32],
-) -> Nest
+) -> NestedLayout
     requires { ⌜ (raw ≤ 1) × (width ≤ maxSize) ⌝ }
     requires { ⌜ OutRoom (now column) (now x) (now wide) ⌝ }
     ensures { λ r. ⌜ NestFound (walkedChecks true (now (sheet .entry)) line wrap raw width overflow) (now (sheet .entry)) line wrap raw width r
@@ -153,47 +157,47 @@ pub fn find_nested(
     column: &mut [u32],
     x: &mut [u32],
     wide: &mut [u32],
-) -> Nest
+) -> NestedLayout
     requires { ⌜ (asked ≡ Accepted → ((raw ≤ 1) × (width ≤ maxSize)) × OutRoom (now column) (now x) (now wide)) ⌝ }
     ensures { λ r. ⌜ NestFound (early asked ∷ walkedChecks true (now (sheet .entry)) line wrap raw width overflow) (now (sheet .entry)) line wrap raw width r
         (now (column .exit)) (now (x .exit)) (now (wide .exit)) ⌝ }
 {
     match asked {
-        Verdict::Refused { number, line: at } => Nest::Refused { number, line: at },
+        Verdict::Refused { number, line: at } => NestedLayout::Refused { number, line: at },
         Verdict::Accepted => nest_sheet(sheet, line, wrap, raw, width, overflow, column, x, wide),
     }
 }
 
 // How many columns the table has.
-pub fn column_count(found: Nest) -> usize
-    ensures { λ r. ⌜ r ≡ columnTotal found ⌝ }
+pub fn column_count(found: NestedLayout) -> usize
+    ensures { λ r. ⌜ r ≡ columnsIn found ⌝ }
 {
     match found {
-        Nest::Table {
+        NestedLayout::Table {
             at: _,
             way: _,
             entries: _,
             columns: n,
             width: _,
         } => n as usize,
-        Nest::Missing => 0,
-        Nest::Refused { number: _, line: _ } => 0,
+        NestedLayout::Missing => 0,
+        NestedLayout::Refused { number: _, line: _ } => 0,
     }
 }
 
 // How many entries it has.
-pub fn place_count(found: Nest) -> usize
-    ensures { λ r. ⌜ r ≡ placeTotal found ⌝ }
+pub fn entry_count(found: NestedLayout) -> usize
+    ensures { λ r. ⌜ r ≡ entriesIn found ⌝ }
 {
     match found {
-        Nest::Table {
+        NestedLayout::Table {
             at: _,
             way: _,
             entries: n,
             columns: _,
             width: _,
         } => n as usize,
-        Nest::Missing => 0,
-        Nest::Refused { number: _, line: _ } => 0,
+        NestedLayout::Missing => 0,
+        NestedLayout::Refused { number: _, line: _ } => 0,
     }
 }

@@ -2,7 +2,7 @@
 use mathlib.Core.Path.{_≡_, refl, sym, ap, subst, _∙_}
 use mathlib.Core.Bool.{Bool, true}
 use mathlib.Core.List.{List, [], _∷_, map}
-use Prim.Native.Nat.{ℕ, zero, suc, _+_, _-_, _/_, _≤_}
+use Prim.Native.Nat.{ℕ, zero, suc, _+_, _-_, _*_, _/_, _≤_}
 use native.Mathlib.Omega.{arith}
 use lib.ListN.{length, getD, take, length-map}
 use lib.Seq.{take-at}
@@ -15,6 +15,7 @@ use Rattle.line.specs.Fields.{Line, noLine, ownSize}
 use Rattle.records.specs.Kept.{noKept, keptCount, keptsOf, entryBy, entriesOf, rowBy, rowsOf}
 use Rattle.records.specs.declared.Kept.{Kept}
 use Rattle.records.proofs.Records.{length-of}
+use Rattle.records.proofs.Kepts.{kepts-take}
 use Rattle.sheet.specs.Sheet.{sheetLines}
 use Rattle.sheet.specs.Steps.{roomFor}
 use Rattle.sheet.specs.Reading.{keptOf, readingOf}
@@ -34,7 +35,7 @@ use Rattle.opening.specs.inner.Opened.{Apt, Opened}
 use Rattle.opening.proofs.Ready.{kept-count, kept-depth, kept-kind, kept-lined, kept-nests}
 use Rattle.opening.proofs.Opens.{opened-reads, opened-asked}
 use Rattle.opening.proofs.Answers.{table-apt}
-use Rattle.opening.specs.inner.Measures.{Measurable, InScope, ScopeMeasured, SheetMeasured, TableMeasured}
+use Rattle.opening.specs.inner.Measures.{Measurable, InScope, ScopeMeasured, SufficeIn, ScratchForAny, ReadLent, ReadMeasured, SheetMeasured, TableMeasured}
 use Rattle.opening.specs.declared.Scope.{Scope}
 use Rattle.opening.specs.declared.Scope.the-variants as scope
 
@@ -113,12 +114,25 @@ module _ {s : Scope} {wrap : ℕ} {ks : List Kept} {b c : List Estimate} where
     table = λ l e. let h = sym q ∙ e in let z : line ≡ l = cc in rw (← z) m;
   }
 
+-- ---- the lines that were read
+
+pub suffice-in : {r : Reading} (lines : List ℕ) {e k n : ℕ} → r ≡ Lines n → n ≤ keptCount lines → Suffice e k (keptsOf (take (2 * n) lines)) → SufficeIn r lines e k
+suffice-in lines {n = n} q h s m f = let z : n ≡ m = cc in rw (← z) (rw (kepts-take lines n h) at s)
+
+pub measured-in : {r : Reading} {s : Scope} {wrap : ℕ} (lines : List ℕ) {b c : List Estimate} {n : ℕ} → r ≡ Lines n → ScopeMeasured s wrap (take n (keptsOf lines)) b c
+    → ReadMeasured r s wrap lines b c
+measured-in lines {n = n} q m k f = let z : n ≡ k = cc in rw (← z) m
+
+-- scratch that is as long as it was
+pub any-still : {leasts leasts′ entries rows : List ℕ} → length leasts′ ≡ length leasts → ScratchForAny leasts entries rows → ScratchForAny leasts′ entries rows
+any-still e h = record { leasts-room = omega (arith, h .leasts-room); entries-room = h .entries-room; rows-room = h .rows-room }
+
 -- ---- a sheet
 
 module _ {asks : Bool} {s : List ℕ} {line : ℕ} {r : Reading} {lines : List ℕ} (w : Opened asks s line r lines) where
   pub front-measurable : (n : ℕ) → r ≡ Lines n → {fs : List Estimate} → roomFor s ≤ keptCount lines → roomFor s ≤ length fs
       → (n ≤ keptCount lines) × Measurable (take n (keptsOf lines)) fs
-  front-measurable n e {fs} a c =
+  front-measurable n e {fs = fs} a c =
       let o = opened-reads asks s line n (sym (w .answer) ∙ e) in
       let m = accepted-room s n o in
       let l = kept-count s n o in (
@@ -130,27 +144,39 @@ module _ {asks : Bool} {s : List ℕ} {line : ℕ} {r : Reading} {lines : List �
   pub front-table : asks ≡ true → (n : ℕ) → r ≡ Lines n → InScope (scope.Table line) (take n (keptsOf lines))
   front-table q n e = rw (w .holds n e) (table-in (table-apt (keptLines s) line (opened-asked asks s line n (sym (w .answer) ∙ e) q)))
 
-  pub sheet-refused : {wrap : ℕ} {figures : List ℕ} (refusal at : ℕ) → r ≡ Refused refusal at → SheetMeasured asks s line wrap (Refused refusal at) lines figures
-  sheet-refused refusal at e = record { opened = rw e at w; measured = λ n f. let z : _≡_ {A = ℕ} 0 1 = cc in absurd (omega arith) }
+  -- scratch that suffices for the lines, or for any table
+  module _ {sc : Scope} {fs : List Estimate} (a : roomFor s ≤ keptCount lines) (c : roomFor s ≤ length fs)
+      (i : (n : ℕ) → r ≡ Lines n → InScope sc (take n (keptsOf lines))) (leasts entries rows : List ℕ) where
+    pub lent-few : maxPosition ≤ length leasts → SufficeIn r lines (length entries / 3) (length rows / 2) → ReadLent r sc lines fs leasts (entriesOf entries) (rowsOf rows)
+    lent-few h z = record {
+      front = λ n e. front-measurable n e {fs = fs} a c .0;
+      lent = λ n e. lent-scratch (front-measurable n e {fs = fs} a c .1) leasts entries rows h (z n e);
+      scope = i;
+    }
 
-  pub sheet-measured : {wrap : ℕ} {b : List Estimate} {figures : List ℕ} (n : ℕ) → r ≡ Lines n → ScopeMeasured scope.Sheet wrap (take n (keptsOf lines)) b (figuresOf figures)
-      → SheetMeasured asks s line wrap (Lines n) lines figures
-  sheet-measured {wrap} n e m₀ =
-      let m = rw (w .holds n e) at (m₀ .sheet refl) in
-      record {
-        opened = rw e at w;
-        measured = λ _ _. record {
+    pub lent-any : ScratchForAny leasts entries rows → ReadLent r sc lines fs leasts (entriesOf entries) (rowsOf rows)
+    lent-any h = record {
+      front = λ n e. front-measurable n e {fs = fs} a c .0;
+      lent = λ n e. lent-large (front-measurable n e {fs = fs} a c .1) leasts entries rows (h .leasts-room) (h .entries-room) (h .rows-room);
+      scope = i;
+    }
+
+  pub sheet-measured : {wrap : ℕ} {b figures : List Estimate} → ReadMeasured r scope.Sheet wrap lines b figures → SheetMeasured asks s line wrap r lines figures
+  sheet-measured {wrap} m₀ = record {
+    opened = w;
+    measured = λ n e.
+        let m = rw (w .holds n e) at (m₀ n e .sheet refl) in
+        record {
           figures = ap (take (length (keptLines s))) (m .results) ∙ take-at (estimates wrap (keptLines s)) _ (length (keptLines s)) (length-map (measured wrap 1 (keptLines s)) estOf ∙ length-all wrap (keptLines s));
           sound = m .sound;
         };
-      }
+  }
 
 module _ {s : List ℕ} {line : ℕ} {r : Reading} {lines : List ℕ} (w : Opened true s line r lines) where
-  pub table-refused : {wrap : ℕ} {figures : List ℕ} (refusal at : ℕ) → r ≡ Refused refusal at → TableMeasured s line wrap (Refused refusal at) lines figures
-  table-refused refusal at e = record { opened = rw e at w; measured = λ n f. let z : _≡_ {A = ℕ} 0 1 = cc in absurd (omega arith) }
-
-  pub table-measured : {wrap : ℕ} {b : List Estimate} {figures : List ℕ} (n : ℕ) → r ≡ Lines n → ScopeMeasured (scope.Table line) wrap (take n (keptsOf lines)) b (figuresOf figures)
-      → TableMeasured s line wrap (Lines n) lines figures
-  table-measured {wrap} n e m₀ =
-      let m = rw (w .holds n e) at (m₀ .table line refl) in
-      record { opened = rw e at w; measured = λ _ _. record { cells = m .cells; sound = m .sound } }
+  pub table-measured : {wrap : ℕ} {b figures : List Estimate} → ReadMeasured r (scope.Table line) wrap lines b figures → TableMeasured s line wrap r lines figures
+  table-measured {wrap} m₀ = record {
+    opened = w;
+    measured = λ n e.
+        let m = rw (w .holds n e) at (m₀ n e .table line refl) in
+        record { cells = m .cells; sound = m .sound };
+  }

@@ -2,8 +2,10 @@
 pub mod measuring; // measuring.rt: the lines measured too
 
 ghost use mathlib.Core.Path.{_≡_};
+ghost use mathlib.Core.Bool.{true};
 ghost use Prim.Native.Nat.{_≤_};
 ghost use lib.ListN.{length, take};
+ghost use Rattle.lists.specs.Sizes.{smallLines};
 ghost use Rattle.records.specs.Kept.{keptCount, keptsOf};
 ghost use Rattle.sheet.specs.Steps.{roomFor};
 ghost use Rattle.sheet.specs.Reading.{Reads};
@@ -16,6 +18,16 @@ use sheet::Reading;
 pub enum Scope {
     Sheet,
     Table(u32),
+}
+
+// Whether arrays for few lines do for a sheet. They are for speed alone.
+pub fn is_small(sheet: &[u8]) -> bool
+    ensures { λ r. ⌜ (r ≡ true → roomFor (now (sheet .entry)) ≤ smallLines) ⌝ }
+{
+    if sheet.len() > lists::MAX_BYTES {
+        return false;
+    }
+    sheet::front::feeds_of(sheet) as usize <= lists::SMALL_LINES
 }
 
 // Whether a line is a table: record k is of line k + 1.

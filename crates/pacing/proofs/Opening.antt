@@ -22,7 +22,6 @@ use Rattle.sheet.specs.declared.Reading.the-variants.{Lines, Refused}
 use Rattle.sheet.proofs.First.{first-passes, first-after, first-accepts, first-carries, accepted-passes}
 use Rattle.estimates.specs.Estimates.{none, estimates}
 use Rattle.estimates.specs.Sheet.{Sheet}
-use Rattle.estimates.specs.inner.Figures.{figuresOf}
 use Rattle.opening.specs.Opening.{keptLines, openChecks, openedOf}
 use Rattle.opening.specs.inner.Measures.{SheetMeasured}
 use Rattle.opening.proofs.Ready.{kept-lined}
@@ -38,12 +37,12 @@ use Rattle.pacing.specs.inner.Found.{SheetOpened, ReadWalkable, WalkRead
 
 -- ---- opened and measured
 
-module _ {asks : Bool} {s : List ℕ} {line wrap : ℕ} {r : Reading} {lines figures : List ℕ} (m : SheetMeasured asks s line wrap r lines figures)
-    (a : roomFor s ≤ keptCount lines) (c : roomFor s ≤ length (figuresOf figures)) where
+module _ {asks : Bool} {s : List ℕ} {line wrap : ℕ} {r : Reading} {lines : List ℕ} {figures : List Estimate} (m : SheetMeasured asks s line wrap r lines figures)
+    (a : roomFor s ≤ keptCount lines) (c : roomFor s ≤ length figures) where
   sheet-here : (n : ℕ) → r ≡ Lines n → Sheet (keptLines s)
-  sheet-here n e = rw (m .opened .holds n e) at (front-measurable (m .opened) n e {fs = figuresOf figures} a c .1 .sheet)
+  sheet-here n e = rw (m .opened .holds n e) at (front-measurable (m .opened) n e {fs = figures} a c .1 .sheet)
 
-  pub sheet-opened : SheetOpened asks s line wrap r lines (figuresOf figures)
+  pub sheet-opened : SheetOpened asks s line wrap r lines figures
   sheet-opened = record {
     answer = m .opened .answer;
     holds = m .opened .holds;

@@ -30,7 +30,7 @@ fn open_measured(
     requires { ⌜ maxPosition ≤ length (now leasts) ⌝ }
     ensures { λ r. ⌜ SheetOpened asks (now (sheet .entry)) line wrap r (now (lines .exit)) (figuresOf (now (figures .exit))) ⌝ }
 {
-    let mut entries = [0u32; 3 * MAX_LINES];
+    let mut entries = [0u32; 3 * MAX_ENTRIES];
     let mut rows = [0u32; 2 * MAX_LINES];
     opening::measuring::measure_sheet(
         sheet,

@@ -20,7 +20,7 @@ use Rattle.estimates.specs.Estimates.{measured, estimateOf, leafOf, holderOf, g
 use Rattle.cutting.specs.Cut.{pick, cutOnce, cutBy, cut}
 use Rattle.widths.specs.Share.{share, sharesOf}
 use Rattle.widths.specs.Widths.{wayOf, finalWidths}
-use Rattle.widths.specs.declared.Way.the-variants.{Down}
+use Rattle.answers.specs.declared.Way.the-variants.{Down}
 use Rattle.table.specs.Laying.{wayIn}
 use Rattle.table.specs.Arranging.{boxesAt}
 use Rattle.placing.specs.Place.{placeSide, placeDown, placeRow, placeRows}

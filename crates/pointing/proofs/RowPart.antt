@@ -7,8 +7,8 @@ use native.Mathlib.Omega.{arith}
 use lib.ListN.{length, getD, take, drop, length-append}
 use lib.Seq.{slice, take-at, take-take, take-nil, take-append-add, drop-append-add}
 use Rattle.columns.specs.Boxes.{Box, flat}
-use Rattle.widths.specs.declared.Way.{Way}
-use Rattle.widths.specs.declared.Way.the-variants.{Sideways, Down}
+use Rattle.answers.specs.declared.Way.{Way}
+use Rattle.answers.specs.declared.Way.the-variants.{Sideways, Down}
 use Rattle.placing.specs.Place.{Placed, at, placeSide, placeDown, placeRow, placeRows}
 use Rattle.placing.specs.inner.Rows.{Written}
 use Rattle.placing.proofs.Placing.{length-row}

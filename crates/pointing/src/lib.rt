@@ -5,20 +5,13 @@ ghost use lib.Seq.{slice};
 ghost use Rattle.placing.specs.Place.{at};
 ghost use Rattle.pointing.specs.Point.{placed, covers, closes, inside, pointed, gapAt, jointOf, joined};
 ghost use Rattle.pointing.specs.inner.Rows.{InSlices, Room, Listed};
+use answers::Joint;
 
 // What lies at a character column: the cell with this number, the gap between two printed cells, or nothing.
 pub enum Under {
     Cell(usize),
     Gap,
     Nothing,
-}
-
-// The joining character between a row and the next, as a gap stands above it, below it, on both sides or on none.
-pub enum Joint {
-    Plain,
-    Up,
-    Down,
-    Both,
 }
 
 // An entry covers the column.

@@ -19,8 +19,8 @@ use Rattle.placing.specs.Place.{Placed}
 use Rattle.opening.specs.Opening.{asked, openChecks}
 use Rattle.arguments.specs.Arguments.{settingsCheck, pointingArguments, withinArguments}
 use Rattle.arguments.proofs.Shorter.{one-shorter}
-use Rattle.finding.specs.Figures.{rowsAt, boxesAt, wayAt, widthsAt}
-use Rattle.tables.specs.inner.Telling.{early}
+use Rattle.sheet_figures.specs.Figures.{rowsAt, boxesAt, wayAt, widthsAt}
+use Rattle.sheet_figures.specs.inner.Early.{early}
 use Rattle.pointing.specs.Point.{placed, pointed, listed}
 use Rattle.pointing.specs.declared.Under.the-variants as under
 use Rattle.pointing.specs.inner.Rows as rows
@@ -30,7 +30,7 @@ use Rattle.pointing.proofs.Listing.{listed-length}
 use Rattle.preview.specs.Preview.{rowStart, lateCheck, rowChecks, pointedIn, pointedOf, listedOf, forOne, WithinAnswer, joinedOf}
 use Rattle.spots.specs.declared.Spot.{Spot}
 use Rattle.spots.specs.declared.Spot.the-variants.{Row, Refused}
-use Rattle.preview.specs.declared.Listed.{Listed}
+use Rattle.answers.specs.declared.Listed.{Listed}
 use Rattle.spots.specs.inner.Spots.{spotIn, RowsTold, SpotFound}
 use Rattle.preview.specs.inner.Said.{RowFits, SpotFits, SpotRoom, pointedBy, joinedBy, entriesBy, countedBy, EntriesListed}
 

@@ -15,8 +15,8 @@ use Rattle.lists.specs.Refusals.{Check, firstAnswer, passes}
 use Rattle.sheet.specs.Sheet.{sheetChecks}
 use Rattle.sheet.proofs.First.{neither, both-true, passes-cons, passes-both, passes-append, first-passes, figures-pass, accepted-passes, passes-accepted}
 use Rattle.widths.specs.Share.{shares}
-use Rattle.widths.specs.declared.Way.{Way}
-use Rattle.widths.specs.declared.Way.the-variants.{Sideways, Down}
+use Rattle.answers.specs.declared.Way.{Way}
+use Rattle.answers.specs.declared.Way.the-variants.{Sideways, Down}
 use Rattle.placing.specs.Place.{placeRow}
 use Rattle.placing.specs.Promise.{Side}
 use Rattle.pointing.specs.Point.{pointed, gapAt, joined}
@@ -27,15 +27,15 @@ use Rattle.pointing.proofs.RowPart.{row-none}
 use Rattle.opening.specs.Opening.{keptLines, isTable, lineCheck}
 use Rattle.arguments.specs.Arguments.{settingsCheck}
 use Rattle.arguments.proofs.Shorter.{one-shorter}
-use Rattle.finding.specs.Figures.{rowsAt, columnsAt, boxesAt, sizesAt, leastsAt, wayAt, widthsAt}
-use Rattle.tables.specs.Calls.{everyTable}
+use Rattle.sheet_figures.specs.Figures.{rowsAt, columnsAt, boxesAt, sizesAt, leastsAt, wayAt, widthsAt}
+use Rattle.sheet_figures.specs.Calls.{everyTable}
 use Rattle.spots.specs.Rows.{goesDown}
 use Rattle.teaching.proofs.Missing.{third-demand}
 use Rattle.preview.specs.Preview.{rowStart, rowPlaces, lateCheck, rowChecks, pointChecks, withinChecks, pointedOf, listedAt, listedOf, forOne, joinedOf}
 use Rattle.preview.specs.Exact.{RowIn, RowsAccepted, AtExactly, WithinExactly, JoiningExactly}
-use Rattle.preview.specs.declared.Pointed.the-variants as pointing
-use Rattle.preview.specs.declared.Listed.the-variants as listing
-use Rattle.preview.specs.declared.Joined.the-variants as joining
+use Rattle.answers.specs.declared.Pointed.the-variants as pointing
+use Rattle.answers.specs.declared.Listed.the-variants as listing
+use Rattle.answers.specs.declared.Joined.the-variants as joining
 
 -- ---- the checks
 

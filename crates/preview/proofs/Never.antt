@@ -4,7 +4,7 @@ use Prim.Native.Nat.{ℕ}
 use native.Mathlib.Omega.{arith}
 use Rattle.lists.specs.Lists.{All}
 use Rattle.lists.proofs.All.{all-append}
-use Rattle.tables.proofs.Never.{Other, no-more, more, asked-other}
+use Rattle.sheet_figures.proofs.Never.{Other, no-more, more, asked-other}
 use Rattle.preview.specs.Preview.{rowChecks, pointChecks, withinChecks}
 
 -- what is asked of the sheet, the line, the tables and the row

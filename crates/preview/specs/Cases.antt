@@ -34,12 +34,12 @@ use Rattle.arguments.specs.Arguments.{anyShorter}
 use Rattle.opening.specs.Opening.{isTable}
 use Rattle.grid.specs.Grid.{entriesOf}
 use Rattle.pointing.specs.Point.{somePrinted, gapBefore, pointed, isGap, gapAt, listed, jointOf}
-use Rattle.pointing.specs.declared.Joint.the-variants.{Plain, Up, Down}
+use Rattle.answers.specs.declared.Joint.the-variants.{Plain, Up, Down}
 use Rattle.spots.specs.Rows.{goesDown}
 use Rattle.preview.specs.Preview.{pointedIn, pointedOf, listedAt, listedOf, joinedOf}
-use Rattle.preview.specs.declared.Pointed.the-variants.{Cell, Gap, Nothing, Refused}
-use Rattle.preview.specs.declared.Listed.the-variants as listing
-use Rattle.preview.specs.declared.Joined.the-variants as joining
+use Rattle.answers.specs.declared.Pointed.the-variants.{Cell, Gap, Nothing, Refused}
+use Rattle.answers.specs.declared.Listed.the-variants as listing
+use Rattle.answers.specs.declared.Joined.the-variants as joining
 
 -- a text as a line of a sheet
 abbrev line : String → List ℕ

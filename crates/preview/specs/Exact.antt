@@ -9,16 +9,16 @@ use Rattle.lists.specs.Lists.{padded}
 use Rattle.lists.specs.Limits.{maxWrap, maxWidth, maxEntries}
 use Rattle.lists.specs.Refusals.{verdictOf}
 use Rattle.lists.specs.declared.Verdict.the-variants.{Accepted}
-use Rattle.widths.specs.declared.Way.the-variants.{Sideways}
+use Rattle.answers.specs.declared.Way.the-variants.{Sideways}
 use Rattle.pointing.specs.Exact.{Exactly, ListsExactly, Joins}
 use Rattle.pointing.specs.declared.Under.{Under}
-use Rattle.pointing.specs.declared.Joint.{Joint}
-use Rattle.finding.specs.Figures.{rowsAt, wayAt}
-use Rattle.tables.specs.Answers.{leaves}
+use Rattle.answers.specs.declared.Joint.{Joint}
+use Rattle.sheet_figures.specs.Figures.{rowsAt, wayAt}
+use Rattle.sheet_figures.specs.Calls.{leaves}
 use Rattle.teaching.specs.Missing.{TableIn}
 use Rattle.preview.specs.Preview.{rowStart, rowPlaces, pointChecks, withinChecks, pointedIn, pointedOf, listedAt, listedOf, forOne, joinedOf}
-use Rattle.preview.specs.declared.Listed.the-variants.{Entries}
-use Rattle.preview.specs.declared.Joined.the-variants.{Character}
+use Rattle.answers.specs.declared.Listed.the-variants.{Entries}
+use Rattle.answers.specs.declared.Joined.the-variants.{Character}
 
 -- a row of a table that goes sideways: of a line of an accepted sheet that is a table, with settings in their ranges
 pub record RowIn (s : List ℕ) (line wrap raw width row : ℕ) : Type 0 where

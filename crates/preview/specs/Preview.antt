@@ -9,20 +9,20 @@ use Rattle.sheet.specs.Sheet.{sheetChecks}
 use Rattle.pointing.specs.Point.{pointed, listed, joined}
 use Rattle.pointing.specs.declared.Under.{Under}
 use Rattle.pointing.specs.declared.Under.the-variants as under
-use Rattle.pointing.specs.declared.Joint.{Joint}
-use Rattle.pointing.specs.declared.Joint.the-variants as joint
+use Rattle.answers.specs.declared.Joint.{Joint}
+use Rattle.answers.specs.declared.Joint.the-variants as joint
 use Rattle.opening.specs.Opening.{keptLines, lineCheck}
 use Rattle.arguments.specs.Arguments.{pointingArguments, withinArguments}
-use Rattle.tables.specs.Calls.{everyTable}
-use Rattle.tables.specs.Answers.{leaves}
+use Rattle.sheet_figures.specs.Calls.{everyTable}
+use Rattle.sheet_figures.specs.Calls.{leaves}
 -- the number of a row's first entry, its placed entries, and 10 where there is no such row or the table goes down
 pub use Rattle.spots.specs.Rows.{rowStart, rowPlaces, lateCheck}
-use Rattle.preview.specs.declared.Pointed.{Pointed}
-use Rattle.preview.specs.declared.Pointed.the-variants.{Cell, Gap, Nothing, Refused}
-use Rattle.preview.specs.declared.Listed.{Listed}
-use Rattle.preview.specs.declared.Listed.the-variants as listing
-use Rattle.preview.specs.declared.Joined.{Joined}
-use Rattle.preview.specs.declared.Joined.the-variants as joining
+use Rattle.answers.specs.declared.Pointed.{Pointed}
+use Rattle.answers.specs.declared.Pointed.the-variants.{Cell, Gap, Nothing, Refused}
+use Rattle.answers.specs.declared.Listed.{Listed}
+use Rattle.answers.specs.declared.Listed.the-variants as listing
+use Rattle.answers.specs.declared.Joined.{Joined}
+use Rattle.answers.specs.declared.Joined.the-variants as joining
 
 -- ---- what is refused
 
@@ -82,19 +82,3 @@ unfoldable pub joinedOf : List ℕ → ℕ → ℕ → ℕ → ℕ → ℕ → �
 joinedOf s line wrap raw width row x =
     firstAnswer joining.Refused (joining.Character (joined x (rowPlaces s line wrap raw width row) (rowPlaces s line wrap raw width (row + 1))))
     (pointChecks s line wrap raw width row)
-
--- ---- the answers in numbers
-
--- 0 nothing, 1 gap, 2 cell
-unfoldable pub whatNumber : Pointed → ℕ
-whatNumber (Cell entry) = 2
-whatNumber Gap = 1
-whatNumber Nothing = 0
-whatNumber (Refused number line) = 0
-
--- 0 plain, 1 up, 2 down, 3 both
-unfoldable pub jointNumber : Joint → ℕ
-jointNumber joint.Plain = 0
-jointNumber joint.Up = 1
-jointNumber joint.Down = 2
-jointNumber joint.Both = 3

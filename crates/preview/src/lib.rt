@@ -7,30 +7,13 @@ ghost use Rattle.pointing.specs.Point.{placed};
 ghost use Rattle.pointing.specs.declared.Under.the-variants.{Cell};
 ghost use Rattle.preview.specs.Preview.{pointedIn, pointedOf, joinedOf, WithinAnswer};
 ghost use Rattle.preview.specs.inner.Said.{SpotFits, SpotRoom, pointedBy, joinedBy, entriesBy, countedBy, EntriesListed};
+use answers::Joined;
+use answers::Joint;
+use answers::Listed;
+use answers::Pointed;
 use lists::MAX_ENTRIES;
-use pointing::Joint;
 use pointing::Under;
 use spots::Spot;
-
-// What lies at a column: the printed cell with this number among the grid's entries, the gap between two printed cells, or nothing; or the refusal.
-pub enum Pointed {
-    Cell { entry: u32 },
-    Gap,
-    Nothing,
-    Refused { number: u32, line: u32 },
-}
-
-// How many printed cells lie in a stretch; or the refusal.
-pub enum Listed {
-    Entries { count: u32 },
-    Refused { number: u32, line: u32 },
-}
-
-// The joining character; or the refusal.
-pub enum Joined {
-    Character(Joint),
-    Refused { number: u32, line: u32 },
-}
 
 // What lies under the pointer, in the words of this crate.
 fn told(under: Under) -> Pointed

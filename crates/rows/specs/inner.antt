@@ -1,2 +1,3 @@
 -- How the code goes about it: what hangs in slices.
+pub mod Overhangs
 pub mod Carrying

@@ -21,7 +21,7 @@ use Rattle.line.proofs.Told.{good-line}
 use Rattle.line.specs.declared.Node.{Node}
 use Rattle.line.specs.declared.LineRead.{LineRead}
 use Rattle.line.specs.declared.LineRead.the-variants.{Good, BadFields, BadByte, NotExpression, OutOfBounds}
-use Rattle.eights.specs.Briefs.{figuresOf}
+use Rattle.eights.specs.inner.Briefs.{figuresOf}
 use Rattle.eights.specs.declared.Brief.{Brief}
 use Rattle.sheet.specs.Nesting.{misplaced}
 use Rattle.sheet.specs.Sheet.{linesChecks, linesOf, sheetLines, sheetChecks}

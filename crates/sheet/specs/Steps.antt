@@ -1,6 +1,6 @@
 -- What the reader's inner functions ask and answer. These are definitions; nothing is assumed.
 use mathlib.Core.Path.{_≡_}
-use mathlib.Core.Bool.{Bool, true, not, cond, _&&_, _||_}
+use mathlib.Core.Bool.{Bool, true, false, not, cond, _&&_, _||_}
 use mathlib.Core.List.{List, [], _∷_, map}
 use Prim.Native.Nat.{ℕ, _+_, _-_, _≤_, _<_, min}
 use lib.Dec.{leb, eqb}
@@ -17,7 +17,7 @@ use Rattle.line.specs.Fields.{Line}
 use Rattle.line.specs.declared.Node.{Node}
 use Rattle.line.specs.declared.LineRead.{LineRead}
 use Rattle.line.specs.declared.LineRead.the-variants.{Good, BadFields, BadByte, NotExpression, OutOfBounds}
-use Rattle.eights.specs.Briefs.{figuresOf}
+use Rattle.eights.specs.inner.Briefs.{figuresOf}
 use Rattle.eights.specs.declared.Brief.{Brief}
 use Rattle.sheet.specs.Sheet.{isEmpty, emptyChecks}
 use Rattle.sheet.specs.declared.Reading.{Reading}
@@ -87,6 +87,15 @@ unfoldable pub emptyAt : List Kept → ℕ → Bool
 emptyAt ks i =
     (eqb (getD ks i noKept .kind) tableKind || eqb (getD ks i noKept .kind) bodyKind)
     && (leb (length ks) (i + 1) || leb (getD ks (i + 1) noKept .depth) (getD ks i noKept .depth))
+
+-- no line up to the place is so
+abbrev pub FilledTo : List Kept → ℕ → Type 0
+FilledTo ks end = (i : ℕ) → i < end → emptyAt ks i ≡ false
+
+-- by a line and the next one: 0 only where it is no table and no body, or the next one is deeper
+pub record Lacks (here next : Kept) (r : ℕ) : Type 0 where
+  pub one : r ≤ 1
+  pub filled : r ≡ 0 → ((eqb (here .kind) tableKind || eqb (here .kind) bodyKind) && leb (next .depth) (here .depth)) ≡ false
 
 -- the sheet is neither too long nor without its first line
 pub record Begun (s : List ℕ) : Type 0 where

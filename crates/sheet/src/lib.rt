@@ -4,14 +4,15 @@ pub mod nesting; // nesting.rt: what may stand below what
 pub mod cursor; // cursor.rt: a record that holds the sheet and the current place
 
 ghost use mathlib.Core.Path.{_≡_};
+ghost use mathlib.Core.Bool.{true};
 ghost use Prim.Native.Nat.{_≤_, _<_};
 ghost use Rattle.lists.specs.Limits.{maxLines, maxDepth};
 ghost use Rattle.records.specs.Kept.{OfItsKind, keptsOf, keptCount};
 ghost use Rattle.text.specs.Bytes.{Classes};
 ghost use Rattle.line.specs.LineAt.{lineAt};
-ghost use Rattle.eights.specs.Briefs.{figuresOf};
+ghost use Rattle.eights.specs.inner.Briefs.{figuresOf};
 ghost use Rattle.sheet.specs.Reading.{Reads};
-ghost use Rattle.sheet.specs.Steps.{AtLine, BriefOf, readOf, judgementOf, Answers, emptyAt, lineEnd, bare, Begun, roomFor};
+ghost use Rattle.sheet.specs.Steps.{AtLine, BriefOf, readOf, judgementOf, Answers, emptyAt, Lacks, FilledTo, lineEnd, bare, Begun, roomFor};
 use eights::Brief;
 use eights::Common;
 use line::LineRead;
@@ -116,7 +117,50 @@ fn left_empty_at(lines: &[u32], i: usize) -> bool
     below.depth <= here.depth
 }
 
-// What is asked after the lines: 4 for no line, or for the first table or body left empty.
+// 1 if a line is a table or a body and the next line is no deeper, else 0: worked out without a jump, so that the compiled loop takes more lines at a time.
+fn lacks(here: Kept, next: Kept) -> u32
+    ensures { λ r. ⌜ Lacks here next r ⌝ }
+{
+    if here.kind < kinds::TABLE {
+        return 0;
+    }
+    if here.kind > kinds::BODY {
+        return 0;
+    }
+    if next.depth > here.depth {
+        return 0;
+    }
+    1
+}
+
+// How many of the lines up to a place are so.
+fn lacking(lines: &[u32], end: usize) -> u32
+    requires { ⌜ (end < keptCount (now lines)) × (end ≤ maxLines) ⌝ }
+    ensures { λ r. ⌜ (r ≡ 0 → FilledTo (keptsOf (now (lines .entry))) end) ⌝ }
+{
+    let mut found: u32 = 0;
+    let mut i = 0;
+    while i < end {
+        found += lacks(records::kept_at(lines, i), records::kept_at(lines, i + 1));
+        i += 1;
+    }
+    found
+}
+
+// Whether no table and no body is seen to be left empty.
+fn all_filled(lines: &[u32]) -> bool
+    requires { ⌜ (1 ≤ keptCount (now lines)) × (keptCount (now lines) ≤ maxLines) ⌝ }
+    ensures { λ r. ⌜ (r ≡ true → FilledTo (keptsOf (now (lines .entry))) (keptCount (now (lines .entry)))) ⌝ }
+{
+    let last = records::count(lines) - 1;
+    let here = records::kept_at(lines, last);
+    if nesting::needs_child(here.kind) {
+        return false;
+    }
+    lacking(lines, last) == 0
+}
+
+// What is asked after the lines: 4 for no line, or for the first table or body left empty. In most sheets there is none, which is seen at once.
 fn finish(lines: &[u32]) -> Reading
     requires { ⌜ keptCount (now lines) ≤ maxLines ⌝ }
     ensures { λ r. ⌜ r ≡ lineEnd (bare (keptsOf (now (lines .entry)))) ⌝ }
@@ -124,6 +168,9 @@ fn finish(lines: &[u32]) -> Reading
     let n = records::count(lines);
     if n == 0 {
         return Reading::Refused { number: 4, line: 0 };
+    }
+    if all_filled(lines) {
+        return Reading::Lines(n);
     }
     let mut i = 0;
     while i < n {

@@ -6,7 +6,7 @@ use native.Mathlib.Omega.{arith}
 use Rattle.lists.specs.Refusals.{Check, firstAnswer, passes}
 use Rattle.lists.specs.declared.Verdict.{Verdict}
 use Rattle.lists.specs.declared.Verdict.the-variants.{Accepted, Refused as Refuses}
-use Rattle.tables.specs.inner.Telling.{early}
+use Rattle.sheet_figures.specs.inner.Early.{early}
 use Rattle.spots.specs.declared.Spot.{Spot}
 use Rattle.spots.specs.declared.Spot.the-variants.{Refused}
 use Rattle.spots.specs.inner.Spots.{SpotFound}

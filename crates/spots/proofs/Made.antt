@@ -19,14 +19,14 @@ use Rattle.grid.proofs.GridFacts.{grid-entries, grid-rows}
 use Rattle.grid.proofs.Rebuilt.{held-few}
 use Rattle.estimates.specs.Estimates.{boxOf}
 use Rattle.gridding.specs.declared.Counts.{Counts}
-use Rattle.widths.specs.declared.Way.{Way}
+use Rattle.answers.specs.declared.Way.{Way}
 use Rattle.widths.specs.declared.Laid.{Laid}
 use Rattle.placing.specs.Place.{placeRows}
 use Rattle.placing.specs.inner.Rows.{Written}
 use Rattle.pointing.specs.Point.{placed}
 use Rattle.pointing.proofs.RowPart.{row-written}
 use Rattle.table.specs.Arranging.{ArrangedAt}
-use Rattle.table.specs.inner.Fitting.{Asked}
+use Rattle.table.specs.inner.Asked.{Asked}
 use Rattle.table.specs.inner.Room.{LayoutRoom}
 use Rattle.table.proofs.LayoutFitted.{layout-room}
 use Rattle.spots.specs.Rows.{startIn}

@@ -13,8 +13,8 @@ use Rattle.sheet.specs.declared.Reading.{Reading}
 use Rattle.sheet.specs.declared.Reading.the-variants as reading
 use Rattle.sheet.proofs.First.{first-passes}
 use Rattle.opening.specs.Opening.{openChecks}
-use Rattle.finding.specs.inner.Layouts.{LinesOf}
-use Rattle.finding.proofs.Openings.{failed, told, opened-passed, opened-apt}
+use Rattle.sheet_figures.specs.inner.Opened.{LinesOf}
+use Rattle.sheet_figures.proofs.Openings.{failed, told, opened-passed, opened-apt}
 use Rattle.spots.specs.declared.Spot.{Spot}
 use Rattle.spots.specs.declared.Spot.the-variants.{Refused}
 use Rattle.spots.specs.inner.Spots.{PlacesRoom, SpotMade, SpotRead, SpotFound}

@@ -16,7 +16,7 @@ use Rattle.records.proofs.Records.{length-of}
 use Rattle.columns.specs.Boxes.{Box, flat}
 use Rattle.grid.specs.Grid.{Entry, GridRow, entriesOf}
 use Rattle.gridding.specs.Packed.{endedRows}
-use Rattle.widths.specs.declared.Way.{Way}
+use Rattle.answers.specs.declared.Way.{Way}
 use Rattle.spots.specs.Rows.{startIn, goesDown}
 use Rattle.spots.specs.declared.Spot.the-variants as spot
 use Rattle.spots.specs.inner.Spots.{HasRows, spotIn}

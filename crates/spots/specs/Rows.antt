@@ -6,10 +6,10 @@ use lib.Dec.{leb}
 use lib.ListN.{length, getD, take}
 use Rattle.lists.specs.Refusals.{Check, check}
 use Rattle.grid.specs.Grid.{GridRow, entriesOf}
-use Rattle.widths.specs.declared.Way.{Way}
-use Rattle.widths.specs.declared.Way.the-variants.{Sideways, Down}
+use Rattle.answers.specs.declared.Way.{Way}
+use Rattle.answers.specs.declared.Way.the-variants.{Sideways, Down}
 use Rattle.placing.specs.Place.{Placed, placeRow}
-use Rattle.finding.specs.Figures.{rowsAt, boxesAt, wayAt, widthsAt}
+use Rattle.sheet_figures.specs.Figures.{rowsAt, boxesAt, wayAt, widthsAt}
 
 -- ---- a row of the table's grid, rows counted from 0
 

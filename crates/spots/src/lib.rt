@@ -5,15 +5,16 @@ mod starts; // where the rows of a grid start
 ghost use mathlib.Core.Path.{_≡_};
 ghost use mathlib.Core.Bool.{true};
 ghost use mathlib.Core.List.{_∷_};
-ghost use Prim.Native.Nat.{_≤_};
-ghost use Rattle.lists.specs.Limits.{maxSize};
+ghost use Prim.Native.Nat.{_/_, _≤_};
+ghost use lib.ListN.{length};
+ghost use Rattle.lists.specs.Limits.{maxEntries, maxLines, maxSize};
 ghost use Rattle.lists.specs.declared.Verdict.the-variants.{Accepted};
 ghost use Rattle.estimates.specs.inner.Figures.{figuresOf};
 ghost use Rattle.opening.specs.Opening.{openChecks};
-ghost use Rattle.finding.specs.inner.Made.{AskedIn};
-ghost use Rattle.finding.specs.inner.Layouts.{MeasuredIn};
-ghost use Rattle.tables.specs.inner.Telling.{early};
+ghost use Rattle.sheet_figures.specs.inner.Opened.{AskedIn, MeasuredIn};
+ghost use Rattle.sheet_figures.specs.inner.Early.{early};
 ghost use Rattle.spots.specs.inner.Spots.{PlacesRoom, SpotRead, SpotFound};
+use lists::MAX_ENTRIES;
 use lists::MAX_LINES;
 use lists::Verdict;
 use sheet::Reading;
@@ -40,10 +41,15 @@ fn find_read(
     raw: u32,
     width: u32,
     row: u32,
+    entries: &mut [u32],
+    rows: &mut [u32],
+    column: &mut [u32],
     x: &mut [u32],
     wide: &mut [u32],
 ) -> Spot
     requires { ⌜ AskedIn read (now lines) line ⌝ }
+    requires { ⌜ (maxEntries ≤ length (now entries) / 3) × (maxLines ≤ length (now rows) / 2) ⌝ }
+    requires { ⌜ maxLines ≤ length (now column) ⌝ }
     requires { ⌜ MeasuredIn read (now lines) line (figuresOf (now figures)) ⌝ }
     requires { ⌜ width ≤ maxSize ⌝ }
     requires { ⌜ PlacesRoom (now x) (now wide) ⌝ }
@@ -53,12 +59,24 @@ fn find_read(
         Reading::Refused { number, line: at } => Spot::Refused { number, line: at },
         Reading::Lines(n) => {
             let end = records::WIDTH * n;
-            crate::making::find_row(line, &lines[..end], figures, raw, width, row, x, wide)
+            crate::making::find_row(
+                line,
+                &lines[..end],
+                figures,
+                raw,
+                width,
+                row,
+                entries,
+                rows,
+                column,
+                x,
+                wide,
+            )
         }
     }
 }
 
-// Opens and measures the sheet. The widths are written last, and until then their slice is scratch.
+// Opens and measures the sheet. All below works in these arrays.
 fn find_sheet(
     sheet: &[u8],
     line: u32,
@@ -75,18 +93,33 @@ fn find_sheet(
 {
     let mut lines = [0u32; records::WIDTH * MAX_LINES];
     let mut figures = [0u32; 3 * MAX_LINES];
-    let mut scratch = [0u32; 2 * MAX_LINES];
+    let mut entries = [0u32; 3 * MAX_ENTRIES];
+    let mut rows = [0u32; 2 * MAX_LINES];
+    let mut column = [0u32; MAX_LINES];
     let read = opening::measuring::measure_table(
         sheet,
         line,
         wrap,
         &mut lines,
         &mut figures,
-        &mut scratch,
+        &mut column,
+        &mut entries,
+        &mut rows,
+    );
+    find_read(
+        read,
+        line,
+        &lines,
+        &figures,
+        raw,
+        width,
+        row,
+        &mut entries,
+        &mut rows,
+        &mut column,
         x,
         wide,
-    );
-    find_read(read, line, &lines, &figures, raw, width, row, x, wide)
+    )
 }
 
 // What is found in the sheet, unless the arguments are refused; the places of all entries of the table are left in the slices.

@@ -1,14 +1,13 @@
 // The row of one table of a measured sheet: the table is laid out first.
-ghost use Prim.Native.Nat.{_-_, _≤_};
-ghost use Rattle.lists.specs.Limits.{maxSize};
+ghost use Prim.Native.Nat.{_-_, _/_, _≤_};
+ghost use lib.ListN.{length};
+ghost use Rattle.lists.specs.Limits.{maxEntries, maxLines, maxSize};
 ghost use Rattle.records.specs.Kept.{keptsOf};
 ghost use Rattle.estimates.specs.inner.Figures.{figuresOf};
 ghost use Rattle.table.specs.Arranging.{TableMeasured};
-ghost use Rattle.table.specs.inner.Fitting.{Asked};
+ghost use Rattle.table.specs.inner.Asked.{Asked};
 ghost use Rattle.spots.specs.inner.Spots.{PlacesRoom, SpotMade};
 use crate::Spot;
-use lists::MAX_ENTRIES;
-use lists::MAX_LINES;
 
 // Where it stands; the places of all entries of the table are left in the slices.
 pub fn find_row(
@@ -18,18 +17,20 @@ pub fn find_row(
     raw: u32,
     width: u32,
     row: u32,
+    entries: &mut [u32],
+    rows: &mut [u32],
+    column: &mut [u32],
     x: &mut [u32],
     wide: &mut [u32],
 ) -> Spot
     requires { ⌜ Asked (keptsOf (now lines)) line ⌝ }
+    requires { ⌜ (maxEntries ≤ length (now entries) / 3) × (maxLines ≤ length (now rows) / 2) ⌝ }
+    requires { ⌜ maxLines ≤ length (now column) ⌝ }
     requires { ⌜ TableMeasured (keptsOf (now lines)) (line - 1) (figuresOf (now figures)) ⌝ }
     requires { ⌜ width ≤ maxSize ⌝ }
     requires { ⌜ PlacesRoom (now x) (now wide) ⌝ }
     ensures { λ r. ⌜ SpotMade (keptsOf (now (lines .entry))) line (figuresOf (now (figures .entry))) raw width row r (now (x .exit)) (now (wide .exit)) ⌝ }
 {
-    let mut entries = [0u32; 3 * MAX_ENTRIES];
-    let mut rows = [0u32; 2 * MAX_LINES];
-    let mut column = [0u32; MAX_LINES];
     let at = (line - 1) as usize;
     let a = table::arrange(
         lines,
@@ -37,9 +38,9 @@ pub fn find_row(
         at,
         raw,
         width,
-        &mut entries,
-        &mut rows,
-        &mut column,
+        entries,
+        rows,
+        column,
         x,
         wide,
     );
@@ -47,5 +48,5 @@ pub fn find_row(
     let laid = a.laid;
     let n = counts.rows;
     let way = laid.way;
-    crate::starts::row_in(way, &rows, n, row)
+    crate::starts::row_in(way, rows, n, row)
 }

@@ -7,7 +7,7 @@ ghost use Rattle.grid.specs.Grid.{GridRow};
 ghost use Rattle.spots.specs.Rows.{startIn, goesDown};
 ghost use Rattle.spots.specs.inner.Spots.{HasRows, spotIn};
 use crate::Spot;
-use widths::Way;
+use answers::Way;
 
 // Whether the table goes down.
 fn is_down(way: Way) -> bool

@@ -4,6 +4,5 @@ pub mod Steps
 pub mod Grids
 pub mod Fronts
 pub mod Rooms
-pub mod GridFitted
 pub mod LayoutFitted
 pub mod Cells

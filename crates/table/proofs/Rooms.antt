@@ -6,27 +6,20 @@ use native.Mathlib.Omega.{arith}
 use lib.ListN.{length, getD, take}
 use Rattle.lists.specs.Lists.{over}
 use Rattle.lists.proofs.Over.{over-front}
-use Rattle.lists.specs.Sizes.{smallLines}
 use Rattle.records.specs.Records.{recordsOf, numbersOf}
 use Rattle.records.specs.Kept.{entryBy, entriesOf, rowBy, rowsOf}
 use Rattle.records.specs.declared.Kept.{Kept}
 use Rattle.records.proofs.Records.{length-of}
 use Rattle.records.proofs.Numbers.{length-numbers, numbers-are}
 use Rattle.cells.specs.Listed.{tableRows}
-use Rattle.positions.specs.Positions.{allRows, entryCount}
 use Rattle.grid_bounds.specs.Sheets.{Suffice}
 use Rattle.grid_bounds.proofs.Sheets.{suffice-entries}
 use Rattle.gridding.specs.Packed.{TableReady}
-use Rattle.table.specs.inner.Fitting.{Asked}
-
--- a table has at most so many entries, and a sheet so many lines
-pub record Most (entries rows : ℕ) (ks : List Kept) (line : ℕ) : Type 0 where
-  pub entries-most : entryCount (allRows (tableRows ks (line - 1))) ≤ entries
-  pub lines-most : length ks ≤ rows
+use Rattle.table.specs.inner.Asked.{Asked, Most}
 
 -- as many as suffice
-pub few-most : {ks : List Kept} {line : ℕ} → Asked ks line → Suffice smallLines smallLines ks → Most smallLines smallLines ks line
-few-most {ks} {line} a z = record { entries-most = suffice-entries (a .lined .step) (a .nests) z (line - 1) (a .within) (a .kind); lines-most = z .few }
+pub suffice-most : {ks : List Kept} {line e r : ℕ} → Asked ks line → Suffice e r ks → Most e r ks line
+suffice-most {ks} {line} a z = record { entries-most = suffice-entries (a .lined .step) (a .nests) z (line - 1) (a .within) (a .kind); lines-most = z .few }
 
 pub any-most : {ks : List Kept} {line : ℕ} → Asked ks line → Most 8192 4096 ks line
 any-most a = record { entries-most = a .sound .few; lines-most = a .lined .short }

@@ -8,7 +8,7 @@ use Rattle.records.specs.declared.Row.{Row}
 use Rattle.columns.specs.Boxes.{Box, rowsBy, flat}
 use Rattle.columns.specs.Columns.{sizeOf, leastOf, largest}
 use Rattle.widths.specs.Widths.{wayOf, finalWidths, tableWidth}
-use Rattle.widths.specs.declared.Way.{Way}
+use Rattle.answers.specs.declared.Way.{Way}
 use Rattle.widths.specs.declared.Laid.{Laid}
 use Rattle.placing.specs.Place.{Placed, placeRows}
 use Rattle.placing.specs.inner.Rows.{endOf}

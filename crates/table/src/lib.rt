@@ -1,6 +1,4 @@
 // One table of a measured sheet laid out: its grid made, and laid out in the front of lent slices.
-pub mod fitting; // fitting.rt: told and laid out in lent buffers, with arrays of two sizes
-
 use gridding::Counts;
 use widths::Laid;
 ghost use lib.ListN.{length, take};
@@ -87,7 +85,7 @@ pub fn arrange(
     requires { ⌜ LayoutRoom (tableRows (keptsOf (now lines)) at) width (now column) (now x) (now wide) ⌝ }
     ensures { λ r. ⌜ ArrangedAt (keptsOf (now (lines .entry))) at (figuresOf (now (figures .entry))) raw width (entriesOf (now (entries .exit))) (rowsOf (now (rows .exit))) (now (column .exit)) (now (x .exit)) (now (wide .exit)) (r .counts) (r .laid) ⌝ }
 {
-    let counts = gridding::make_sound(lines, at, entries, rows);
+    let counts = grid_plain::make(lines, at, entries, rows);
     let r = counts.rows;
     let n = counts.entries;
     let c = counts.columns;

@@ -2,8 +2,10 @@
 ghost use mathlib.Core.Path.{_≡_};
 ghost use Rattle.lists.specs.Refusals.{verdictOf};
 ghost use Rattle.text.specs.Text.{measureOf};
-ghost use Rattle.tables.specs.Calls.{checkChecks};
-ghost use Rattle.tables.specs.Answers.{estimatedOf, forLines, EstimatesLeft, griddedOf, forEntries, forRows, GridLeft, laidOutOf, forColumns, forPlaces, LayoutLeft};
+ghost use Rattle.sheet_figures.specs.Calls.{checkChecks};
+ghost use Rattle.call_estimates.specs.Estimates.{estimatedOf, forLines, EstimatesBuffers};
+ghost use Rattle.call_grid.specs.Grid.{griddedOf, forEntries, forRows, GridBuffers};
+ghost use Rattle.call_layout.specs.Layout.{laidOutOf, forColumns, forPlaces, LayoutBuffers};
 ghost use Rattle.missing.specs.Missing.{explainedOf, forOne, MissingLeft};
 ghost use Rattle.preview.specs.Preview.{pointedOf, listedOf, forOne as forListed, WithinLeft, joinedOf};
 ghost use Rattle.walks.specs.Walks.{walkedOf, forWalk, WalkLeft};
@@ -26,7 +28,7 @@ use crossing::WithinResult;
 pub extern "C" fn tables_check(sheet: &[u8]) -> CheckResult
     ensures { λ r. ⌜ r ≡ checkResult (verdictOf (checkChecks (now (sheet .entry)))) ⌝ }
 {
-    crossing::check_result(tables::check(sheet))
+    crossing::check_result(call_estimates::check(sheet))
 }
 
 // The figures of one text, as text or svg, or as img.
@@ -47,10 +49,10 @@ pub extern "C" fn tables_estimates(
     prefix: &mut [u32],
 ) -> EstimatesResult
     ensures { λ r. ⌜ r ≡ estimatesResult (estimatedOf (now (sheet .entry)) wrap (forLines (now (size .entry)) (now (least .entry)) (now (prefix .entry)))) ⌝ }
-    ensures { λ _. ⌜ EstimatesLeft (now (sheet .entry)) wrap (now (size .entry)) (now (least .entry)) (now (prefix .entry))
+    ensures { λ _. ⌜ EstimatesBuffers (now (sheet .entry)) wrap (now (size .entry)) (now (least .entry)) (now (prefix .entry))
         (now (size .exit)) (now (least .exit)) (now (prefix .exit)) ⌝ }
 {
-    crossing::estimates_result(tables::estimates(sheet, wrap, size, least, prefix))
+    crossing::estimates_result(call_estimates::estimates(sheet, wrap, size, least, prefix))
 }
 
 // The grid of the table in a line.
@@ -66,10 +68,10 @@ pub extern "C" fn tables_grid(
 ) -> GridResult
     ensures { λ r. ⌜ r ≡ gridResult (griddedOf (now (sheet .entry)) line
         (forEntries (now (cell .entry)) (now (first .entry)) (now (span .entry))) (forRows (now (row .entry)) (now («row_end» .entry)))) ⌝ }
-    ensures { λ _. ⌜ GridLeft (now (sheet .entry)) line (now (cell .entry)) (now (first .entry)) (now (span .entry)) (now (row .entry)) (now («row_end» .entry))
+    ensures { λ _. ⌜ GridBuffers (now (sheet .entry)) line (now (cell .entry)) (now (first .entry)) (now (span .entry)) (now (row .entry)) (now («row_end» .entry))
         (now (cell .exit)) (now (first .exit)) (now (span .exit)) (now (row .exit)) (now («row_end» .exit)) ⌝ }
 {
-    crossing::grid_result(tables::grid(sheet, line, cell, first, span, row, row_end))
+    crossing::grid_result(call_grid::grid(sheet, line, cell, first, span, row, row_end))
 }
 
 // The layout of the table in a line.
@@ -85,10 +87,10 @@ pub extern "C" fn tables_layout(
     wide: &mut [u32],
 ) -> LayoutResult
     ensures { λ r. ⌜ r ≡ layoutResult (laidOutOf (now (sheet .entry)) line wrap raw width (forColumns (now (column .entry))) (forPlaces (now (x .entry)) (now (wide .entry)))) ⌝ }
-    ensures { λ _. ⌜ LayoutLeft (now (sheet .entry)) line wrap raw width (now (column .entry)) (now (x .entry)) (now (wide .entry))
+    ensures { λ _. ⌜ LayoutBuffers (now (sheet .entry)) line wrap raw width (now (column .entry)) (now (x .entry)) (now (wide .entry))
         (now (column .exit)) (now (x .exit)) (now (wide .exit)) ⌝ }
 {
-    crossing::layout_result(tables::layout(sheet, line, wrap, raw, width, column, x, wide))
+    crossing::layout_result(call_layout::layout(sheet, line, wrap, raw, width, column, x, wide))
 }
 
 // The missing entries of the table in a line, and the causes of its columns.

@@ -20,7 +20,7 @@ use Rattle.placing.proofs.Teaching as rows
 use Rattle.estimates.specs.Estimates.{undone, estOf, estimates, none}
 use Rattle.estimates.specs.inner.Cycle.{estAt, doneOf}
 use Rattle.opening.specs.Opening.{keptLines}
-use Rattle.finding.specs.Figures.{columnsAt, boxesAt, sizesAt, leastsAt, wayAt, widthsAt, placesAt}
+use Rattle.sheet_figures.specs.Figures.{columnsAt, boxesAt, sizesAt, leastsAt, wayAt, widthsAt, placesAt}
 use Rattle.teaching.specs.Missing.{TableIn, Allowed, entryTotal, cellAt, entryAt, printedAt, ThirdDemand, MissingExactly, NeverMissing, TextKeeps, LinkKeeps, CausesMean, LostOnce, FillersEmpty}
 use Rattle.teaching.proofs.Places.{Stands, stands}
 use Rattle.teaching.proofs.Inner.{inside-in, text-in, link-in}

@@ -10,7 +10,7 @@ use lib.ListN.{length, getD, length-append, List·getD-append}
 use lib.Seq.{getD-append-add}
 use Rattle.columns.specs.Boxes.{Box, flat}
 use Rattle.columns.proofs.Listed.{none}
-use Rattle.widths.specs.declared.Way.{Way}
+use Rattle.answers.specs.declared.Way.{Way}
 use Rattle.placing.specs.Place.{at, placeRow, placeRows}
 use Rattle.placing.proofs.Placing.{length-row}
 

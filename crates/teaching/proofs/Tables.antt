@@ -42,8 +42,8 @@ use Rattle.opening.proofs.Answers.{table-apt}
 use Rattle.opening.proofs.Ready.{kept-lined, kept-nests}
 use Rattle.table.specs.inner.Grids.{Fits}
 use Rattle.table.proofs.Boxes.{tiles-of-grid}
-use Rattle.finding.specs.Figures.{tableAt, rowsAt, columnsAt, boxesAt}
-use Rattle.tables.specs.Calls.{everyTable}
+use Rattle.sheet_figures.specs.Figures.{tableAt, rowsAt, columnsAt, boxesAt}
+use Rattle.sheet_figures.specs.Calls.{everyTable}
 use Rattle.teaching.specs.Missing.{TableIn, entryTotal, cellAt, entryAt}
 use Rattle.teaching.proofs.Fits.{measured-fits}
 

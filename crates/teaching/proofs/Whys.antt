@@ -14,8 +14,8 @@ use Rattle.lists.specs.Lists.{sum}
 use Rattle.cutting.specs.Cut.{at, gaps, Below}
 use Rattle.widths.specs.Share.{share, shares}
 use Rattle.widths.specs.Widths.{wayOf, finalWidths}
-use Rattle.widths.specs.declared.Way.{Way}
-use Rattle.widths.specs.declared.Way.the-variants.{Sideways, Down}
+use Rattle.answers.specs.declared.Way.{Way}
+use Rattle.answers.specs.declared.Way.the-variants.{Sideways, Down}
 use Rattle.cutting.proofs.Sums.{at-le-sum}
 use Rattle.widths.proofs.Share.{Final, final, at-shares}
 use Rattle.widths.proofs.Whole.{side-only}

@@ -19,15 +19,15 @@ use Rattle.estimates.specs.Estimates.{none, estimates}
 use Rattle.opening.specs.Opening.{keptLines, isTable}
 use Rattle.cutting.specs.Cut.{at, gaps}
 use Rattle.widths.specs.Share.{shares}
-use Rattle.widths.specs.declared.Way.the-variants.{Sideways}
+use Rattle.answers.specs.declared.Way.the-variants.{Sideways}
 use Rattle.placing.specs.Place as place
 use Rattle.placing.specs.Promise.{Promised}
 use Rattle.placing.specs.Why.{later}
-use Rattle.finding.specs.Figures.{rowsAt, columnsAt, boxesAt, sizesAt, leastsAt, wayAt, widthsAt, placesAt}
+use Rattle.sheet_figures.specs.Figures.{rowsAt, columnsAt, boxesAt, sizesAt, leastsAt, wayAt, widthsAt, placesAt}
 use Rattle.causes.specs.Causes.{causeAt, causeNumber}
 use Rattle.causes.specs.declared.Cause.{Cause}
 use Rattle.causes.specs.declared.Cause.the-variants.{Shown, Empty, Little, Cut, Page}
-use Rattle.tables.specs.Calls.{checkChecks}
+use Rattle.sheet_figures.specs.Calls.{checkChecks}
 
 -- ---- what is spoken of
 

@@ -21,8 +21,8 @@ use Rattle.columns.proofs.Listed.{measures-flat}
 use Rattle.columns.proofs.Largest.{largest-least-size}
 use Rattle.cutting.specs.Cut.{gaps}
 use Rattle.widths.specs.Widths.{wayOf, finalWidths}
-use Rattle.widths.specs.declared.Way.{Way}
-use Rattle.widths.specs.declared.Way.the-variants.{Sideways, Down}
+use Rattle.answers.specs.declared.Way.{Way}
+use Rattle.answers.specs.declared.Way.the-variants.{Sideways, Down}
 use Rattle.widths.proofs.Share.{Final, final}
 use Rattle.widths.proofs.Whole.{side-only}
 use Rattle.placing.specs.Place.{Placed, at, across, placeSide, placeDown, placeRow, placeRows}

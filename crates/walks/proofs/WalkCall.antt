@@ -25,10 +25,10 @@ use Rattle.sheet.proofs.First.{neither, first-told, first-passes, first-accepts
 use Rattle.opening.specs.Opening.{keptLines, asked}
 use Rattle.arguments.specs.Arguments.{anyShorter, walkArguments}
 use Rattle.arguments.proofs.Shorter.{two-fit}
-use Rattle.finding.specs.inner.Found.{linesIn}
+use Rattle.sheet_figures.specs.inner.Opened.{linesIn}
 use Rattle.table.proofs.Rooms.{unpacked}
-use Rattle.tables.specs.inner.Telling.{early}
-use Rattle.tables.proofs.Early.{early-nines, none-nines, fits, leaving}
+use Rattle.sheet_figures.specs.inner.Early.{early}
+use Rattle.sheet_figures.proofs.Early.{early-nines, none-nines, fits, leaving}
 use Rattle.passing.specs.Walk.{givenNumber, widthNumber}
 use Rattle.passing.specs.inner.Places.{widthPlace}
 use Rattle.passing.specs.declared.Width.{Width}
@@ -36,8 +36,8 @@ use Rattle.pacing.specs.Sheets.{walkOf}
 use Rattle.walks.specs.Walks.{walkChecks, walkedOf, forWalk, WalkAnswer}
 use Rattle.pacing.specs.inner.Found.{walkedChecks, SheetWalked}
 use Rattle.walks.specs.inner.Found.{TellRoom, firstIn, spanIn, WalkTold, WalkRoom, walkedIn, WalkFound}
-use Rattle.walks.specs.declared.Walked.{Walked}
-use Rattle.walks.specs.declared.Walked.the-variants as walked
+use Rattle.answers.specs.declared.Walked.{Walked}
+use Rattle.answers.specs.declared.Walked.the-variants as walked
 use Rattle.pacing.proofs.Opening.{opened-passed}
 
 -- ---- what is told

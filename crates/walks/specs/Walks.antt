@@ -7,12 +7,12 @@ use Rattle.lists.specs.Refusals.{Check, firstAnswer}
 use Rattle.sheet.specs.Sheet.{sheetChecks, sheetLines}
 use Rattle.arguments.specs.Arguments.{walkArguments}
 use Rattle.opening.specs.Opening.{keptLines}
-use Rattle.tables.specs.Calls.{everyTable}
-use Rattle.tables.specs.Answers.{leaves}
+use Rattle.sheet_figures.specs.Calls.{everyTable}
+use Rattle.sheet_figures.specs.Calls.{leaves}
 use Rattle.passing.specs.Walk.{narrowChecks, givenNumber, widthNumber}
 use Rattle.pacing.specs.Sheets.{walkOf}
-use Rattle.walks.specs.declared.Walked.{Walked}
-use Rattle.walks.specs.declared.Walked.the-variants as walked
+use Rattle.answers.specs.declared.Walked.{Walked}
+use Rattle.answers.specs.declared.Walked.the-variants as walked
 
 -- 12 comes after every refusal of the sheet; the last argument has the lengths of the lent buffers
 abbrev pub walkChecks : List ℕ → ℕ → ℕ → ℕ → ℕ → List ℕ → List Check

@@ -5,15 +5,10 @@ mod walking_out; // the walk, written to the lent buffers
 ghost use mathlib.Core.Path.{_≡_};
 ghost use Prim.Native.Nat.{_≤_};
 ghost use Rattle.lists.specs.Limits.{maxLines};
-ghost use Rattle.finding.specs.inner.Found.{linesIn};
+ghost use Rattle.sheet_figures.specs.inner.Opened.{linesIn};
 ghost use Rattle.walks.specs.Walks.{WalkAnswer};
 ghost use Rattle.walks.specs.inner.Found.{walkedIn};
-
-// The answer of `walk`: how many lines there are, or the refusal.
-pub enum Walked {
-    Lines(u32),
-    Refused { number: u32, line: u32 },
-}
+use answers::Walked;
 
 // A reading in the words of `walk`.
 fn told(read: sheet::Reading) -> Walked
@@ -40,7 +35,7 @@ pub fn walk(
 {
     let asked = arguments::of_walk(wrap, raw, width, overflow, given.len(), wide.len());
     let read = walking_out::find_walk(sheet, wrap, raw, width, overflow, asked, given, wide);
-    let n = asking::line_count(read);
+    let n = sheet_figures::line_count(read);
     lists::keep_front(given, n);
     lists::keep_front(wide, n);
     told(read)

@@ -7,7 +7,7 @@ ghost use lib.ListN.{length, take};
 ghost use Rattle.lists.specs.Limits.{maxSize};
 ghost use Rattle.lists.specs.declared.Verdict.the-variants.{Accepted};
 ghost use Rattle.records.specs.Kept.{placesOf};
-ghost use Rattle.tables.specs.inner.Telling.{early};
+ghost use Rattle.sheet_figures.specs.inner.Early.{early};
 ghost use Rattle.pacing.specs.inner.Found.{walkedChecks};
 ghost use Rattle.walks.specs.inner.Found.{TellRoom, WalkTold, WalkRoom, WalkFound};
 use lists::MAX_LINES;
@@ -53,7 +53,7 @@ fn walk_out(
         &mut walk,
         given,
     );
-    tell(asking::line_count(read), &walk, given, wide);
+    tell(sheet_figures::line_count(read), &walk, given, wide);
     read
 }
 

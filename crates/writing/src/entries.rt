@@ -1,8 +1,20 @@
-// The entries of a grid, row by row, with two figures of each. The grid is given as records of its entries and rows. What a call left in the
-// buffers is not trusted: each index is tested against the buffer that it reads.
+// The entries of a grid, row by row, with two figures of each. The grid stands in buffers, or as records of its entries and rows. What is in the slices is
+// not trusted: a place outside counts as 0.
+ghost use Prim.Native.Nat.{_≤_};
 ghost use Rattle.writing.specs.Writing.{Place};
 use super::lines::four;
 use super::lines::two;
+
+// The first number of a record, where each has so many: one in a buffer, two or three in records of rows and entries.
+pub fn number_at(values: &[u32], each: usize, i: u32) -> u32
+    requires { ⌜ each ≤ 3 ⌝ }
+{
+    let at = i as usize * each;
+    if at >= values.len() {
+        return 0;
+    }
+    values[at]
+}
 
 // Puts the line of one entry: row, cell, and its two figures. An entry whose second figure is 0 is left out: in a layout the missing
 // ones have width 0, and in a grid each span is at least 1.
@@ -10,94 +22,94 @@ fn entry(
     out: &mut [u8],
     at: usize,
     line: u32,
-    entries: &[u32],
+    cell: &[u32],
+    each: usize,
     start: &[u32],
     extent: &[u32],
-    e: usize,
+    e: u32,
 ) -> usize
     requires { ⌜ Place (now out) at ⌝ }
+    requires { ⌜ each ≤ 3 ⌝ }
     ensures { λ r. ⌜ Place (now (out .exit)) r ⌝ }
 {
-    if e >= entries.len() / 3 {
+    let figure = number_at(extent, 1, e);
+    if figure == 0 {
         return at;
     }
-    if e >= start.len() {
-        return at;
-    }
-    if e >= extent.len() {
-        return at;
-    }
-    if extent[e] == 0 {
-        return at;
-    }
-    let shown = records::entry_at(entries, e);
-    four(out, at, line, shown.cell, start[e], extent[e])
+    four(
+        out,
+        at,
+        line,
+        number_at(cell, each, e),
+        number_at(start, 1, e),
+        figure,
+    )
 }
 
-// Puts the entries of one row, from a place of the buffers up to another.
+// Puts the entries of one row, from a place of the slices up to another.
 fn row_entries(
     out: &mut [u8],
     at: usize,
     line: u32,
-    entries: &[u32],
+    cell: &[u32],
+    each: usize,
     start: &[u32],
     extent: &[u32],
     from: u32,
     to: u32,
 ) -> usize
     requires { ⌜ Place (now out) at ⌝ }
+    requires { ⌜ each ≤ 3 ⌝ }
     ensures { λ r. ⌜ Place (now (out .exit)) r ⌝ }
 {
     let mut next = at;
     let mut e = from;
     while e < to {
-        next = entry(out, next, line, entries, start, extent, e as usize);
+        next = entry(out, next, line, cell, each, start, extent, e);
         e += 1;
     }
     next
 }
 
-// Puts the entries of the first rows: those of a row end where its record says, and the next row's begin there.
+// Puts the entries of so many rows: those of a row end where it says, and the next row's begin there.
 pub fn entries(
     out: &mut [u8],
     at: usize,
-    rows: &[u32],
-    count: usize,
-    entries: &[u32],
+    rows: u32,
+    row: &[u32],
+    end: &[u32],
+    each_row: usize,
+    cell: &[u32],
+    each: usize,
     start: &[u32],
     extent: &[u32],
 ) -> usize
     requires { ⌜ Place (now out) at ⌝ }
+    requires { ⌜ («each_row» ≤ 3) × (each ≤ 3) ⌝ }
     ensures { λ r. ⌜ Place (now (out .exit)) r ⌝ }
 {
     let mut next = at;
     let mut from = 0u32;
-    let mut i = 0;
-    while i < count {
-        if i >= rows.len() / 2 {
-            return next;
-        }
-        let row = records::row_at(rows, i);
-        next = row_entries(out, next, row.line, entries, start, extent, from, row.end);
-        from = row.end;
+    let mut i = 0u32;
+    while i < rows {
+        let line = number_at(row, each_row, i);
+        let to = number_at(end, each_row, i);
+        next = row_entries(out, next, line, cell, each, start, extent, from, to);
+        from = to;
         i += 1;
     }
     next
 }
 
-// Puts the line and the end of each of the first rows.
-pub fn row_ends(out: &mut [u8], at: usize, rows: &[u32], count: usize) -> usize
+// Puts the line and the end of each of so many rows.
+pub fn row_ends(out: &mut [u8], at: usize, rows: u32, row: &[u32], end: &[u32]) -> usize
     requires { ⌜ Place (now out) at ⌝ }
     ensures { λ r. ⌜ Place (now (out .exit)) r ⌝ }
 {
     let mut next = at;
-    let mut i = 0;
-    while i < count {
-        if i >= rows.len() / 2 {
-            return next;
-        }
-        let row = records::row_at(rows, i);
-        next = two(out, next, row.line, row.end);
+    let mut i = 0u32;
+    while i < rows {
+        next = two(out, next, number_at(row, 1, i), number_at(end, 1, i));
         i += 1;
     }
     next
@@ -111,11 +123,7 @@ pub fn numbered(out: &mut [u8], at: usize, values: &[u32], count: u32) -> usize
     let mut next = at;
     let mut j = 0u32;
     while j < count {
-        let place = j as usize;
-        if place >= values.len() {
-            return next;
-        }
-        next = two(out, next, j, values[place]);
+        next = two(out, next, j, number_at(values, 1, j));
         j += 1;
     }
     next

@@ -1,6 +1,6 @@
 -- `crossing::at_result` meets its contract: each arm gives what the definition says of its variant. Assumes nothing.
 use mathlib.Core.Path.{sym, ap}
-use Rattle.preview.specs.Preview.{whatNumber}
+use Rattle.answers.specs.Numbers.{whatNumber}
 use Rattle.crossing.specs.Answers.{atResult}
 use borrow.Author.Needs.{needs}
 use Rattle.crossing.proofs.at_result.Statement.{statement}

@@ -1,6 +1,6 @@
 -- `crossing::joint_number` meets its contract: each arm gives what the definition says of its variant. Assumes nothing.
 use mathlib.Core.Path.{sym, ap}
-use Rattle.preview.specs.Preview.{jointNumber}
+use Rattle.answers.specs.Numbers.{jointNumber}
 use borrow.Author.Needs.{needs}
 use Rattle.crossing.proofs.joint_number.Statement.{statement}
 use Rattle.crossing.proofs.joint_number.Tie as tie

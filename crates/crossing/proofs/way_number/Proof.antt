@@ -1,6 +1,6 @@
 -- `crossing::way_number` meets its contract: each arm gives what the definition says of its variant. Assumes nothing.
 use mathlib.Core.Path.{sym, ap}
-use Rattle.crossing.specs.Answers.{wayNumber}
+use Rattle.answers.specs.Numbers.{wayNumber}
 use borrow.Author.Needs.{needs}
 use Rattle.crossing.proofs.way_number.Statement.{statement}
 use Rattle.crossing.proofs.way_number.Tie as tie

@@ -2,7 +2,7 @@
 use mathlib.Core.Path.{refl}
 use mathlib.Core.List.{[], _∷_}
 use Rattle.eights.specs.inner.Bytes.{ending}
-use Rattle.eights.proofs.Numbers.{stand-given}
+use Rattle.octets.proofs.Standing.{stand-given}
 use Rattle.eights.proofs.Told.{untold}
 use borrow.Author.Needs.{needs}
 use Rattle.eights.proofs.bare_line.Statement.{statement}

@@ -1,6 +1,6 @@
 -- `eights::line_with` meets its contract: the front that is found is that of a kind, and the rest is told by the function that reads its end. Assumes nothing.
 use mathlib.Core.Path.{refl}
-use Rattle.eights.proofs.Numbers.{stand-given}
+use Rattle.octets.proofs.Standing.{stand-given}
 use Rattle.eights.proofs.Told.{untold, cellFront, rowFront, bodyFront, tableFront, textFront, textEnd, cell-told, row-told, body-told, table-told, text-told}
 use borrow.Author.Needs.{needs}
 use Rattle.eights.proofs.line_with.Statement.{statement}

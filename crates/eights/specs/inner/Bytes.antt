@@ -1,9 +1,8 @@
--- Eight bytes as one number, and the ends of lines that are told by them. These are definitions; nothing is assumed.
+-- The ends of lines that are told by eight bytes. These are definitions; nothing is assumed.
 use mathlib.Core.Path.{_≡_}
 use mathlib.Core.List.{List, [], _∷_}
 use Prim.Native.Nat.{ℕ, _+_, _*_, _≤_, _<_}
 use lib.ListN.{length, getD, take, drop}
-use Rattle.lists.specs.Lists.{All}
 use Rattle.text.specs.Text.{textSize}
 use Rattle.text.specs.Fronts.{FrontAt}
 use Rattle.text.specs.declared.Front.{Front}
@@ -12,15 +11,6 @@ use Rattle.fields.specs.Lines.{feed}
 use Rattle.eights.specs.declared.Brief.{Brief}
 use Rattle.eights.specs.declared.Common.{Common}
 use Rattle.eights.specs.declared.Common.the-variants.{Line}
-
--- bytes as one number, the first lowest
-abbrev pub asNumber : List ℕ → ℕ
-asNumber [] = 0
-asNumber (b ∷ bs) = b + 256 * asNumber bs
-
--- where the number is that of eight bytes, these stand at the place
-pub record Eight (s : List ℕ) (at r : ℕ) : Type 0 where
-  pub stand : (bs : List ℕ) → length bs ≡ 8 → All (λ b. b < 256) bs → r ≡ asNumber bs → take 8 (drop at s) ≡ bs
 
 -- a depth of one digit stands at the place, and room for a line
 pub record Digit (s : List ℕ) (at depth : ℕ) : Type 0 where

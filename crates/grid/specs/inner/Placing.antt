@@ -2,7 +2,7 @@
 use mathlib.Core.Path.{_≡_}
 use mathlib.Core.Bool.{Bool}
 use mathlib.Core.List.{List, _∷_, map}
-use Prim.Native.Nat.{ℕ, _≤_}
+use Prim.Native.Nat.{ℕ, _/_, _≤_}
 use lib.ListN.{length, take}
 use Rattle.lists.specs.Lists.{mem}
 use Rattle.records.specs.declared.Entry as packed
@@ -21,14 +21,12 @@ use Rattle.grid.specs.Judging.{shown}
 abbrev pub edgeOfRows : List (List ℕ) → ℕ → Bool
 edgeOfRows rs p = mem p (0 ∷ rowsEnds rs)
 
--- rows by positions: the first `entries` figures of `wide` and of `line` are the spans and the lines of their entries, the first `rows` figures of
--- `ends` say how many entries there are up to and including each row
-pub record RowsReady (rows entries : ℕ) (wide line ends : List ℕ) (es : List packed.Entry) : Type 0 where
+-- rows by positions: the first `entries` figures of `wide` are the spans of their entries, the first `rows` figures of `ends` say how many entries
+-- there are up to and including each row
+pub record RowsReady (rows entries : ℕ) (wide ends : List ℕ) : Type 0 where
   pub ends-in : rows ≤ length ends
   pub wide-in : entries ≤ length wide
-  pub line-in : entries ≤ length line
   pub fit : RowsFit 0 (take rows ends) (take entries wide)
-  pub entry-room : entries ≤ length es
 
 -- what becomes of them in columns, of which there are so many
 abbrev pub PlacedNumbered : ℕ → ℕ → List ℕ → List ℕ → List ℕ → ℕ → List packed.Entry → Type 0
@@ -59,13 +57,10 @@ pub record GridStands (table : List cells.Row) (rows n columns : ℕ) (es : List
   pub row-lines : take (length (gridOf table)) row ≡ map gridLine (gridOf table)
   pub row-ends : take (length (gridOf table)) end ≡ rowEnds 0 (gridOf table)
 
--- the lent slices have a place for each entry, and for each of n lines
-pub record Room (n entries : ℕ) (wide line cell-line cell-span cell-rows cell-end row end : List ℕ) : Type 0 where
-  pub wide-room : entries ≤ length wide
-  pub line-room : entries ≤ length line
-  pub cell-line-room : n ≤ length cell-line
-  pub cell-span-room : n ≤ length cell-span
-  pub cell-rows-room : n ≤ length cell-rows
-  pub cell-end-room : n ≤ length cell-end
-  pub row-room : n ≤ length row
-  pub end-room : n ≤ length end
+-- the lent slices have a record for each entry, and for each of n lines
+pub record Room (n entries : ℕ) (cells overhang next es rows : List ℕ) : Type 0 where
+  pub cell-room : n ≤ length cells / 3
+  pub overhang-room : n ≤ length overhang / 3
+  pub next-room : n ≤ length next / 3
+  pub entry-room : entries ≤ length es / 3
+  pub row-room : n ≤ length rows / 2

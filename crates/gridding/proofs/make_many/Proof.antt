@@ -1,50 +1,20 @@
--- `gridding::make_many` meets its contract: the arrays are room for so many lines and their entries. Assumes nothing.
-use mathlib.Core.Path.{refl, sym}
+-- `gridding::make_many` meets its contract: the arrays are room for as many lines as there can be. Assumes nothing.
 use native.Mathlib.Omega.{arith}
-use Rattle.records.specs.Kept.{rowsOf}
-use Rattle.gridding.proofs.Making.{room-with, rows-room, ready-still, finish-ready, table-made, rows-still}
 use borrow.Author.Needs.{needs}
 use Rattle.gridding.proofs.make_many.Statement.{statement}
 use Rattle.gridding.proofs.make_many.Tie as tie
 
-slice-aggregate-place-table : tie.Need-slice-aggregate-place-table
-slice-aggregate-place-table c = refl
+slice-aggregate-make-in : tie.Need-slice-aggregate-make-in
+slice-aggregate-make-in c = search needs
 
-slice-aggregate-place-table-2 : tie.Need-slice-aggregate-place-table-2
-slice-aggregate-place-table-2 c = refl
+slice-aggregate-make-in-2 : tie.Need-slice-aggregate-make-in-2
+slice-aggregate-make-in-2 c = search needs
 
-slice-aggregate-place-table-3 : tie.Need-slice-aggregate-place-table-3
-slice-aggregate-place-table-3 c = refl
+slice-aggregate-make-in-3 : tie.Need-slice-aggregate-make-in-3
+slice-aggregate-make-in-3 c = search needs
 
-slice-aggregate-place-table-4 : tie.Need-slice-aggregate-place-table-4
-slice-aggregate-place-table-4 c = refl
-
-slice-aggregate-place-table-5 : tie.Need-slice-aggregate-place-table-5
-slice-aggregate-place-table-5 c = refl
-
-slice-aggregate-place-table-6 : tie.Need-slice-aggregate-place-table-6
-slice-aggregate-place-table-6 c = refl
-
-slice-aggregate-place-table-7 : tie.Need-slice-aggregate-place-table-7
-slice-aggregate-place-table-7 c = refl
-
-place-table-requires : tie.Need-place-table-requires
-place-table-requires c κs = let s = (c .before .before .before .before .before .before .before .before .before .before .before) .pre in (s .0 .within, (s .0 .lined, (s .0 .sound, room-with (s .1) (omega arith) (omega arith) (omega arith) (omega arith) (omega arith) (rows-room ((c .before .before .before .before .before .before .before .before .before .before .before) .args .rows .now) (s .0 .row-room)) (omega arith) (omega arith))))
-
-slice-aggregate-finish : tie.Need-slice-aggregate-finish
-slice-aggregate-finish c = sym ((c .before .before .before .before .before .before .before .before .before .before) .place-table .kept .1 .1 .0)
-
-slice-aggregate-finish-2 : tie.Need-slice-aggregate-finish-2
-slice-aggregate-finish-2 c = sym ((c .before .before .before .before .before .before .before .before .before .before .before) .place-table .kept .1 .1 .1 .0)
-
-slice-aggregate-finish-3 : tie.Need-slice-aggregate-finish-3
-slice-aggregate-finish-3 c = sym ((c .before .before .before .before .before .before .before .before .before .before .before .before) .place-table .kept .1 .1 .1 .1 .1 .1 .1 .1 .0)
-
-slice-aggregate-finish-4 : tie.Need-slice-aggregate-finish-4
-slice-aggregate-finish-4 c = sym ((c .before .before .before .before .before .before .before .before .before .before .before .before .before) .place-table .kept .1 .1 .1 .1 .1 .1 .1 .1 .1 .0)
-
-finish-requires : tie.Need-finish-requires
-finish-requires c κs = let s = (c .before .before .before .before .before .before .before .before .before .before .before .before .before .before .before .before .before .before .before .before .before .before .before .before .before .before .before) .pre in let g = (c .before .before .before .before .before .before .before .before .before .before .before .before .before .before .before) .place-table in finish-ready (s .1) (ready-still (s .0) (rows-still (g .last .1 .1 .1 .1 .1 .1 .1 .0) ((c .before .before .before .before .before .before .before .before .before .before .before .before .before .before .before .before .before .before .before .before .before .before .before .before .before .before .before) .args .rows .now) (g .kept .1 .1 .1 .1 .1 .1 .1 .0))) (g .ensures) (omega (arith, g .kept .1 .1 .0)) (omega (arith, g .kept .1 .1 .1 .0)) (omega (arith, g .kept .1 .1 .1 .1 .1 .1 .1 .1 .0)) (omega (arith, g .kept .1 .1 .1 .1 .1 .1 .1 .1 .1 .0))
+make-in-requires : tie.Need-make-in-requires
+make-in-requires c κs = let z = (c .before .before .before .before .before .before .before .before) .pre in (z, record { cell-room = omega (arith, z .lined .short); overhang-room = omega (arith, z .lined .short); next-room = omega (arith, z .lined .short) })
 
 same-length : tie.Need-same-length
 same-length c = search needs
@@ -53,25 +23,16 @@ same-length-2 : tie.Need-same-length-2
 same-length-2 c = search needs
 
 returns : tie.Need-returns
-returns c = let s = (c .before .before .before .before .before .before .before .before .before .before .before .before .before .before .before .before .before .before .before .before .before .before .before .before .before .before .before .before .before .before .before .before) .pre in let p = (c .before .before .before .before) .finish in let g = (c .before .before .before .before .before .before .before .before .before .before .before .before .before .before .before .before .before .before .before .before) .place-table in table-made (s .1) {rs₀ = rowsOf (g .last .1 .1 .1 .1 .1 .1 .1 .0)} (ready-still (s .0) (rows-still (g .last .1 .1 .1 .1 .1 .1 .1 .0) ((c .before .before .before .before .before .before .before .before .before .before .before .before .before .before .before .before .before .before .before .before .before .before .before .before .before .before .before .before .before .before .before .before) .args .rows .now) (g .kept .1 .1 .1 .1 .1 .1 .1 .0))) (g .ensures) (rows-still (p .last .1 .1 .1 .1 .1 .1 .0) (g .last .1 .1 .1 .1 .1 .1 .1 .0) (p .kept .1 .1 .1 .1 .1 .1 .0)) (p .ensures)
+returns c = search needs
 
 pub make-many-spec : {M : Type 1} → statement M
 make-many-spec =
     tie.close
     (tie.spec
-    slice-aggregate-place-table
-    slice-aggregate-place-table-2
-    slice-aggregate-place-table-3
-    slice-aggregate-place-table-4
-    slice-aggregate-place-table-5
-    slice-aggregate-place-table-6
-    slice-aggregate-place-table-7
-    place-table-requires
-    slice-aggregate-finish
-    slice-aggregate-finish-2
-    slice-aggregate-finish-3
-    slice-aggregate-finish-4
-    finish-requires
+    slice-aggregate-make-in
+    slice-aggregate-make-in-2
+    slice-aggregate-make-in-3
+    make-in-requires
     same-length
     same-length-2
     returns)

@@ -16,11 +16,11 @@ use Rattle.cells.specs.Listed.{tableRows}
 use Rattle.grid.specs.Grid.{columnsOf}
 use Rattle.table.specs.Laying.{widthsIn, placesIn}
 use Rattle.table.specs.Arranging.{CellsAre, boxesAt}
-use Rattle.finding.specs.Figures.{columnsAt}
+use Rattle.sheet_figures.specs.Figures.{columnsAt}
 use Rattle.causes.specs.Causes.{causes, missingFrom}
 use Rattle.causes.specs.Sheets.{causesAt, missingAt}
-use Rattle.missing.specs.declared.Explained.{Explained}
-use Rattle.missing.specs.declared.Explained.the-variants.{Causes, Refused}
+use Rattle.answers.specs.declared.Explained.{Explained}
+use Rattle.answers.specs.declared.Explained.the-variants.{Causes, Refused}
 
 -- the lent buffers have the places of a table's entries, and of its columns
 pub record ExplainRoom (entry cause : List ℕ) : Type 0 where

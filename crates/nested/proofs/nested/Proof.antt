@@ -15,8 +15,8 @@ find-nested-requires c κs = λ z. let a = (c .before .before .before .before .b
 column-count-requires : tie.Need-column-count-requires
 column-count-requires c κs = search needs
 
-place-count-requires : tie.Need-place-count-requires
-place-count-requires c κs = search needs
+entry-count-requires : tie.Need-entry-count-requires
+entry-count-requires c κs = search needs
 
 keep-front-requires : tie.Need-keep-front-requires
 keep-front-requires c κs =
@@ -28,31 +28,28 @@ keep-front-requires-2 : tie.Need-keep-front-requires-2
 keep-front-requires-2 c κs =
     let a = (c .before .before .before .before .before .before .before .before .before .before .before .before .before .before .before .before .before .before .before .before .before .before) .args in
     let f = (c .before .before .before .before .before .before .before .before .before .before .before .before .before) .find-nested in
-    keep-fits ((c .before .before .before .before .before) .place-count .ensures) (nest-rooms (a .wrap) (a .raw) (a .width) (a .overflow) _ _ _ _ ((c .before .before .before .before .before .before .before .before .before .before .before .before .before .before .before .before .before) .of-nested .ensures) (f .ensures) .1) (f .kept .1 .1 .1 .1 .1 .1 .1 .1 .0)
+    keep-fits ((c .before .before .before .before .before) .entry-count .ensures) (nest-rooms (a .wrap) (a .raw) (a .width) (a .overflow) _ _ _ _ ((c .before .before .before .before .before .before .before .before .before .before .before .before .before .before .before .before .before) .of-nested .ensures) (f .ensures) .1) (f .kept .1 .1 .1 .1 .1 .1 .1 .1 .0)
 
 keep-front-requires-3 : tie.Need-keep-front-requires-3
 keep-front-requires-3 c κs =
     let a = (c .before .before .before .before .before .before .before .before .before .before .before .before .before .before .before .before .before .before .before .before .before .before .before .before .before .before) .args in
     let f = (c .before .before .before .before .before .before .before .before .before .before .before .before .before .before .before .before .before) .find-nested in
-    keep-fits ((c .before .before .before .before .before .before .before .before .before) .place-count .ensures) (nest-rooms (a .wrap) (a .raw) (a .width) (a .overflow) _ _ _ _ ((c .before .before .before .before .before .before .before .before .before .before .before .before .before .before .before .before .before .before .before .before .before) .of-nested .ensures) (f .ensures) .2) (f .kept .1 .1 .1 .1 .1 .1 .1 .1 .1 .0)
-
-nested-in-requires : tie.Need-nested-in-requires
-nested-in-requires c κs = search needs
+    keep-fits ((c .before .before .before .before .before .before .before .before .before) .entry-count .ensures) (nest-rooms (a .wrap) (a .raw) (a .width) (a .overflow) _ _ _ _ ((c .before .before .before .before .before .before .before .before .before .before .before .before .before .before .before .before .before .before .before .before .before) .of-nested .ensures) (f .ensures) .2) (f .kept .1 .1 .1 .1 .1 .1 .1 .1 .1 .0)
 
 same-length : tie.Need-same-length
-same-length c = search needs
+same-length c = (c .before .before .before .before .before .before .before .before .before .before) .keep-front .kept .0 ∙ (c .before .before .before .before .before .before .before .before .before .before .before .before .before .before .before .before .before .before .before .before) .find-nested .kept .1 .1 .1 .1 .1 .1 .1 .0
 
 same-length-2 : tie.Need-same-length-2
-same-length-2 c = search needs
+same-length-2 c = (c .before .before .before .before .before .before) .keep-front2 .kept .0 ∙ (c .before .before .before .before .before .before .before .before .before .before .before .before .before .before .before .before .before .before .before .before) .find-nested .kept .1 .1 .1 .1 .1 .1 .1 .1 .0
 
 same-length-3 : tie.Need-same-length-3
-same-length-3 c = search needs
+same-length-3 c = (c .before .before) .keep-front3 .kept .0 ∙ (c .before .before .before .before .before .before .before .before .before .before .before .before .before .before .before .before .before .before .before .before) .find-nested .kept .1 .1 .1 .1 .1 .1 .1 .1 .1 .0
 
 returns : tie.Need-returns
 returns c =
-    let f = (c .before .before .before .before .before .before .before .before .before .before .before .before .before .before .before .before .before .before .before .before .before) .find-nested in
-    nest-answered ((c .before .before .before .before .before .before .before .before .before .before .before .before .before .before .before .before .before .before .before .before .before .before .before .before .before) .of-nested .ensures) (f .ensures) (c .nested-in .ensures) ((c .before .before .before .before .before .before .before .before .before .before .before .before .before .before) .column-count .ensures) ((c .before .before .before .before .before .before .before .before .before .before .before .before .before) .place-count .ensures) (f .kept .1 .1 .1 .1 .1 .1 .1 .0) (f .kept .1 .1 .1 .1 .1 .1 .1 .1 .0) (f .kept .1 .1 .1 .1 .1 .1 .1 .1 .1 .0)
-    ((c .before .before .before .before .before .before .before .before .before .before .before) .keep-front .ensures) ((c .before .before .before .before .before .before .before) .keep-front2 .ensures) ((c .before .before .before) .keep-front3 .ensures)
+    let f = (c .before .before .before .before .before .before .before .before .before .before .before .before .before .before .before .before .before .before .before .before) .find-nested in
+    nest-answered ((c .before .before .before .before .before .before .before .before .before .before .before .before .before .before .before .before .before .before .before .before .before .before .before .before) .of-nested .ensures) (f .ensures) ((c .before .before .before .before .before .before .before .before .before .before .before .before .before) .column-count .ensures) ((c .before .before .before .before .before .before .before .before .before .before .before .before) .entry-count .ensures) (f .kept .1 .1 .1 .1 .1 .1 .1 .0) (f .kept .1 .1 .1 .1 .1 .1 .1 .1 .0) (f .kept .1 .1 .1 .1 .1 .1 .1 .1 .1 .0)
+    ((c .before .before .before .before .before .before .before .before .before .before) .keep-front .ensures) ((c .before .before .before .before .before .before) .keep-front2 .ensures) ((c .before .before) .keep-front3 .ensures)
 
 pub nested-spec : {M : Type 1} → statement M
 nested-spec =
@@ -61,11 +58,10 @@ nested-spec =
     of-nested-requires
     find-nested-requires
     column-count-requires
-    place-count-requires
+    entry-count-requires
     keep-front-requires
     keep-front-requires-2
     keep-front-requires-3
-    nested-in-requires
     same-length
     same-length-2
     same-length-3

@@ -14,17 +14,14 @@ use Rattle.sheet.specs.declared.Reading.the-variants.{Lines, Refused as NotRead
 use Rattle.passing.specs.inner.Places.{widthBy}
 use Rattle.passing.specs.declared.Width.{Width}
 use Rattle.passing.specs.declared.Width.the-variants.{Wide, Without}
-use Rattle.grid.specs.Grid.{entriesOf}
 use Rattle.placing.specs.Promise.{Promised}
-use Rattle.finding.specs.Figures.{rowsAt, columnsAt, boxesAt, wayAt, widthsAt, widthAt}
-use Rattle.finding.specs.inner.Layouts.{LayoutRead}
-use Rattle.finding.specs.declared.Arranged.{Arranged}
-use Rattle.finding.specs.declared.Arranged.the-variants.{Table, Refused as NotArranged}
-use Rattle.nested.specs.Nested.{widthTo, columnsFor, xsFor, widesFor}
-use Rattle.nested.specs.declared.Nest.{Nest}
-use Rattle.nested.specs.declared.Nest.the-variants as nest
-use Rattle.nested.specs.declared.NestedLayout.{NestedLayout}
-use Rattle.nested.specs.declared.NestedLayout.the-variants as nested
+use Rattle.sheet_figures.specs.Figures.{columnsAt, boxesAt, wayAt, widthsAt}
+use Rattle.call_layout.specs.inner.Read.{LayoutRead}
+use Rattle.answers.specs.declared.LaidOut.{LaidOut}
+use Rattle.answers.specs.declared.LaidOut.the-variants.{Layout, Refused}
+use Rattle.nested.specs.Nested.{widthTo, toldAt, columnsFor, xsFor, widesFor}
+use Rattle.answers.specs.declared.NestedLayout.{NestedLayout}
+use Rattle.answers.specs.declared.NestedLayout.the-variants as nested
 
 -- the width at a line's place, if the sheet was read
 unfoldable pub widthFor : Reading → ℕ → List Place → Width
@@ -36,51 +33,40 @@ pub record PlaceIn (read : Reading) (line : ℕ) (walk : List ℕ) : Type 0 wher
   pub from-one : (n : ℕ) → read ≡ Lines n → 1 ≤ line
   pub within : (n : ℕ) → read ≡ Lines n → line - 1 < length walk / 2
 
--- a table laid out at the width at, or none, in the words of this crate
-unfoldable pub nestIn : ℕ → Arranged → Nest
-nestIn at (Table way entries columns width) = nest.Table at way entries columns width
-nestIn at (NotArranged number line) = nest.Refused number line
+-- a table laid out at the width at, or none
+unfoldable pub nestIn : ℕ → LaidOut → NestedLayout
+nestIn at (Layout way entries columns width) = nested.Table at way entries columns width
+nestIn at (Refused number line) = nested.Refused number line
 
-unfoldable pub withoutIn : Reading → Nest
-withoutIn (Lines n) = nest.Missing
-withoutIn (NotRead number line) = nest.Refused number line
+unfoldable pub withoutIn : Reading → NestedLayout
+withoutIn (Lines n) = nested.Missing
+withoutIn (NotRead number line) = nested.Refused number line
 
 -- what is laid out at this width
-pub record NestRead (read : Reading) (w : Width) (lines : List ℕ) (line : ℕ) (figures : List Estimate) (raw : ℕ) (r : Nest) (column x wide : List ℕ) : Type 0 where
+pub record NestRead (read : Reading) (w : Width) (lines : List ℕ) (line : ℕ) (figures : List Estimate) (raw : ℕ) (r : NestedLayout) (column x wide : List ℕ) : Type 0 where
   pub without : w ≡ Without → r ≡ withoutIn read
-  pub arranged : (v : ℕ) → w ≡ Wide v → Arranged
+  pub arranged : (v : ℕ) → w ≡ Wide v → LaidOut
   pub answer : (v : ℕ) (e : w ≡ Wide v) → r ≡ nestIn v (arranged v e)
   pub laid : (v : ℕ) (e : w ≡ Wide v) → LayoutRead read lines line figures raw v (arranged v e) column x wide
 
 -- how many columns and entries it has
-unfoldable pub columnTotal : Nest → ℕ
-columnTotal (nest.Table at way entries columns width) = columns
-columnTotal nest.Missing = 0
-columnTotal (nest.Refused number line) = 0
+unfoldable pub columnsIn : NestedLayout → ℕ
+columnsIn (nested.Table at way entries columns width) = columns
+columnsIn nested.Missing = 0
+columnsIn (nested.Refused number line) = 0
 
-unfoldable pub placeTotal : Nest → ℕ
-placeTotal (nest.Table at way entries columns width) = entries
-placeTotal nest.Missing = 0
-placeTotal (nest.Refused number line) = 0
-
--- the table in a line at the width that it has
-unfoldable pub nestAt : List ℕ → ℕ → ℕ → ℕ → Width → Nest
-nestAt s line wrap raw Without = nest.Missing
-nestAt s line wrap raw (Wide v) = nest.Table v (wayAt s line wrap raw v) (length (entriesOf (rowsAt s line))) (columnsAt s line) (widthAt s line wrap raw v)
+unfoldable pub entriesIn : NestedLayout → ℕ
+entriesIn (nested.Table at way entries columns width) = entries
+entriesIn nested.Missing = 0
+entriesIn (nested.Refused number line) = 0
 
 -- found in the sheet, or the first refusal; the figures stand in the first places
-pub record NestFound (cs : List Check) (s : List ℕ) (line wrap raw width : ℕ) (r : Nest) (column x wide : List ℕ) : Type 0 where
-  pub answer : r ≡ firstAnswer nest.Refused (nestAt s line wrap raw (widthTo s line wrap raw width)) cs
-  pub few-columns : columnTotal r ≤ maxLines
-  pub few-entries : placeTotal r ≤ maxEntries
-  pub widths : take (columnTotal r) column ≡ ifPasses cs (columnsFor s line wrap raw (widthTo s line wrap raw width))
-  pub xs : take (placeTotal r) x ≡ ifPasses cs (xsFor s line wrap raw (widthTo s line wrap raw width))
-  pub wides : take (placeTotal r) wide ≡ ifPasses cs (widesFor s line wrap raw (widthTo s line wrap raw width))
+pub record NestFound (cs : List Check) (s : List ℕ) (line wrap raw width : ℕ) (r : NestedLayout) (column x wide : List ℕ) : Type 0 where
+  pub answer : r ≡ firstAnswer nested.Refused (toldAt s line wrap raw (widthTo s line wrap raw width)) cs
+  pub few-columns : columnsIn r ≤ maxLines
+  pub few-entries : entriesIn r ≤ maxEntries
+  pub widths : take (columnsIn r) column ≡ ifPasses cs (columnsFor s line wrap raw (widthTo s line wrap raw width))
+  pub xs : take (entriesIn r) x ≡ ifPasses cs (xsFor s line wrap raw (widthTo s line wrap raw width))
+  pub wides : take (entriesIn r) wide ≡ ifPasses cs (widesFor s line wrap raw (widthTo s line wrap raw width))
   pub promised : passes cs ≡ true → (v : ℕ) → widthTo s line wrap raw width ≡ Wide v →
       Promised (columnsAt s line) (boxesAt s line wrap) raw v (wayAt s line wrap raw v) (widthsAt s line wrap raw v)
-
--- in the words of `nested`
-unfoldable pub nestedIn : Nest → NestedLayout
-nestedIn (nest.Table at way entries columns width) = nested.Table at way columns width
-nestedIn nest.Missing = nested.Missing
-nestedIn (nest.Refused number line) = nested.Refused number line

@@ -15,7 +15,9 @@ slice-aggregate-measure-sheet-2 : tie.Need-slice-aggregate-measure-sheet-2
 slice-aggregate-measure-sheet-2 c = search needs
 
 measure-sheet-requires : tie.Need-measure-sheet-requires
-measure-sheet-requires c κs = (c .before .before .before .before .before .before .before .before .before) .pre
+measure-sheet-requires c κs =
+    let p = (c .before .before .before .before .before .before .before .before .before) .pre in
+    (p .0, (p .1 .0, record { leasts-room = p .1 .1; entries-room = omega arith; rows-room = omega arith }))
 
 same-length : tie.Need-same-length
 same-length c = search needs

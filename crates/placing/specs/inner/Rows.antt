@@ -11,8 +11,8 @@ use Rattle.records.specs.declared.Entry.{Entry}
 use Rattle.records.specs.declared.Row.{Row}
 use Rattle.columns.specs.Boxes.{Box, box, rowsBy, BoxesTile, TilesAll}
 use Rattle.cutting.specs.Cut.{gaps}
-use Rattle.widths.specs.declared.Way.{Way}
-use Rattle.widths.specs.declared.Way.the-variants.{Sideways}
+use Rattle.answers.specs.declared.Way.{Way}
+use Rattle.answers.specs.declared.Way.the-variants.{Sideways}
 use Rattle.placing.specs.Place.{Placed}
 
 -- sideways, the width of an entry whose columns sum to q, and where the next one starts if it stands at x: one case of placeSide

@@ -1,7 +1,7 @@
 -- `preview::join_in` meets its contract: the entries of the row and of the next are there, and each arm answers what the definition says of its variant.
 -- Assumes nothing.
 use mathlib.Core.Path.{sym, ap, _∙_}
-use Rattle.preview.specs.declared.Joined.the-variants.{Character}
+use Rattle.answers.specs.declared.Joined.the-variants.{Character}
 use Rattle.preview.specs.inner.Said.{joinedBy}
 use borrow.Author.Needs.{needs}
 use Rattle.preview.proofs.join_in.Statement.{statement}

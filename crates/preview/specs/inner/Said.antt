@@ -11,12 +11,12 @@ use Rattle.pointing.specs.inner.Rows.{InSlices}
 use Rattle.spots.specs.declared.Spot.{Spot}
 use Rattle.spots.specs.declared.Spot.the-variants.{Row, Refused}
 use Rattle.preview.specs.Preview.{pointedIn}
-use Rattle.preview.specs.declared.Pointed.{Pointed}
-use Rattle.preview.specs.declared.Pointed.the-variants as pointing
-use Rattle.preview.specs.declared.Listed.{Listed}
-use Rattle.preview.specs.declared.Listed.the-variants as listing
-use Rattle.preview.specs.declared.Joined.{Joined}
-use Rattle.preview.specs.declared.Joined.the-variants as joining
+use Rattle.answers.specs.declared.Pointed.{Pointed}
+use Rattle.answers.specs.declared.Pointed.the-variants as pointing
+use Rattle.answers.specs.declared.Listed.{Listed}
+use Rattle.answers.specs.declared.Listed.the-variants as listing
+use Rattle.answers.specs.declared.Joined.{Joined}
+use Rattle.answers.specs.declared.Joined.the-variants as joining
 
 -- its entries and those of the next row are there
 pub record RowFits (first end next : ℕ) (x wide : List ℕ) : Type 0 where

@@ -3,10 +3,10 @@ use mathlib.Core.Path.{_≡_}
 use mathlib.Core.List.{List}
 use Prim.Native.Nat.{ℕ}
 use lib.ListN.{take}
-use Rattle.lists.specs.Lists.{over}
+use Rattle.rows.specs.inner.Overhangs.{leftsIn, atsIn, widesIn}
 
--- the first k of three slices over the front of three others
-pub record Carried (k : ℕ) (nl na nw l₀ a₀ w₀ l a w : List ℕ) : Type 0 where
-  pub lefts : l ≡ over (take k nl) l₀
-  pub ats : a ≡ over (take k na) a₀
-  pub wides : w ≡ over (take k nw) w₀
+-- the first k of what hangs into the next row are the first k that hang on
+pub record Carried (k : ℕ) (nl na nw o : List ℕ) : Type 0 where
+  pub lefts : take k (leftsIn o) ≡ take k nl
+  pub ats : take k (atsIn o) ≡ take k na
+  pub wides : take k (widesIn o) ≡ take k nw

@@ -16,13 +16,13 @@ use Rattle.columns.specs.Boxes.{Box}
 use Rattle.cells.specs.Listed.{tableRows}
 use Rattle.grid.specs.Grid.{GridRow, gridOf, columnsOf}
 use Rattle.gridding.specs.Packed.{endedRows}
-use Rattle.widths.specs.declared.Way.{Way}
+use Rattle.answers.specs.declared.Way.{Way}
 use Rattle.placing.specs.Place.{placeRow}
 use Rattle.table.specs.Laying.{wayIn, widthsIn}
 use Rattle.table.specs.Arranging as table
 use Rattle.pointing.specs.Point.{placed}
 use Rattle.pointing.specs.inner.Rows.{InSlices}
-use Rattle.finding.specs.Figures.{rowsAt, boxesAt, wayAt, widthsAt}
+use Rattle.sheet_figures.specs.Figures.{rowsAt, boxesAt, wayAt, widthsAt}
 use Rattle.spots.specs.Rows.{startIn, rowCheck}
 use Rattle.spots.specs.declared.Spot.{Spot}
 use Rattle.spots.specs.declared.Spot.the-variants.{Row, Refused}

@@ -6,13 +6,13 @@ use borrow.Author.Needs.{needs}
 use Rattle.table.proofs.arrange.Statement.{statement}
 use Rattle.table.proofs.arrange.Tie as tie
 
-make-sound-requires : tie.Need-make-sound-requires
-make-sound-requires c κs = search needs
+make-requires : tie.Need-make-requires
+make-requires c κs = search needs
 
 lay-front-requires : tie.Need-lay-front-requires
 lay-front-requires c κs =
     let s = (c .before .before .before .before .before .before .before .before .before .before .before .before .before .before .before .before .before .before .before) in
-    let made = (c .before .before .before .before .before .before .before .before .before) .make-sound in
+    let made = (c .before .before .before .before .before .before .before .before .before) .make in
     made-front (s .pre .0) (s .pre .1 .0) (made .ensures) (s .pre .1 .1)
     (same-records 3 entryBy _ _ (made .kept .1 .1 .0)) (same-records 2 rowBy _ _ (made .kept .1 .1 .1 .0))
 
@@ -34,13 +34,13 @@ same-length-5 c = search needs
 returns : tie.Need-returns
 returns c =
     let s = (c .before .before .before .before .before .before .before .before .before .before .before .before .before .before .before .before .before .before .before .before .before .before .before .before .before .before) in
-    made-laid (s .pre .0) (s .pre .1 .0) ((c .before .before .before .before .before .before .before .before .before .before .before .before .before .before .before .before) .make-sound .ensures) ((c .before .before .before .before .before .before) .lay-front .ensures)
+    made-laid (s .pre .0) (s .pre .1 .0) ((c .before .before .before .before .before .before .before .before .before .before .before .before .before .before .before .before) .make .ensures) ((c .before .before .before .before .before .before) .lay-front .ensures)
 
 pub arrange-spec : {M : Type 1} → statement M
 arrange-spec =
     tie.close
     (tie.spec
-    make-sound-requires
+    make-requires
     lay-front-requires
     same-length
     same-length-2

@@ -1,4 +1,4 @@
--- `tables_c::tables_check` meets its contract: it gives back what `tables::check` answers, as it crosses. Assumes nothing.
+-- `tables_c::tables_check` meets its contract: it gives back what `call_estimates::check` answers, as it crosses. Assumes nothing.
 use mathlib.Core.Path.{ap, _∙_}
 use Rattle.crossing.specs.Answers.{checkResult}
 use borrow.Author.Needs.{needs}

@@ -1,4 +1,4 @@
--- `tables_c::tables_estimates` meets its contract: it gives back what `tables::estimates` answers, as it crosses, and the buffers are as the call leaves them. Assumes nothing.
+-- `tables_c::tables_estimates` meets its contract: it gives back what `call_estimates::estimates` answers, as it crosses, and the buffers are as the call leaves them. Assumes nothing.
 use mathlib.Core.Path.{ap, _∙_}
 use Rattle.crossing.specs.Answers.{estimatesResult}
 use borrow.Author.Needs.{needs}

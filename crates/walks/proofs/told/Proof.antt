@@ -1,7 +1,7 @@
 -- `walks::told` meets its contract: each arm answers what the definition says of its variant; lines are few. Assumes nothing.
 use mathlib.Core.Path.{sym, ap}
 use native.Mathlib.Omega.{arith}
-use Rattle.finding.specs.inner.Found.{linesIn}
+use Rattle.sheet_figures.specs.inner.Opened.{linesIn}
 use Rattle.walks.specs.inner.Found.{walkedIn}
 use borrow.Author.Needs.{needs}
 use Rattle.walks.proofs.told.Statement.{statement}

@@ -10,10 +10,10 @@ use Rattle.sheet.specs.Sheet.{sheetLines}
 use Rattle.sheet.specs.declared.Reading.{Reading}
 use Rattle.sheet.specs.declared.Reading.the-variants.{Lines, Refused as NotRead}
 use Rattle.passing.specs.Walk.{givenNumber, widthNumber}
-use Rattle.finding.specs.inner.Found.{linesIn}
+use Rattle.sheet_figures.specs.inner.Opened.{linesIn}
 use Rattle.pacing.specs.Sheets.{walkOf}
-use Rattle.walks.specs.declared.Walked.{Walked}
-use Rattle.walks.specs.declared.Walked.the-variants as walked
+use Rattle.answers.specs.declared.Walked.{Walked}
+use Rattle.answers.specs.declared.Walked.the-variants as walked
 
 -- the lent buffers have the places of a sheet's lines
 pub record WalkRoom (given wide : List ℕ) : Type 0 where

@@ -7,8 +7,8 @@ use Rattle.lists.specs.Lists.{sum}
 use Rattle.lists.specs.Limits.{maxLines}
 use Rattle.cutting.specs.Cut.{gaps, Below}
 use Rattle.widths.specs.Widths.{wayOf, finalWidths, tableWidth}
-use Rattle.widths.specs.declared.Way.{Way}
-use Rattle.widths.specs.declared.Way.the-variants.{Sideways}
+use Rattle.answers.specs.declared.Way.{Way}
+use Rattle.answers.specs.declared.Way.the-variants.{Sideways}
 use Rattle.widths.specs.declared.Laid.{Laid}
 
 -- columns with a figure in each of three lists

@@ -1,6 +1,6 @@
 -- `nested::nesting::column_count` meets its contract: each arm answers what the definition says of its variant. Assumes nothing.
 use mathlib.Core.Path.{sym, ap}
-use Rattle.nested.specs.inner.Found.{columnTotal}
+use Rattle.nested.specs.inner.Found.{columnsIn}
 use borrow.Author.Needs.{needs}
 use Rattle.nested.proofs.nesting.column_count.Statement.{statement}
 use Rattle.nested.proofs.nesting.column_count.Tie as tie
@@ -18,16 +18,16 @@ enum-told-2 : tie.Need-enum-told-2
 enum-told-2 c = search needs
 
 returns : tie.Need-returns
-unfolding columnTotal
-returns c = sym (ap columnTotal ((c .before) .found .given .1))
+unfolding columnsIn
+returns c = sym (ap columnsIn ((c .before) .found .given .1))
 
 returns-2 : tie.Need-returns-2
-unfolding columnTotal
-returns-2 c = sym (ap columnTotal (c .enum-told .given .1))
+unfolding columnsIn
+returns-2 c = sym (ap columnsIn (c .enum-told .given .1))
 
 returns-3 : tie.Need-returns-3
-unfolding columnTotal
-returns-3 c = sym (ap columnTotal (c .enum-told2 .given .1))
+unfolding columnsIn
+returns-3 c = sym (ap columnsIn (c .enum-told2 .given .1))
 
 pub column-count-spec : {M : Type 1} → statement M
 column-count-spec =

@@ -3,7 +3,7 @@
 use mathlib.Core.Path.{refl}
 use native.Mathlib.Omega.{arith}
 use Rattle.opening.proofs.Passing.{places-room, figures-room}
-use Rattle.finding.proofs.LaidOut.{out-still}
+use Rattle.call_layout.proofs.Found.{out-still}
 use Rattle.nested.proofs.NestCall.{nest-asked, nest-measured, place-in, width-small, nest-found}
 use borrow.Author.Needs.{needs}
 use Rattle.nested.proofs.nesting.nest_sheet.Statement.{statement}

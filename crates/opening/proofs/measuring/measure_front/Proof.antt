@@ -10,11 +10,11 @@ use Rattle.opening.proofs.measuring.measure_front.Tie as tie
 mul-end : tie.Need-mul-end
 mul-end c = search needs
 
-slice-aggregate-measure-lines : tie.Need-slice-aggregate-measure-lines
-slice-aggregate-measure-lines c = sym (length-take-le _ _ (omega (arith, (c .before .before .before .before .before .before) .pre .0)))
+slice-aggregate-measure-in : tie.Need-slice-aggregate-measure-in
+slice-aggregate-measure-in c = sym (length-take-le _ _ (omega (arith, (c .before .before .before .before .before .before) .pre .0)))
 
-measure-lines-requires : tie.Need-measure-lines-requires
-measure-lines-requires c κs = rw (kepts-take ((c .before .before .before .before .before .before .before .before .before .before) .args .lines .now) ((c .before .before .before .before .before .before .before .before .before .before) .args .n) ((c .before .before .before .before .before .before .before .before .before .before) .pre .0)) ((c .before .before .before .before .before .before .before .before .before .before) .pre .1)
+measure-in-requires : tie.Need-measure-in-requires
+measure-in-requires c κs = rw (kepts-take ((c .before .before .before .before .before .before .before .before .before .before) .args .lines .now) ((c .before .before .before .before .before .before .before .before .before .before) .args .n) ((c .before .before .before .before .before .before .before .before .before .before) .pre .0)) ((c .before .before .before .before .before .before .before .before .before .before) .pre .1)
 
 same-length : tie.Need-same-length
 same-length c = search needs
@@ -29,15 +29,15 @@ same-length-4 : tie.Need-same-length-4
 same-length-4 c = search needs
 
 returns : tie.Need-returns
-returns c = rw (kepts-take ((c .before .before .before .before .before .before .before .before .before .before .before .before .before .before .before .before .before .before .before) .args .lines .now) ((c .before .before .before .before .before .before .before .before .before .before .before .before .before .before .before .before .before .before .before) .args .n) ((c .before .before .before .before .before .before .before .before .before .before .before .before .before .before .before .before .before .before .before) .pre .0)) at ((c .before .before .before .before .before .before .before .before) .measure-lines .ensures)
+returns c = rw (kepts-take ((c .before .before .before .before .before .before .before .before .before .before .before .before .before .before .before .before .before .before .before) .args .lines .now) ((c .before .before .before .before .before .before .before .before .before .before .before .before .before .before .before .before .before .before .before) .args .n) ((c .before .before .before .before .before .before .before .before .before .before .before .before .before .before .before .before .before .before .before) .pre .0)) at ((c .before .before .before .before .before .before .before .before) .measure-in .ensures)
 
 pub measure-front-spec : {M : Type 1} → statement M
 measure-front-spec =
     tie.close
     (tie.spec
     mul-end
-    slice-aggregate-measure-lines
-    measure-lines-requires
+    slice-aggregate-measure-in
+    measure-in-requires
     same-length
     same-length-2
     same-length-3

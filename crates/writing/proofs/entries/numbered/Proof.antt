@@ -3,8 +3,8 @@
 use mathlib.Core.Path.{_≡_}
 use Prim.Native.Nat.{_-_}
 use lib.ListN.{length}
-use borrow.Author.Needs.{needs}
 use Rattle.writing.specs.Writing.{Place}
+use borrow.Author.Needs.{needs}
 use Rattle.writing.proofs.entries.numbered.Statement.{statement}
 use Rattle.writing.proofs.entries.numbered.Tie as tie
 
@@ -17,20 +17,8 @@ abbrev μ-loop : tie.MeasureT-loop
 loop-holds : tie.Need-loop-holds Inv-loop μ-loop
 loop-holds c = search needs
 
-cast-place : tie.Need-cast-place Inv-loop μ-loop
-cast-place c = search needs
-
-same-length : tie.Need-same-length Inv-loop μ-loop
-same-length c = search needs
-
-returns : tie.Need-returns Inv-loop μ-loop
-returns c = search needs
-
-mul-two : tie.Need-mul-two Inv-loop μ-loop
-mul-two c = search needs
-
-shared-slice-read-two : tie.Need-shared-slice-read-two Inv-loop μ-loop
-shared-slice-read-two c = search needs
+number-at-requires : tie.Need-number-at-requires Inv-loop μ-loop
+number-at-requires c κs = search needs
 
 two-requires : tie.Need-two-requires Inv-loop μ-loop
 two-requires c κs = search needs
@@ -44,11 +32,11 @@ loop-less c = search needs
 loop-again : tie.Need-loop-again Inv-loop μ-loop
 loop-again c = search needs
 
-same-length-2 : tie.Need-same-length-2 Inv-loop μ-loop
-same-length-2 c = search needs
+same-length : tie.Need-same-length Inv-loop μ-loop
+same-length c = search needs
 
-returns-2 : tie.Need-returns-2 Inv-loop μ-loop
-returns-2 c = search needs
+returns : tie.Need-returns Inv-loop μ-loop
+returns c = search needs
 
 pub numbered-spec : {M : Type 1} → statement M
 numbered-spec =
@@ -57,14 +45,10 @@ numbered-spec =
     Inv-loop
     μ-loop
     loop-holds
-    cast-place
-    same-length
-    returns
-    mul-two
-    shared-slice-read-two
+    number-at-requires
     two-requires
     add-j
     loop-less
     loop-again
-    same-length-2
-    returns-2)
+    same-length
+    returns)

@@ -9,22 +9,19 @@ use Rattle.writing.proofs.entries.row_ends.Statement.{statement}
 use Rattle.writing.proofs.entries.row_ends.Tie as tie
 
 abbrev Inv-loop : tie.InvT-loop
-Inv-loop out₀ at rows count next₀ i₀ out next i = Place out next × (length out ≡ length out₀)
+Inv-loop out₀ at rows row end next₀ i₀ out next i = Place out next × (length out ≡ length out₀)
 
 abbrev μ-loop : tie.MeasureT-loop
-μ-loop out₀ at rows count next₀ i₀ out next i = count - i
+μ-loop out₀ at rows row end next₀ i₀ out next i = rows - i
 
 loop-holds : tie.Need-loop-holds Inv-loop μ-loop
 loop-holds c = search needs
 
-same-length : tie.Need-same-length Inv-loop μ-loop
-same-length c = search needs
+number-at-requires : tie.Need-number-at-requires Inv-loop μ-loop
+number-at-requires c κs = search needs
 
-returns : tie.Need-returns Inv-loop μ-loop
-returns c = search needs
-
-row-at-requires : tie.Need-row-at-requires Inv-loop μ-loop
-row-at-requires c κs = search needs
+number-at-requires-2 : tie.Need-number-at-requires-2 Inv-loop μ-loop
+number-at-requires-2 c κs = search needs
 
 two-requires : tie.Need-two-requires Inv-loop μ-loop
 two-requires c κs = search needs
@@ -38,11 +35,11 @@ loop-less c = search needs
 loop-again : tie.Need-loop-again Inv-loop μ-loop
 loop-again c = search needs
 
-same-length-2 : tie.Need-same-length-2 Inv-loop μ-loop
-same-length-2 c = search needs
+same-length : tie.Need-same-length Inv-loop μ-loop
+same-length c = search needs
 
-returns-2 : tie.Need-returns-2 Inv-loop μ-loop
-returns-2 c = search needs
+returns : tie.Need-returns Inv-loop μ-loop
+returns c = search needs
 
 pub row-ends-spec : {M : Type 1} → statement M
 row-ends-spec =
@@ -51,12 +48,11 @@ row-ends-spec =
     Inv-loop
     μ-loop
     loop-holds
-    same-length
-    returns
-    row-at-requires
+    number-at-requires
+    number-at-requires-2
     two-requires
     add-i
     loop-less
     loop-again
-    same-length-2
-    returns-2)
+    same-length
+    returns)

@@ -9,16 +9,13 @@ use Rattle.writing.proofs.entries.row_entries.Statement.{statement}
 use Rattle.writing.proofs.entries.row_entries.Tie as tie
 
 abbrev Inv-loop : tie.InvT-loop
-Inv-loop out₀ at line entries start extent from to next₀ e₀ out next e = Place out next × (length out ≡ length out₀)
+Inv-loop out₀ at line cell each start extent from to next₀ e₀ out next e = Place out next × (length out ≡ length out₀)
 
 abbrev μ-loop : tie.MeasureT-loop
-μ-loop out₀ at line entries start extent from to next₀ e₀ out next e = to - e
+μ-loop out₀ at line cell each start extent from to next₀ e₀ out next e = to - e
 
 loop-holds : tie.Need-loop-holds Inv-loop μ-loop
 loop-holds c = search needs
-
-cast-entry : tie.Need-cast-entry Inv-loop μ-loop
-cast-entry c = search needs
 
 entry-requires : tie.Need-entry-requires Inv-loop μ-loop
 entry-requires c κs = search needs
@@ -45,7 +42,6 @@ row-entries-spec =
     Inv-loop
     μ-loop
     loop-holds
-    cast-entry
     entry-requires
     add-e
     loop-less

@@ -1,0 +1,2 @@
+-- The cases of the answers in numbers.
+pub mod Numbers

@@ -1,2 +1,0 @@
--- What is asked before a sheet is read.
-pub mod inner

@@ -1,2 +1,0 @@
--- What is asked before a sheet is read, as the functions need it.
-pub mod Asked

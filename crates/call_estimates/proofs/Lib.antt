@@ -1,0 +1,3 @@
+-- Laws of the estimates of a sheet that was read, and of the calls.
+pub mod Found
+pub mod Answers

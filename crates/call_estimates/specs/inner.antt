@@ -1,0 +1,2 @@
+-- What the functions within the calls take and promise.
+pub mod Found

@@ -1,0 +1,4 @@
+-- Laws of the grid of a table that was read, and of the call.
+pub mod Told
+pub mod Found
+pub mod Answers

@@ -1,0 +1,3 @@
+-- The call `grid`: what it answers and leaves.
+pub mod Grid
+pub mod inner

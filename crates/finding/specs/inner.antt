@@ -1,4 +1,0 @@
--- What the functions of this crate take and promise.
-pub mod Found
-pub mod Made
-pub mod Layouts

@@ -1,0 +1,4 @@
+pub mod Plain
+pub mod Resolving
+pub mod RowLoop
+pub mod TableLoop

@@ -1,0 +1,2 @@
+-- How the code goes about it: a table's lines, row by row.
+pub mod Walking

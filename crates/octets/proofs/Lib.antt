@@ -1,0 +1,4 @@
+pub mod Lanes
+pub mod Standing
+pub mod Fronts
+pub mod Answers

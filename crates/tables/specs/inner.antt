@@ -1,2 +1,0 @@
--- What the functions within the calls answer.
-pub mod Telling

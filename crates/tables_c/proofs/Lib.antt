@@ -1,0 +1,2 @@
+-- No call answers 7.
+pub mod Never
