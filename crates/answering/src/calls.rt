@@ -13,7 +13,7 @@ use writing::lines::{four, two, words};
 use writing::tables::{cells, heading};
 
 // What is printed of each table: its layout, or its grid.
-#[derive(Drop)]
+#[derive(Clone, Copy)]
 pub enum Part {
     Layout,
     Grid,

@@ -1,4 +1,6 @@
 // What a call's settings and the lengths of its buffers are refused for: 9 and 11.
+#![tactic(auto)]
+
 ghost use Rattle.std.specs.Prelude.{◌≡◌, [], ◌∷◌, ◌||◌, ltb};
 ghost use Rattle.lists.specs.Limits.{max_wrap, max_width};
 ghost use Rattle.arguments.specs.Arguments.{any_shorter, estimates_arguments, grid_arguments, layout_arguments, missing_arguments, pointing_arguments, within_arguments, walk_arguments, nested_arguments};
@@ -7,7 +9,7 @@ ghost use Rattle.lists.specs.Refusals.{verdict_of};
 use lists::Verdict;
 
 // The settings of a call. Those that a call does not have are 0.
-#[derive(Drop)]
+#[derive(Clone, Copy)]
 pub struct Settings {
     pub wrap: u32,
     pub raw: u32,

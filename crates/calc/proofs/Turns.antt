@@ -45,9 +45,9 @@ unfolding inner
 next_digit c r t n v f e s d l h =
     record { is = rw (e, d, lt-ltb n 9 l, h); small = rw h (grown n v c (subst Small e s) d) }
 
-pub too_long : (c : ℕ) (t : Top) (n v : ℕ) (f : Frame) → t ≡ Within n v f → digit c ≡ true → 9 ≤ n → Steps c t Wrong
+pub too_long_lem : (c : ℕ) (t : Top) (n v : ℕ) (f : Frame) → t ≡ Within n v f → digit c ≡ true → 9 ≤ n → Steps c t Wrong
 unfolding inner
-too_long c t n v f e d l = record { is = rw (e, d, le-ltb n 9 l); small = tt }
+too_long_lem c t n v f e d l = record { is = rw (e, d, le-ltb n 9 l); small = tt }
 
 pub number_ends : (c : ℕ) (t r : Top) (n v : ℕ) (f : Frame) (x : Num) → t ≡ Within n v f → digit c ≡ false → worth x ≡ onto_of f.product (some (pos v)) → place_of r ≡ operator values c (onto_of f.sum) (worth x) → Small r → Steps c t r
 unfolding inner

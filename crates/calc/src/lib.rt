@@ -1,4 +1,6 @@
 // Sums in a cell: a text is read once, from its first byte to its last, and its value is worked out on the way.
+#![tactic(auto)]
+
 ghost use Rattle.std.specs.Prelude.{◌≡◌, ◌+◌, ◌*◌, ◌-◌, ◌≤◌, ◌<◌};
 ghost use Rattle.sums.specs.Tree.{limit};
 ghost use Rattle.sums.specs.Grammar.{digit};
@@ -11,21 +13,21 @@ ghost use Rattle.calc.specs.inner.Kept.{onto_of, place_of, found_of, room_of, op
 use sums::{Answer, Num, Op, joined};
 
 // What waits before a number: nothing, or a result and an operator.
-#[derive(Drop)]
+#[derive(Clone, Copy)]
 enum Before {
     Nothing,
     After(Num, Op),
 }
 
 // What waits before a term, and before a factor.
-#[derive(Drop)]
+#[derive(Clone, Copy)]
 struct Frame {
     pub sum: Before,
     pub product: Before,
 }
 
 // Within the innermost open bracket: not to be read; a factor has to come; a number of so many digits so far; a factor has come.
-#[derive(Drop)]
+#[derive(Clone, Copy)]
 enum Top {
     Wrong,
     Want(Frame),
@@ -34,21 +36,21 @@ enum Top {
 }
 
 // The result of what stands within a bracket, if it may end.
-#[derive(Drop)]
+#[derive(Clone, Copy)]
 enum Found {
     Missing,
     Result(Num),
 }
 
 // What waits, if a factor has to come.
-#[derive(Drop)]
+#[derive(Clone, Copy)]
 enum Room {
     Shut,
     Open(Frame),
 }
 
 // The length of the value's decimal writing; or 13; or 14.
-#[derive(Drop)]
+#[derive(Clone, Copy)]
 pub enum Measure {
     Size(u32),
     NoExpression,

@@ -11,7 +11,7 @@ use opening::Scope;
 use sheet::Reading;
 
 // What comes of short arrays: what was read, or that they do not suffice for the sheet's tables.
-#[derive(Drop)]
+#[derive(Clone, Copy)]
 pub enum Tried {
     Found(Reading),
     Larger,

@@ -1,5 +1,7 @@
 // The calls `check`, whether a sheet is accepted, and `estimates`, the figures of its lines. `estimates` asks its arguments first; then what is found in
 // the sheet stands in the lent buffers, and in the end it clears what is no figure. A refused call clears all.
+#![tactic(auto)]
+
 mod arrays; // the arrays to work in, by the size of the sheet
 
 ghost use Rattle.std.specs.Prelude.{◌≡◌, false, ◌∷◌, ◌≤◌};

@@ -9,7 +9,7 @@ use answers::Gridded;
 use lists::{MAX_ENTRIES, MAX_LINES, SMALL_LINES};
 
 // What comes of short arrays: the answer, or that they do not suffice for the sheet's tables.
-#[derive(Drop)]
+#[derive(Clone, Copy)]
 pub enum Tried {
     Found(Gridded),
     Larger,

@@ -12,7 +12,7 @@ use lists::{MAX_ENTRIES, MAX_LINES, SMALL_LINES};
 use opening::Scope;
 
 // What comes of short arrays: the answer, or that they do not suffice for the sheet's tables.
-#[derive(Drop)]
+#[derive(Clone, Copy)]
 pub enum Tried {
     Found(LaidOut),
     Larger,

@@ -1,5 +1,7 @@
 // The call `layout`: the layout of the table in a line of a sheet. It asks its arguments first; then what is found in the sheet stands in the lent
 // buffers, and in the end it clears what is no figure. A refused call clears all.
+#![tactic(auto)]
+
 mod arrays; // the arrays to work in, by the size of the sheet
 pub mod read; // the table in a line of a sheet that was read
 

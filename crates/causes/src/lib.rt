@@ -1,4 +1,6 @@
 // Why a column of a table is 0 wide and which entries are missing, for those who teach which cells can go missing. The Rust has no counterpart.
+#![tactic(auto)]
+
 pub mod fronts; // those of a table whose records stand in the front of slices
 
 ghost use Rattle.std.specs.Prelude.{◌≡◌, length};
@@ -13,7 +15,7 @@ use widths::Laid;
 
 // Shown is no cause: the column is not 0 wide. Of the others the first that holds is said: the page has width 0, the column is empty, its share is
 // too little for one character, its share was cut away.
-#[derive(Drop)]
+#[derive(Clone, Copy)]
 pub enum Cause {
     Shown,
     Empty,

@@ -1,4 +1,6 @@
 // The cells of a table as they are written, row by row and body by body, what a colspan of 0 becomes, and where a rowspan ends.
+#![tactic(auto)]
+
 ghost use Rattle.std.specs.Prelude.{◌≡◌, cond, length, get_or, set, ltb, eqb, ◌+◌, ◌<◌, ◌/◌};
 ghost use Rattle.lists.specs.Limits.{max_lines};
 ghost use Rattle.records.specs.Kept.{kepts_of, no_kept};
@@ -10,14 +12,14 @@ ghost use Rattle.cells.specs.Spans.{bare, part, rows_at, Narrow, BodyHeld, Large
 use records::Row;
 
 // How many cells and rows a table has.
-#[derive(Drop)]
+#[derive(Clone, Copy)]
 pub struct Listed {
     pub cells: usize,
     pub rows: usize,
 }
 
 // A cell of a table: its line, the columns that it spans, and the rows that it takes.
-#[derive(Drop)]
+#[derive(Clone, Copy)]
 pub struct Cell {
     pub line: u32,
     pub span: u32,

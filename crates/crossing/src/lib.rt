@@ -1,4 +1,6 @@
 // What crosses to C: `#[repr(C)]` structs of numbers alone, and a function for each that turns an answer of the calls inside into it.
+#![tactic(auto)]
+
 ghost use Rattle.std.specs.Prelude.{◌≡◌};
 ghost use Rattle.answers.specs.Numbers.{way_number, joint_number};
 ghost use Rattle.crossing.specs.Answers.{check_result, as_img, measure_result, estimates_result, grid_result, layout_result, missing_result, at_result, within_result, joining_result, walk_result, nested_result};
@@ -12,14 +14,14 @@ use text::Measured;
 
 // In each result: number 0 and line 0 if the call is accepted; else the refusal, its line, and zeros.
 #[repr(C)]
-#[derive(Drop)]
+#[derive(Clone, Copy)]
 pub struct CheckResult {
     pub number: u32,
     pub line: u32,
 }
 
 #[repr(C)]
-#[derive(Drop)]
+#[derive(Clone, Copy)]
 pub struct MeasureResult {
     pub number: u32,
     pub line: u32,
@@ -29,7 +31,7 @@ pub struct MeasureResult {
 }
 
 #[repr(C)]
-#[derive(Drop)]
+#[derive(Clone, Copy)]
 pub struct EstimatesResult {
     pub number: u32,
     pub line: u32,
@@ -37,7 +39,7 @@ pub struct EstimatesResult {
 }
 
 #[repr(C)]
-#[derive(Drop)]
+#[derive(Clone, Copy)]
 pub struct GridResult {
     pub number: u32,
     pub line: u32,
@@ -48,7 +50,7 @@ pub struct GridResult {
 
 // way: 0 sideways, 1 down.
 #[repr(C)]
-#[derive(Drop)]
+#[derive(Clone, Copy)]
 pub struct LayoutResult {
     pub number: u32,
     pub line: u32,
@@ -58,7 +60,7 @@ pub struct LayoutResult {
 }
 
 #[repr(C)]
-#[derive(Drop)]
+#[derive(Clone, Copy)]
 pub struct MissingResult {
     pub number: u32,
     pub line: u32,
@@ -68,7 +70,7 @@ pub struct MissingResult {
 
 // what: 0 nothing, 1 gap, 2 cell; entry is 0 unless it is a cell.
 #[repr(C)]
-#[derive(Drop)]
+#[derive(Clone, Copy)]
 pub struct AtResult {
     pub number: u32,
     pub line: u32,
@@ -77,7 +79,7 @@ pub struct AtResult {
 }
 
 #[repr(C)]
-#[derive(Drop)]
+#[derive(Clone, Copy)]
 pub struct WithinResult {
     pub number: u32,
     pub line: u32,
@@ -86,7 +88,7 @@ pub struct WithinResult {
 
 // joint: 0 plain, 1 up, 2 down, 3 both.
 #[repr(C)]
-#[derive(Drop)]
+#[derive(Clone, Copy)]
 pub struct JoiningResult {
     pub number: u32,
     pub line: u32,
@@ -94,7 +96,7 @@ pub struct JoiningResult {
 }
 
 #[repr(C)]
-#[derive(Drop)]
+#[derive(Clone, Copy)]
 pub struct WalkResult {
     pub number: u32,
     pub line: u32,
@@ -103,7 +105,7 @@ pub struct WalkResult {
 
 // given: 1 if the walk gives the table a width, and at which it is laid out; else all are 0.
 #[repr(C)]
-#[derive(Drop)]
+#[derive(Clone, Copy)]
 pub struct NestedResult {
     pub number: u32,
     pub line: u32,

@@ -20,7 +20,7 @@ use Rattle.cutting.specs.inner.Fill.{Roomy, place, width_at, filled_from, filled
 use Rattle.cutting.proofs.Sums.{sum_le, below_in, in_range, at_le_sum, sum_rest, sum_none}
 use Rattle.cutting.proofs.Cut.{cut_held, cut_fills}
 use Rattle.cutting.proofs.Best.{find_below, unique}
-use Rattle.cutting.proofs.Level.{length_level, at_level, Given, given_held, level_ok, level_next, level_is}
+use Rattle.cutting.proofs.Level.{length_level, at_level_lem, Given, given_held, level_ok, level_next, level_is}
 
 -- one column
 
@@ -79,7 +79,7 @@ pub filled_none : (ls ss : List ℕ) (t : ℕ) → length ls ≡ length ss → f
 filled_none ls ss t e =
     ext_get_or 0 (filled ls ss t 0) (at_level ls ss t) (length_filled ls ss e t 0 ∙ sym (length_level ls ss t e))
     (λ i h.
-    filled_later ls ss e t 0 i (omega (arith, length_filled ls ss e t 0)) (omega arith) ∙ sym (at_level ls ss t e i))
+    filled_later ls ss e t 0 i (omega (arith, length_filled ls ss e t 0)) (omega arith) ∙ sym (at_level_lem ls ss t e i))
 
 -- every place is below the bound, if no least passes the room
 pub filled_all : (ls ss : List ℕ) (t room : ℕ) → length ls ≡ length ss → sum ls ≤ room →
@@ -87,7 +87,7 @@ pub filled_all : (ls ss : List ℕ) (t room : ℕ) → length ls ≡ length ss �
 filled_all ls ss t room e f =
     ext_get_or 0 (filled ls ss t b) (at_level ls ss (suc t)) (length_filled ls ss e t b ∙ sym (length_level ls ss (suc t) e))
     (λ i h.
-    filled_first ls ss e t b i (omega (arith, length_filled ls ss e t b)) (omega (arith, at_le_sum ls i)) ∙ sym (at_level ls ss (suc t) e i))
+    filled_first ls ss e t b i (omega (arith, length_filled ls ss e t b)) (omega (arith, at_le_sum ls i)) ∙ sym (at_level_lem ls ss (suc t) e i))
   where
     b : ℕ
     b = room * 4096 + 4096
@@ -232,7 +232,7 @@ module _ (ls ss : List ℕ) (room : ℕ) (r : Roomy ls ss room) (over : room < s
       (omega (
         arith,
         r.enough,
-        sum_le (at_level ls ss 0) ls (length_level ls ss 0 e ∙ sym e, λ i. rw (at_level ls ss 0 e i) (omega arith)),
+        sum_le (at_level ls ss 0) ls (length_level ls ss 0 e ∙ sym e, λ i. rw (at_level_lem ls ss 0 e i) (omega arith)),
       ))
 
   -- a level above the room overflows it: at one column, or at all, which have their shares
@@ -243,7 +243,7 @@ module _ (ls ss : List ℕ) (room : ℕ) (r : Roomy ls ss room) (over : room < s
       e = r.above.0
 
       each : sum (at_level ls ss (suc room)) ≤ room → (i : ℕ) → at ss i ≤ at (at_level ls ss (suc room)) i
-      each h i = omega (arith, at_level ls ss (suc room) e i, at_le_sum (at_level ls ss (suc room)) i, r.above.1 i)
+      each h i = omega (arith, at_level_lem ls ss (suc room) e i, at_le_sum (at_level ls ss (suc room)) i, r.above.1 i)
 
       go : Dec (room < sum (filled ls ss (suc room) 0)) → room < sum (filled ls ss (suc room) 0)
       go (yes h) = h

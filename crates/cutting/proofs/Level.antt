@@ -29,13 +29,13 @@ length_level [] (s ∷ ss) t e = absurd (omega arith)
 length_level (l ∷ ls) [] t e = absurd (omega arith)
 length_level (l ∷ ls) (s ∷ ss) t e = ap suc (length_level ls ss t (omega arith))
 
-pub at_level : (ls ss : List ℕ) (t : ℕ) → length ls ≡ length ss → (i : ℕ) → at (at_level ls ss t) i ≡ at ls i + min (at ss i - at ls i) t
+pub at_level_lem : (ls ss : List ℕ) (t : ℕ) → length ls ≡ length ss → (i : ℕ) → at (at_level ls ss t) i ≡ at ls i + min (at ss i - at ls i) t
 unfolding at_level
-at_level [] [] t e i = omega arith
-at_level [] (s ∷ ss) t e i = absurd (omega arith)
-at_level (l ∷ ls) [] t e i = absurd (omega arith)
-at_level (l ∷ ls) (s ∷ ss) t e zero = refl
-at_level (l ∷ ls) (s ∷ ss) t e (suc i) = at_level ls ss t (omega arith) i
+at_level_lem [] [] t e i = omega arith
+at_level_lem [] (s ∷ ss) t e i = absurd (omega arith)
+at_level_lem (l ∷ ls) [] t e i = absurd (omega arith)
+at_level_lem (l ∷ ls) (s ∷ ss) t e zero = refl
+at_level_lem (l ∷ ls) (s ∷ ss) t e (suc i) = at_level_lem ls ss t (omega arith) i
 
 -- the level
 
@@ -127,7 +127,7 @@ given_level ls ss t b =
     }
   where
     f : (i : ℕ) → at (at_level ls ss t) i ≡ at ls i + min (at ss i - at ls i) t
-    f = at_level ls ss t b.0
+    f = at_level_lem ls ss t b.0
 
 pub given_held : (ls ss : List ℕ) (t : ℕ) (ws : List ℕ) → Given ls ss t ws → Held ls ss ws
 given_held ls ss t ws g =
@@ -154,7 +154,7 @@ heir_waits ls ss t ws g h = go (dec_lt t (excess ls ss p)) (dec_le (excess ls ws
     e = g.least.0 ∙ g.share.0
 
     more : ¬ Waits ls ss t ws p → (i : ℕ) → i < length (at_level ls ss (suc t)) → at (at_level ls ss (suc t)) i ≤ at ws i
-    more n i l = rw (at_level ls ss (suc t) e i) (each (dec_lt t (excess ls ss i)) (dec_le (excess ls ws i) t) (dec_lt (at ws i) (at ss i)))
+    more n i l = rw (at_level_lem ls ss (suc t) e i) (each (dec_lt t (excess ls ss i)) (dec_le (excess ls ws i) t) (dec_lt (at ws i) (at ss i)))
       where
         each : Dec (t < excess ls ss i) → Dec (excess ls ws i ≤ t) → Dec (at ws i < at ss i) → at ls i + min (at ss i - at ls i) (suc t) ≤ at ws i
         each (yes a) (yes b) d =
@@ -265,7 +265,7 @@ sum_give_by (suc k) ls ss t ws h g =
 level_mono : (ls ss : List ℕ) (t u : ℕ) → length ls ≡ length ss → t ≤ u → sum (at_level ls ss t) ≤ sum (at_level ls ss u)
 level_mono ls ss t u e h =
     sum_le (at_level ls ss t) (at_level ls ss u)
-    (length_level ls ss t e ∙ sym (length_level ls ss u e), λ i. rw (at_level ls ss t e i, at_level ls ss u e i) (omega arith))
+    (length_level ls ss t e ∙ sym (length_level ls ss u e), λ i. rw (at_level_lem ls ss t e i, at_level_lem ls ss u e i) (omega arith))
 
 module _ (ls ss : List ℕ) (width : ℕ) (b : Below ls ss) (fits : sum ls + gaps (length ls) ≤ width)
     (big : width < sum ss + gaps (length ss)) where
@@ -278,7 +278,7 @@ module _ (ls ss : List ℕ) (width : ℕ) (b : Below ls ss) (fits : sum ls + gap
         arith,
         b.0,
         length_level ls ss 0 b.0,
-        sum_le (at_level ls ss 0) ls (length_level ls ss 0 b.0 ∙ sym b.0, λ i. rw (at_level ls ss 0 b.0 i) (omega arith)),
+        sum_le (at_level ls ss 0) ls (length_level ls ss 0 b.0 ∙ sym b.0, λ i. rw (at_level_lem ls ss 0 b.0 i) (omega arith)),
       )) in
       omega (arith, length_level ls ss (level_to ls ss width (sum ss)) b.0)
 
@@ -292,7 +292,7 @@ module _ (ls ss : List ℕ) (width : ℕ) (b : Below ls ss) (fits : sum ls + gap
         length_level ls ss (suc (sum ss)) b.0,
         sum_le ss (at_level ls ss (suc (sum ss))) (
           sym (length_level ls ss (suc (sum ss)) b.0),
-          λ i. rw (at_level ls ss (suc (sum ss)) b.0 i) (omega (arith, at_le_sum ss i, b.1 i)),
+          λ i. rw (at_level_lem ls ss (suc (sum ss)) b.0 i) (omega (arith, at_le_sum ss i, b.1 i)),
         ),
       )) in
       omega (arith, length_level ls ss (suc (level_to ls ss width (sum ss))) b.0)

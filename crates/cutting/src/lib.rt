@@ -1,4 +1,6 @@
 // Cutting widths until they fit: one by one where little is to be cut, else by one level.
+#![tactic(auto)]
+
 ghost use Rattle.std.specs.Prelude.{◌≡◌, ◌||◌, ◌&&◌, ◌+◌, ◌-◌, ◌≤◌, ◌<◌, ltb, eqb, length};
 ghost use Rattle.lists.specs.Lists.{sum};
 ghost use Rattle.lists.specs.Limits.{max_lines};

@@ -100,12 +100,12 @@ module _ (wrap raw root : ℕ) {ks : List Kept} (w : Sheet ks) where
     body_kind_lem : (get_or ks body.0 no_kept).kind ≡ body_kind
     body_kind_lem = (may w t body.0 body_in).in_table c.0
 
-    row_kind : (get_or ks p no_kept).kind ≡ row_kind
-    row_kind = (may w body.0 p body.1).in_body body_kind_lem
+    row_kind_lem : (get_or ks p no_kept).kind ≡ row_kind
+    row_kind_lem = (may w body.0 p body.1).in_body body_kind_lem
 
     pub row_width : get_or (walk wrap raw root ks) p Without ≡ get_or (walk wrap raw root ks) t Without
     row_width =
-        from_parent body.0 p body.1 (λ e. omega (arith, row_kind))
+        from_parent body.0 p body.1 (λ e. omega (arith, row_kind_lem))
         ∙ all_on (get_or ks body.0 no_kept).kind (get_or (estimates wrap ks) body.0 none) (W body.0) (off_body (get_or ks body.0 no_kept).kind body_kind_lem)
         ∙ from_parent t body.0 body_in (λ e. omega (arith, body_kind_lem))
         ∙ all_on (get_or ks t no_kept).kind (get_or (estimates wrap ks) t none) (W t) (off_table (get_or ks t no_kept).kind c.0)

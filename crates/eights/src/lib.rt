@@ -1,5 +1,7 @@
 // The commonest lines of a sheet, told by comparing eight bytes at once, in the form in which lines are kept. Every other line is left to the
 // crate line, which reads all.
+#![tactic(auto)]
+
 ghost use Rattle.std.specs.Prelude.{◌≡◌, ◌+◌, ◌≤◌, length};
 ghost use Rattle.lists.specs.Limits.{max_bytes};
 ghost use Rattle.text.specs.Bytes.{Classes};
@@ -9,7 +11,7 @@ ghost use Rattle.eights.specs.declared.Brief.{Brief};
 ghost use Rattle.eights.specs.declared.Common.TheVariants.{Line};
 
 // A line as it is kept: its depth, its kind, the one figure that its kind has, and the place where the next line starts.
-#[derive(Drop)]
+#[derive(Clone, Copy)]
 pub struct Brief {
     pub depth: u32,
     pub kind: u32,
@@ -18,7 +20,7 @@ pub struct Brief {
 }
 
 // What the comparisons tell: the line, or nothing.
-#[derive(Drop)]
+#[derive(Clone, Copy)]
 pub enum Common {
     Line(Brief),
     Other,

@@ -1,5 +1,7 @@
 // The estimates of a sheet's lines: node, table and cell in a cycle of calls. A line is a record of two numbers, and its estimate one of three.
 // A table's grid is made where its figures are, in records that every table uses in turn.
+#![tactic(auto)]
+
 pub mod packed;
 pub mod single;
 pub mod spread;
@@ -15,7 +17,7 @@ ghost use Rattle.estimates.specs.inner.Cycle.{NodeReady, Plain, Holder, FilledAt
 use kinds::is_leaf;
 
 // What the lines below a line come to: the line after them, size and least width, and how many children there are.
-#[derive(Drop)]
+#[derive(Clone, Copy)]
 pub struct Part {
     pub after: usize,
     pub size: u32,

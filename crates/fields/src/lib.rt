@@ -1,4 +1,6 @@
 // One field of a sheet or of the settings, read at a place. The format is our own: the Rust has no counterpart.
+#![tactic(auto)]
+
 pub mod fours;
 pub mod naming;
 pub mod numbers;
@@ -6,7 +8,7 @@ pub mod numbers;
 ghost use Rattle.std.specs.Prelude.{◌≡◌, ◌&&◌, leb};
 
 // One field: what it says, and the place after its space; or that it is not well formed, or not in its range.
-#[derive(Drop)]
+#[derive(Clone, Copy)]
 pub enum FieldRead {
     Sound(u32, usize),
     Unsound,

@@ -24,7 +24,7 @@ const TABLE_END: u32 = 543517794;
 const NINE_LETTERS: u64 = 35184372088832;
 
 // A name as a number, 0 where there is none, and the place after the space that follows it.
-#[derive(Drop)]
+#[derive(Clone, Copy)]
 struct Key {
     pub key: u64,
     pub next: usize,

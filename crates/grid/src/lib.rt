@@ -1,5 +1,7 @@
 // The grid of a table: its cells and fillers in columns, as `RenderTable::new` makes them. A table of which one is made is sound: no row ends past 4,096, and there are at most
 // 8,192 entries.
+#![tactic(auto)]
+
 ghost use Rattle.std.specs.Prelude.{◌≡◌, true, ◌-◌, ◌<◌, max, length};
 ghost use Rattle.edges.specs.Edges.{is_edge, rows_from, RowsFit};
 ghost use Rattle.edges.specs.Lookup.{Counted};

@@ -1,4 +1,6 @@
 // Whether neither refusal 5 nor refusal 6 can apply to the tables of a sheet, by a bound: one pass over lines, no grid and nothing lent.
+#![tactic(auto)]
+
 pub mod whole; // whole.rt: all tables of a sheet at once
 
 ghost use Rattle.std.specs.Prelude.{◌≡◌, true, cond, ◌≤◌, ◌<◌, eqb, length};

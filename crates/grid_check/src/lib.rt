@@ -1,4 +1,6 @@
 // Checks every table of a sheet by counting: no grid is made, and one slice is lent.
+#![tactic(auto)]
+
 ghost use Rattle.std.specs.Prelude.{◌≡◌, true, ◌≤◌, ◌<◌, length};
 ghost use Rattle.lists.specs.Limits.{max_entries};
 ghost use Rattle.records.specs.Kept.{kepts_of};

@@ -1,5 +1,7 @@
 // Which of the refusals 5 and 6 applies to a table, by counting: how much hangs into each row and how many entries there are, without a grid. A row ends at
 // its own cols and the spans that hang into it; a slice tells for each row of a body how much ends with it.
+#![tactic(auto)]
+
 ghost use Rattle.std.specs.Prelude.{◌≡◌, ◌≤◌, ◌<◌, ◌+◌, min, length, get_or, set};
 ghost use Rattle.lists.specs.Limits.{max_lines};
 ghost use Rattle.records.specs.Kept.{no_kept, kepts_of};
@@ -10,7 +12,7 @@ ghost use Rattle.grid_counts.specs.inner.Tallies.{framed, many_entries, Lines, R
 use lists::{MAX_ENTRIES, MAX_POSITION};
 
 // What a table comes to: neither refusal; or 5, a row ends past 4,096; or 6, there are more than 8,192 entries.
-#[derive(Drop)]
+#[derive(Clone, Copy)]
 pub enum Count {
     Fits,
     Past,
@@ -18,21 +20,21 @@ pub enum Count {
 }
 
 // What a row comes to: what ends with it or hangs on, and how many entries there are up to it; or refusal 5.
-#[derive(Drop)]
+#[derive(Clone, Copy)]
 pub enum Tally {
     Counted { reach: u32, entries: u32 },
     Past,
 }
 
 // What a body comes to: how many entries there are up to it; or refusal 5.
-#[derive(Drop)]
+#[derive(Clone, Copy)]
 pub enum Entries {
     Counted(u32),
     Past,
 }
 
 // A body's rows, and their largest sum.
-#[derive(Drop)]
+#[derive(Clone, Copy)]
 pub struct Body {
     pub rows: usize,
     pub most: u32,

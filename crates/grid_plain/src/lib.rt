@@ -1,5 +1,7 @@
 // The grid of a table, made where it is used, as records of its entries and rows. A plain table, in which every cell takes one column and one row, is
 // made in one pass over its lines and without edges: the column of an entry is its place in its row.
+#![tactic(auto)]
+
 ghost use Rattle.std.specs.Prelude.{◌≡◌, ◌&&◌, max, eqb};
 ghost use Rattle.records.specs.Kept.{kepts_of, entries_of, rows_of};
 ghost use Rattle.cells.specs.Listed.{table_rows};
@@ -10,21 +12,21 @@ use gridding::Counts;
 use records::{Entry, Row};
 
 // Where a row's lines end, and how many cells it has.
-#[derive(Drop)]
+#[derive(Clone, Copy)]
 struct RowEnd {
     next: usize,
     cells: usize,
 }
 
 // What is found of a row that may be plain.
-#[derive(Drop)]
+#[derive(Clone, Copy)]
 enum RowFound {
     Plain(RowEnd),
     Spanned,
 }
 
 // What is found of a table that may be plain.
-#[derive(Drop)]
+#[derive(Clone, Copy)]
 pub enum Tried {
     Plain(Counts),
     Spanned,

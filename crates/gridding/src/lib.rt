@@ -1,5 +1,7 @@
 // The grid of one table, made where it is used, as records of its entries and rows. Room to work in is its own, of three sizes, by the lines of
 // the table alone: it is cleared for each table, and for a small table a short one does.
+#![tactic(auto)]
+
 ghost use Rattle.std.specs.Prelude.{◌-◌, ◌≤◌, ◌<◌, length};
 ghost use Rattle.lists.specs.Limits.{max_lines};
 ghost use Rattle.records.specs.Kept.{kepts_of, entries_of, rows_of};
@@ -21,7 +23,7 @@ const SOME: usize = 3 * SOME_LINES;
 const MANY: usize = 3 * MAX_LINES;
 
 // How many rows, entries and columns a grid has.
-#[derive(Drop)]
+#[derive(Clone, Copy)]
 pub struct Counts {
     pub rows: usize,
     pub entries: usize,

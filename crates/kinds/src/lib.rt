@@ -1,4 +1,6 @@
 // The kinds of lines, by their places in the format's list.
+#![tactic(auto)]
+
 ghost use Rattle.std.specs.Prelude.{◌≡◌};
 ghost use Rattle.kinds.specs.Kinds.{has_text, is_leaf};
 

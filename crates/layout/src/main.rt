@@ -3,10 +3,13 @@
 // Settings take at most 28 bytes, so a full buffer holds a sheet that is too long.
 const INPUT_BYTES: usize = 65565;
 
+// The descriptor of standard input.
+const STANDARD_INPUT: i32 = 0;
+
 fn main() {
     let mut input = [0u8; INPUT_BYTES];
     let mut out = [0u8; 65536];
-    let n = io::read_full(libc::STDIN_FILENO, &mut input);
+    let n = io::read_full(STANDARD_INPUT, &mut input);
     let end = report::answer(&mut out, 0, &input[..n], report::Form::Layout);
     printing::flush(&out, end);
 }

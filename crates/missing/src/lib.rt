@@ -1,5 +1,7 @@
 // The call `missing`: which entries of a table are missing, and why each column is 0 wide that is. It asks its arguments first; then what is found in
 // the sheet stands in the lent buffers, and in the end it clears what is no figure. A refused call clears all.
+#![tactic(auto)]
+
 mod sheets; // of the table in a line of a sheet
 mod making; // of one table of a measured sheet
 

@@ -1,4 +1,6 @@
 // Eight bytes at once, as one number: they are its digits in base 256, the first lowest. The compiled code takes them in one step.
+#![tactic(auto)]
+
 ghost use Rattle.std.specs.Prelude.{◌≡◌, List, [], ◌∷◌, ℕ, ◌+◌, ◌*◌, ◌≤◌, length, drop};
 ghost use Rattle.octets.specs.inner.Digits.{as_number, Octets, Low, Bits, Eight, Digitwise, all_ones, all_low, top, char, odd, after_from, adds_of, CutAt};
 ghost use Rattle.octets.specs.inner.Plain.{PlainFront};
@@ -16,7 +18,7 @@ const EACH_96: u64 = 6944656592455360608;
 const LAST: u64 = 72057594037927936;
 
 // The front of eight bytes that holds characters and spaces alone: how many bytes, what they add to a text's size, and 1 if a space stands last.
-#[derive(Drop)]
+#[derive(Clone, Copy)]
 pub struct Plain {
     pub count: usize,
     pub size: u32,

@@ -1,4 +1,6 @@
 // A sheet opened: it is read, and every table of it is checked. All calls begin with this.
+#![tactic(auto)]
+
 pub mod measuring; // measuring.rt: the lines measured too
 
 ghost use Rattle.std.specs.Prelude.{◌≡◌, true, ◌≤◌, length, take};
@@ -13,7 +15,7 @@ use lists::Verdict;
 use sheet::Reading;
 
 // What is measured of a sheet: every line, or what lies below the table in a line.
-#[derive(Drop)]
+#[derive(Clone, Copy)]
 pub enum Scope {
     Sheet,
     Table(u32),

@@ -1,4 +1,6 @@
 // A sheet opened, measured and walked.
+#![tactic(auto)]
+
 ghost use Rattle.std.specs.Prelude.{◌≡◌, ◌≤◌, length};
 ghost use Rattle.lists.specs.Limits.{max_position, max_size};
 ghost use Rattle.records.specs.Kept.{kept_count, kepts_of, places_of};

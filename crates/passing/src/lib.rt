@@ -1,4 +1,6 @@
 // The widths of a walk, and what a line passes on to its children of the width that it has. Ports `width_minus` of `src/render/text_renderer.rs`.
+#![tactic(auto)]
+
 ghost use Rattle.std.specs.Prelude.{◌≡◌, ◌-◌};
 ghost use Rattle.passing.specs.Walk.{takes_off, passed_on, too_narrow, printed};
 ghost use Rattle.passing.specs.inner.Places.{width_place, width_by};
@@ -8,7 +10,7 @@ use records::Place;
 use text::Estimate;
 
 // The width of a line. What stands in a missing cell has none, which is not the width 0.
-#[derive(Drop)]
+#[derive(Clone, Copy)]
 pub enum Width {
     Wide(u32),
     Without,

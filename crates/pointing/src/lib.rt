@@ -1,5 +1,7 @@
 // What lies under the pointer in a row of a table that lies sideways. The entries of all rows stand in two slices, x and width of each; a row
 // is those from first up to end. A sum of x and width is nowhere taken, so that any figures do.
+#![tactic(auto)]
+
 ghost use Rattle.std.specs.Prelude.{◌≡◌};
 ghost use Rattle.std.proofs.Math.Seq.{slice};
 ghost use Rattle.placing.specs.Place.{at};
@@ -9,7 +11,7 @@ ghost use Rattle.pointing.specs.inner.Rows.{InSlices, Room, Listed};
 use answers::Joint;
 
 // What lies at a character column: the cell with this number, the gap between two printed cells, or nothing.
-#[derive(Drop)]
+#[derive(Clone, Copy)]
 pub enum Under {
     Cell(usize),
     Gap,

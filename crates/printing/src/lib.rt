@@ -1,4 +1,6 @@
 // What a program prints, collected in a lent buffer of bytes, so that it is written in large pieces. The Rust has no counterpart.
+#![tactic(auto)]
+
 ghost use Rattle.std.specs.Prelude.{◌≡◌, [], ◌∷◌, ◌++◌, ◌+◌, ◌≤◌, length};
 ghost use Rattle.printing.specs.Printing.{Put, PutWithin, decimal, line};
 

@@ -1,5 +1,7 @@
 // Several numbers of one thing side by side in one slice: a line in two numbers, an entry of a grid in three, a row and a place in two each. Record i of w
 // numbers stands at the places from w * i on.
+#![tactic(auto)]
+
 ghost use Rattle.std.specs.Prelude.{◌≡◌, cond, ◌≤◌, ◌<◌, ◌/◌, length, get_or, set};
 ghost use Rattle.lists.specs.Limits.{max_depth};
 ghost use Rattle.lists.specs.Lists.{over};
@@ -8,7 +10,7 @@ ghost use Rattle.records.specs.Records.{numbers_of};
 ghost use Rattle.records.specs.Kept.{has_number, kept_with, OfItsKind, kepts_of, kept_count, no_kept, entries_of, no_entry, rows_of, no_row, places_of, no_place};
 
 // What is kept of a line. The number is shifted up by 1,000,000,000; own is the size of the line's own text, 2 more for img.
-#[derive(Drop)]
+#[derive(Clone, Copy)]
 pub struct Kept {
     pub depth: u32,
     pub kind: u32,
@@ -103,7 +105,7 @@ pub fn keep_at(lines: &mut [u32], i: usize, depth: u32, kind: u32, figure: u32)
 }
 
 // An entry of a table's grid: the line of its cell, or 0 for a filler, its first column and its span.
-#[derive(Drop)]
+#[derive(Clone, Copy)]
 pub struct Entry {
     pub cell: u32,
     pub first: u32,
@@ -133,7 +135,7 @@ pub fn put_entry(entries: &mut [u32], i: usize, e: Entry)
 }
 
 // A row of a table's grid: its line, and how many entries there are up to and including it.
-#[derive(Drop)]
+#[derive(Clone, Copy)]
 pub struct Row {
     pub line: u32,
     pub end: u32,
@@ -160,7 +162,7 @@ pub fn put_row(rows: &mut [u32], i: usize, r: Row)
 }
 
 // Two numbers of a line: whether it has a width in the walk, and which.
-#[derive(Drop)]
+#[derive(Clone, Copy)]
 pub struct Place {
     pub first: u32,
     pub span: u32,

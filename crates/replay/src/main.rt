@@ -6,13 +6,16 @@ ghost use Rattle.replay.specs.Frames.{Within};
 
 use writing::lines;
 
+// The descriptor of standard input.
+const STANDARD_INPUT: i32 = 0;
+
 const INPUT_BYTES: usize = 1048576;
 
 // The bytes of `case` and its space.
 const WORD_BYTES: usize = 5;
 
 // Where the bytes of a case lie. A malformed frame has none: both places stand where it was looked for.
-#[derive(Drop)]
+#[derive(Clone, Copy)]
 struct Frame {
     pub from: usize,
     pub to: usize,
@@ -142,7 +145,7 @@ fn input_buffer() -> [u8; INPUT_BYTES]
 fn main() {
     let mut input = input_buffer();
     let mut out = [0u8; 65536];
-    let n = io::read_full(libc::STDIN_FILENO, &mut input);
+    let n = io::read_full(STANDARD_INPUT, &mut input);
     let end = cases(&mut out, &input[..n]);
     printing::flush(&out, end);
 }

@@ -14,14 +14,14 @@ use settings::{Given, Settled};
 use sheet::Reading;
 
 // What is printed of a table: its layout, or what explains it.
-#[derive(Drop)]
+#[derive(Clone, Copy)]
 pub enum Form {
     Layout,
     Explain,
 }
 
 // What is asked for: the form, and the settings of a layout.
-#[derive(Drop)]
+#[derive(Clone, Copy)]
 pub struct Asked {
     pub form: Form,
     pub raw: u32,

@@ -1,4 +1,6 @@
 // The settings before a sheet: the first two lines of the input of a program. The format is our own: the Rust has no counterpart.
+#![tactic(auto)]
+
 ghost use Rattle.std.specs.Prelude.{◌≡◌, ◌+◌, ◌-◌, ◌*◌, ◌≤◌, drop};
 ghost use Rattle.fields.specs.Numbers.{is_digit, number_of};
 ghost use Rattle.settings.specs.Settings.{settled_verdict, settings_of};
@@ -8,7 +10,7 @@ use fields::FieldRead;
 use lists::Verdict;
 
 // The three settings, and the place where the sheet starts.
-#[derive(Drop)]
+#[derive(Clone, Copy)]
 pub struct Given {
     pub wrap: u32,
     pub raw: u32,
@@ -17,14 +19,14 @@ pub struct Given {
 }
 
 // What the first two lines of an input say: settings, or that they are malformed or out of range (refusal 9).
-#[derive(Drop)]
+#[derive(Clone, Copy)]
 pub enum Settled {
     Set(Given),
     Malformed,
 }
 
 // What a whole field writes: a number that is not too large, or nothing such.
-#[derive(Drop)]
+#[derive(Clone, Copy)]
 enum Written {
     Value(u32),
     Nothing,

@@ -1,4 +1,6 @@
 // The sheet reader: a whole sheet, line by line, into a slice of records.
+#![tactic(auto)]
+
 pub mod front; // front.rt: what is asked of a sheet before its lines
 pub mod nesting; // nesting.rt: what may stand below what
 pub mod cursor; // cursor.rt: a record that holds the sheet and the current place
@@ -18,14 +20,14 @@ use lists::DEPTHS;
 use records::Kept;
 
 // How many lines the sheet has, or why it is refused.
-#[derive(Drop)]
+#[derive(Clone, Copy)]
 pub enum Reading {
     Lines(usize),
     Refused { number: u32, line: u32 },
 }
 
 // One line: as it is kept, or the number of its refusal.
-#[derive(Drop)]
+#[derive(Clone, Copy)]
 pub enum Judgement {
     Sound(Brief),
     Faulty(u32),

@@ -1,4 +1,6 @@
 // The figures of a sheet's tables and lines by its bytes: specs/Figures defines them, specs/Calls what each call refuses. All calls stand on this crate.
+#![tactic(auto)]
+
 ghost use Rattle.std.specs.Prelude.{◌≡◌};
 ghost use Rattle.sheet_figures.specs.inner.Opened.{lines_in};
 

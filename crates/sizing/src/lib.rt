@@ -1,4 +1,6 @@
 // The figures of a table's columns, from the records of its entries and of the estimates, and the columns laid out, with room of two sizes.
+#![tactic(auto)]
+
 ghost use Rattle.std.specs.Prelude.{◌≡◌, ◌≤◌, length};
 ghost use Rattle.lists.specs.Limits.{max_position};
 ghost use Rattle.records.specs.Kept.{entries_of};

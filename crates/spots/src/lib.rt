@@ -1,4 +1,6 @@
 // Where a row of a table stands: it is found in a sheet by the table's line and the row's number, and the table is laid out.
+#![tactic(auto)]
+
 mod making; // the row of one table of a measured sheet
 mod starts; // where the rows of a grid start
 
@@ -15,7 +17,7 @@ use lists::{MAX_ENTRIES, MAX_LINES, Verdict};
 use sheet::Reading;
 
 // Where a row stands: the numbers of the entries at which it starts, at which it ends, and at which the next one ends; or the refusal.
-#[derive(Drop)]
+#[derive(Clone, Copy)]
 pub enum Spot {
     Row {
         first: usize,

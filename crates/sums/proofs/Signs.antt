@@ -10,7 +10,7 @@ use lib.Signed.{quot_z}
 use borrow.Author.Tests.{le-leb, lt-leb, le-ltb, eq-eqb, ne_eqb}
 use Rattle.sums.specs.declared.Op.TheVariants.{Over}
 use Rattle.sums.specs.declared.Answer.TheVariants.{Value}
-use Rattle.sums.specs.Tree.{limit, within, result}
+use Rattle.sums.specs.Tree.{limit, within, result_of}
 use Rattle.sums.specs.Answers.{answer_by}
 use Rattle.sums.specs.inner.Worth.{signed}
 
@@ -82,12 +82,12 @@ over_signed true true zero (suc b) h = rw zero-div
 over_signed true true (suc a) zero h = absurd (omega arith)
 over_signed true true (suc a) (suc b) h = refl
 
-pub no_divisor : (s t : Bool) (a b : ℕ) → b ≡ 0 → ◌≡◌ {A = Option ℤ} none (result Over (signed s a) (signed t b))
-unfolding result
+pub no_divisor : (s t : Bool) (a b : ℕ) → b ≡ 0 → ◌≡◌ {A = Option ℤ} none (result_of Over (signed s a) (signed t b))
+unfolding result_of
 no_divisor s t a b h = rw (size t b, eq-eqb b 0 h)
 
-pub divisor : (s t : Bool) (a b : ℕ) → (b ≡ 0 → ⊥) → result Over (signed s a) (signed t b) ≡ within (signed (not (beq s t)) (a / b))
-unfolding result
+pub divisor : (s t : Bool) (a b : ℕ) → (b ≡ 0 → ⊥) → result_of Over (signed s a) (signed t b) ≡ within (signed (not (beq s t)) (a / b))
+unfolding result_of
 divisor s t a b h = rw (size t b, ne_eqb b 0 h) (ap within (over_signed s t a b (omega arith)))
 
 pub product_in : (a b : ℕ) → (b ≡ 0 → ⊥) → a ≤ limit / b → a * b ≤ limit

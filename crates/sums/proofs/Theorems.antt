@@ -15,7 +15,7 @@ use borrow.Author.Tests.{leb-true, eq-eqb, ne_eqb}
 use Rattle.sums.specs.declared.Op.{Op}
 use Rattle.sums.specs.declared.Op.TheVariants.{Plus, Minus, Times, Over}
 use Rattle.sums.specs.declared.Answer.TheVariants.{Value, NotAnExpression, OutOfBounds}
-use Rattle.sums.specs.Tree.{Tree, number, node, limit, within, result, both, value}
+use Rattle.sums.specs.Tree.{Tree, number, node, limit, within, result_of, both, value}
 use Rattle.sums.specs.Grammar.{decimal_from, Numeral, Level, Reads, digits, bracket, one_factor, product, one_term, sum, ReadsAs}
 use Rattle.sums.specs.Machine.{Kit, run, start}
 use Rattle.sums.specs.Answers.{values, negative, answer_by, answer_of}
@@ -97,8 +97,8 @@ within_bound y z e = go (leb (nat_abs y) limit) refl e
     go true h q = omega (arith, leb-true (nat_abs y) limit h, ap nat_abs (some-injective y z q))
     go false h q = let n : ◌≡◌ {A = ℕ} 0 1 = cc in absurd (omega arith)
 
-result_bound : (o : Op) (x y z : ℤ) → result o x y ≡ some z → nat_abs z ≤ limit
-unfolding result
+result_bound : (o : Op) (x y z : ℤ) → result_of o x y ≡ some z → nat_abs z ≤ limit
+unfolding result_of
 result_bound Plus x y z e = within_bound (x +ℤ y) z e
 result_bound Minus x y z e = within_bound (x -ℤ y) z e
 result_bound Times x y z e = within_bound (x *ℤ y) z e
@@ -146,21 +146,21 @@ answer_bound w minus n a = go (run values start w) refl a
 
 module _ (a b : Tree) (x y : ℤ) (left : value a ≡ some x) (right : value b ≡ some y) where
   pub plus_value : value (node Plus a b) ≡ within (x +ℤ y)
-  unfolding value both result
+  unfolding value both result_of
   plus_value = rw (left, right)
 
   pub minus_value : value (node Minus a b) ≡ within (x -ℤ y)
-  unfolding value both result
+  unfolding value both result_of
   minus_value = rw (left, right)
 
   pub times_value : value (node Times a b) ≡ within (x *ℤ y)
-  unfolding value both result
+  unfolding value both result_of
   times_value = rw (left, right)
 
   pub over_value : (nat_abs y ≡ 0 → ⊥) → value (node Over a b) ≡ within (quot_z x y)
-  unfolding value both result
+  unfolding value both result_of
   over_value h = rw (left, right, ne_eqb (nat_abs y) 0 h)
 
   pub over_zero : nat_abs y ≡ 0 → value (node Over a b) ≡ none
-  unfolding value both result
+  unfolding value both result_of
   over_zero h = rw (left, right, eq-eqb (nat_abs y) 0 h)

@@ -17,16 +17,16 @@ abbrev pub within : ℤ → Option ℤ
 within z = cond (leb (nat_abs z) limit) (some z) none
 
 -- the result of a step; `quot_z` is the quotient towards zero
-unfoldable pub result : Op → ℤ → ℤ → Option ℤ
-result Plus a b = within (a +ℤ b)
-result Minus a b = within (a -ℤ b)
-result Times a b = within (a *ℤ b)
-result Over a b = cond (eqb (nat_abs b) 0) none (within (quot_z a b))
+unfoldable pub result_of : Op → ℤ → ℤ → Option ℤ
+result_of Plus a b = within (a +ℤ b)
+result_of Minus a b = within (a -ℤ b)
+result_of Times a b = within (a *ℤ b)
+result_of Over a b = cond (eqb (nat_abs b) 0) none (within (quot_z a b))
 
 unfoldable pub both : Op → Option ℤ → Option ℤ → Option ℤ
 both o none b = none
 both o (some x) none = none
-both o (some x) (some y) = result o x y
+both o (some x) (some y) = result_of o x y
 
 -- the value of a tree, none if a divisor in it is 0 or a step's result is outside plus or minus the bound
 unfoldable pub value : Tree → Option ℤ

@@ -1,14 +1,16 @@
 // Sums in a cell: the steps of the reckoning, one operator at a time, and the answer for a result. What a sum is, and its value, stand in specs.
+#![tactic(auto)]
+
 ghost use Rattle.std.specs.Prelude.{◌≡◌, ◌+◌, ◌+ℤ◌, ◌*ℤ◌};
 ghost use Rattle.std.proofs.Math.Option.{some};
-ghost use Rattle.sums.specs.Tree.{within, result, both};
+ghost use Rattle.sums.specs.Tree.{within, result_of, both};
 ghost use Rattle.sums.specs.Answers.{answer_by};
 ghost use Rattle.sums.specs.inner.Worth.{signed, worth};
 
 // The bound of each step's result.
 const LIMIT: u64 = 1000000000000;
 
-#[derive(Drop)]
+#[derive(Clone, Copy)]
 pub enum Op {
     Plus,
     Minus,
@@ -17,14 +19,14 @@ pub enum Op {
 }
 
 // A result: outside the bounds, or a sign and a size.
-#[derive(Drop)]
+#[derive(Clone, Copy)]
 pub enum Num {
     Outside,
     Whole(bool, u64),
 }
 
 // The answer for a text: a value, as its sign and its size; or 13; or 14.
-#[derive(Drop)]
+#[derive(Clone, Copy)]
 pub enum Answer {
     Value(bool, u64),
     NotAnExpression,
@@ -33,7 +35,7 @@ pub enum Answer {
 
 // A size with a sign, if it is within the bounds.
 fn bounded(minus: bool, a: u64) -> Num
-    ensures* { λ r. ⌜ worth r ≡ within (signed minus a) ⌝ }
+    ensures { worth result ≡ within (signed minus a) }
 {
     if a <= LIMIT {
         Num::Whole(minus, a)
@@ -44,7 +46,7 @@ fn bounded(minus: bool, a: u64) -> Num
 
 // The sum of two sizes of one sign.
 fn together(minus: bool, a: u64, b: u64) -> Num
-    ensures* { λ r. ⌜ worth r ≡ within (signed minus (a + b)) ⌝ }
+    ensures { worth result ≡ within (signed minus (a + b)) }
 {
     if b > LIMIT {
         return Num::Outside;
@@ -57,7 +59,7 @@ fn together(minus: bool, a: u64, b: u64) -> Num
 
 // The sum of two sizes with their signs.
 fn added(s: bool, a: u64, t: bool, b: u64) -> Num
-    ensures* { λ r. ⌜ worth r ≡ within (signed s a +ℤ signed t b) ⌝ }
+    ensures { worth result ≡ within (signed s a +ℤ signed t b) }
 {
     if s == t {
         return together(s, a, b);
@@ -70,7 +72,7 @@ fn added(s: bool, a: u64, t: bool, b: u64) -> Num
 
 // A product. The test by division comes first, so that it never wraps.
 fn multiplied(s: bool, a: u64, t: bool, b: u64) -> Num
-    ensures* { λ r. ⌜ worth r ≡ within (signed s a *ℤ signed t b) ⌝ }
+    ensures { worth result ≡ within (signed s a *ℤ signed t b) }
 {
     if b == 0 {
         return Num::Whole(false, 0);
@@ -83,7 +85,7 @@ fn multiplied(s: bool, a: u64, t: bool, b: u64) -> Num
 
 // A quotient, towards zero; there is none by nought.
 fn divided(s: bool, a: u64, t: bool, b: u64) -> Num
-    ensures* { λ r. ⌜ worth r ≡ result Op.Over (signed s a) (signed t b) ⌝ }
+    ensures { worth result ≡ result_of Op.Over (signed s a) (signed t b) }
 {
     if b == 0 {
         return Num::Outside;
@@ -93,7 +95,7 @@ fn divided(s: bool, a: u64, t: bool, b: u64) -> Num
 
 // A step: the result of an operator on two results, outside the bounds if one of them is.
 pub fn joined(o: Op, a: Num, b: Num) -> Num
-    ensures* { λ r. ⌜ worth r ≡ both o (worth a) (worth b) ⌝ }
+    ensures { worth result ≡ both o (worth a) (worth b) }
 {
     let Num::Whole(s, x) = a else {
         return Num::Outside;
@@ -111,7 +113,7 @@ pub fn joined(o: Op, a: Num, b: Num) -> Num
 
 // The answer for a result. Nought has no sign.
 pub fn figure(x: Num) -> Answer
-    ensures* { λ r. ⌜ r ≡ answer_by (some (worth x)) ⌝ }
+    ensures { result ≡ answer_by (some (worth x)) }
 {
     match x {
         Num::Outside => Answer::OutOfBounds,

@@ -1,4 +1,6 @@
 // One table of a measured sheet laid out: its grid made, and laid out in the front of lent slices.
+#![tactic(auto)]
+
 ghost use Rattle.std.specs.Prelude.{length, take};
 ghost use Rattle.records.specs.Kept.{kepts_of, entries_of, rows_of};
 ghost use Rattle.cells.specs.Listed.{table_rows};
@@ -12,7 +14,7 @@ use gridding::Counts;
 use widths::Laid;
 
 // A table laid out: how many rows, entries and columns it has, its way and the width that it takes.
-#[derive(Drop)]
+#[derive(Clone, Copy)]
 pub struct Arrangement {
     pub counts: Counts,
     pub laid: Laid,

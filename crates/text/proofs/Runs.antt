@@ -88,9 +88,9 @@ module _ {text : List ℕ} {from sum gap i : ℕ} (z : Running text from sum gap
 
 -- ---- the walk of one byte at a time
 
-class_of : (b : ℕ) → IsPlain b → class_of b ≡ cond (eqb b 32) 3 1
+class_of_lem : (b : ℕ) → IsPlain b → class_of b ≡ cond (eqb b 32) 3 1
 unfolding class_of
-class_of b p = go (eqb b 32) refl
+class_of_lem b p = go (eqb b 32) refl
   where
     go : (t : Bool) → eqb b 32 ≡ t → class_of b ≡ cond t 3 1
     go true e = rw (eqb-true b 32 e)
@@ -104,12 +104,12 @@ module _ {stop : ℕ} {t : List ℕ} {from sum gap i : ℕ} (s : Summing stop t 
     (n : get_or t i 0 ≡ stop → ⊥) where
   plain_turn : (b : Bool) → eqb (get_or t i 0) 32 ≡ b → Summing stop t from (sum + cond b 0 (1 + gap)) (cond b 1 0) (i + 1)
   plain_turn true e =
-      let c : class_of (get_or t i 0) ≡ 3 = class_of (get_or t i 0) p ∙ rw e in
+      let c : class_of (get_or t i 0) ≡ 3 = class_of_lem (get_or t i 0) p ∙ rw e in
       let z = sum_turn s h n (omega arith) 1 (omega arith) in
       let q : sum + (1 - 1) * (class_of (get_or t i 0) + gap) ≡ sum + 0 = omega arith in
       rw q at z
   plain_turn false e =
-      let c : class_of (get_or t i 0) ≡ 1 = class_of (get_or t i 0) p ∙ rw e in
+      let c : class_of (get_or t i 0) ≡ 1 = class_of_lem (get_or t i 0) p ∙ rw e in
       let z = sum_turn s h n (omega arith) 0 (omega arith) in
       let q : sum + (1 - 0) * (class_of (get_or t i 0) + gap) ≡ sum + (1 + gap) = omega arith in
       rw q at z

@@ -18,8 +18,8 @@ zeros_at zero k = refl
 zeros_at (suc n) zero = refl
 zeros_at (suc n) (suc k) = zeros_at n k
 
-pub no_place : (n i : ℕ) → get_or (places_of (replicate n 0)) i no_place ≡ no_place
-no_place n i = go (dec_lt i (length (replicate {A = ℕ} n 0) / 2))
+pub no_place_lem : (n i : ℕ) → get_or (places_of (replicate n 0)) i no_place ≡ no_place
+no_place_lem n i = go (dec_lt i (length (replicate {A = ℕ} n 0) / 2))
   where
     go : Dec (i < length (replicate {A = ℕ} n 0) / 2) → get_or (places_of (replicate n 0)) i no_place ≡ no_place
     go (yes l) = sym (place_read (replicate n 0) i l) ∙ rw (zeros_at n (2 * i), zeros_at n (2 * i + 1))
@@ -31,5 +31,5 @@ cleared n walk₀ walk h e =
     rw e
     (record {
       line_room = omega (arith, length_of 2 place_by walk₀, length_of 2 place_by (padded (length walk₀) (take 0 walk₀)), length-replicate {A = ℕ} (length walk₀ - 0) 0);
-      no_width = λ i. no_place (length walk₀ - 0) i;
+      no_width = λ i. no_place_lem (length walk₀ - 0) i;
     })

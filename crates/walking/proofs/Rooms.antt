@@ -19,7 +19,7 @@ use Rattle.estimates.specs.inner.Figures.{figure_by, figures_of}
 use Rattle.passing.specs.Walk.{too_narrow}
 use Rattle.walking.specs.inner.Steps.{Walkable, Rooms, Kepts, HandReady, HandedOut, LineHere, Stepped, Cleared, Walked}
 use Rattle.passing.specs.declared.Width.{Width}
-use Rattle.walking.proofs.Clear.{no_place}
+use Rattle.walking.proofs.Clear.{no_place_lem}
 use Rattle.walking.proofs.WalkLoop.{Sofar, start, stop, step_small, turn_refused, turn}
 
 -- whatever the wrap of the estimates was
@@ -51,7 +51,7 @@ module _ (lines figures walk₀ : List ℕ) (p : Walkable (kepts_of lines) (figu
 
   module _ (raw root overflow : ℕ) (small : root ≤ max_size) where
     pub started : SofarAny (kepts_of lines) (figures_of figures) raw root overflow (places_of walk₀) (places_of (replicate (2 * depths) 0)) 0
-    started q wrap same = start q wrap same raw root overflow c (no_place (2 * depths))
+    started q wrap same = start q wrap same raw root overflow c (no_place_lem (2 * depths))
 
     module _ (walk passed : List ℕ) (e : length walk ≡ length walk₀) (f : length passed ≡ (2 * depths)) (i : ℕ)
         (z : SofarAny (kepts_of lines) (figures_of figures) raw root overflow (places_of walk) (places_of passed) i) where

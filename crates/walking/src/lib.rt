@@ -1,4 +1,6 @@
 // The walk from a sheet's first line down: which width each line gets, or the first line that is too narrow for what it holds.
+#![tactic(auto)]
+
 mod giving; // what a table gives its cells
 mod steps; // the lines one after the other
 

@@ -1,0 +1,23 @@
+-- `arguments::of_missing` meets its contract: each return has the tests before it decided. Assumes nothing.
+use mathlib.Core.Path.{sym}
+use borrow.Author.Tests.{lt-ltb, le-ltb}
+use Rattle.lists.specs.Refusals.{verdict_of, first_answer}
+use Rattle.arguments.proofs.Shorter.{one_shorter}
+use borrow.Author.Rules.{rules}
+use Rattle.arguments.proofs.of_missing.Goals as goal
+
+pub returns-then-settings_out : goal.returns-then-settings_out
+unfolding verdict_of first_answer
+returns-then-settings_out c = rw (sym c.settings_out.ensures, c.if-settings_out.true)
+
+pub returns-then-entry-lt-MAX_ENTRIES : goal.returns-then-entry-lt-MAX_ENTRIES
+unfolding verdict_of first_answer
+returns-then-entry-lt-MAX_ENTRIES c = rw (sym c.settings_out.ensures, c.if-settings_out.false, one_shorter _ _, lt-ltb _ _ c.if-entry-lt-MAX_ENTRIES.true)
+
+pub returns-then-cause-lt-MAX_LINES : goal.returns-then-cause-lt-MAX_LINES
+unfolding verdict_of first_answer
+returns-then-cause-lt-MAX_LINES c = rw (sym c.settings_out.ensures, c.if-settings_out.false, one_shorter _ _, le-ltb _ _ c.if-entry-lt-MAX_ENTRIES.false, one_shorter _ _, lt-ltb _ _ c.if-cause-lt-MAX_LINES.true)
+
+pub returns : goal.returns
+unfolding verdict_of first_answer
+returns c = rw (sym c.settings_out.ensures, c.if-settings_out.false, one_shorter _ _, le-ltb _ _ c.if-entry-lt-MAX_ENTRIES.false, one_shorter _ _, le-ltb _ _ c.if-cause-lt-MAX_LINES.false)

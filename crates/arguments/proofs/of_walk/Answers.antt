@@ -1,0 +1,17 @@
+-- `arguments::of_walk` meets its contract: each return has the tests before it decided. Assumes nothing.
+use mathlib.Core.Path.{sym}
+use Rattle.lists.specs.Refusals.{verdict_of, first_answer}
+use borrow.Author.Rules.{rules}
+use Rattle.arguments.proofs.of_walk.Goals as goal
+
+pub returns-then-walk_out : goal.returns-then-walk_out
+unfolding verdict_of first_answer
+returns-then-walk_out c = rw (sym c.walk_out.ensures, c.if-walk_out.true)
+
+pub returns-then-either_below : goal.returns-then-either_below
+unfolding verdict_of first_answer
+returns-then-either_below c = rw (sym c.walk_out.ensures, c.if-walk_out.false, sym c.either_below.ensures, c.if-either_below.true)
+
+pub returns : goal.returns
+unfolding verdict_of first_answer
+returns c = rw (sym c.walk_out.ensures, c.if-walk_out.false, sym c.either_below.ensures, c.if-either_below.false)

@@ -1,0 +1,6 @@
+-- `calc::onto` meets its contract. Nothing before the number, or an operation. Assumes nothing.
+use borrow.Author.Rules.{rules}
+use Rattle.calc.proofs.onto.Goals as goal
+
+pub returns-in-After : goal.returns-in-After
+returns-in-After c = rw c.in-After.is c.joined.ensures

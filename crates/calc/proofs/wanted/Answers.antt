@@ -1,0 +1,20 @@
+-- `calc::wanted` meets its contract. By the place. Assumes nothing.
+use borrow.Author.Rules.{rules}
+use Rattle.sums.specs.Machine.{wanted as wantedBy}
+use Rattle.calc.proofs.wanted.Goals as goal
+
+pub returns-in-Wrong : goal.returns-in-Wrong
+unfolding wantedBy
+returns-in-Wrong c = rw c.in-Wrong.is
+
+pub returns-in-Want : goal.returns-in-Want
+unfolding wantedBy
+returns-in-Want c = rw c.in-Want.is
+
+pub returns-in-Within : goal.returns-in-Within
+unfolding wantedBy
+returns-in-Within c = rw c.in-Within.is
+
+pub returns-in-Have : goal.returns-in-Have
+unfolding wantedBy
+returns-in-Have c = rw c.in-Have.is

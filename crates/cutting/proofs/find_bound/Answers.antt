@@ -1,0 +1,36 @@
+-- `cutting::find_bound` meets its contract. The loop's invariant: at lo nothing overflows the room, at hi something does. A turn halves what lies
+-- between them, or finds that the widths fill the room. Where lo and hi are neighbours the widths at hi are one character more at the most, so those
+-- at lo fill it. The measure is the distance between them. Assumes nothing.
+use mathlib.Core.Path.{◌≡◌, subst, sym, ◌∙◌}
+use Prim.Native.Nat.{ℕ, suc, ◌+◌, ◌≤◌, ◌<◌, ◌-◌, ◌*◌}
+use native.Mathlib.Omega.{arith}
+use borrow.Author.Rules.{rules}
+use Rattle.lists.specs.Lists.{sum}
+use Rattle.cutting.specs.inner.Fill.{filled}
+use Rattle.cutting.proofs.Fill.{bound_low, bound_high, bound_found}
+use Rattle.cutting.proofs.find_bound.Goals as goal
+
+pub loop-lo-init : goal.loop-lo-init
+loop-lo-init c = 
+    let ls = c.args.leasts.now in
+    let ss = c.args.shares.now in
+    let room = c.args.room in
+    let t = c.args.level in
+    rw c.to_u64-full.ensures (
+      omega arith,
+      omega arith,
+      bound_low ls ss room c.requires.roomy c.requires.room_bound t c.requires.level_value,
+      bound_high ls ss room c.requires.roomy c.requires.room_bound t c.requires.level_value,
+    )
+
+pub returns-then-t-full : goal.returns-then-t-full
+returns-then-t-full c = sym c.total_at-t.ensures ∙ c.if-t-full.true ∙ c.to_u64-full.ensures
+
+pub returns : goal.returns
+returns c = 
+    let l = c.loop-lo in
+    let ls = c.args.leasts.now in
+    let ss = c.args.shares.now in
+    let next : l.hi ≡ suc l.lo = omega arith in
+    bound_found ls ss c.args.room c.requires.roomy c.requires.room_bound c.args.level l.lo l.invariant.2
+    (subst (λ (k : ℕ). c.args.room < sum (filled ls ss c.args.level k)) next l.invariant.3)

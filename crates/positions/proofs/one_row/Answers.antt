@@ -1,0 +1,149 @@
+-- `positions::one_row` lends `merge_row` the parts of the slices that are the row's. What the rest of the entries is written over when it comes back,
+-- the entries are written over from the row's place on. Assumes nothing.
+use mathlib.Core.Path.{◌≡◌, sym, ap, ◌∙◌}
+use mathlib.Core.List.{map}
+use Prim.Native.Nat.{ℕ, ◌+◌, ◌*◌, ◌-◌, ◌≤◌}
+use native.Mathlib.Omega.{arith}
+use lib.ListN.{length, take, drop, length-drop}
+use lib.Seq.{length-take-le}
+use Rattle.records.specs.Kept.{entry_by}
+use Rattle.records.specs.declared.Entry.{Entry}
+use Rattle.cells.specs.declared.Cell.{Cell}
+use Rattle.cells.specs.Held.{figures, cell_by, held_line, held_span, held_rows, lines_of, spans_of, rowspans_of, entry_cell, entry_span}
+use Rattle.cells.specs.Spans.{part}
+use Rattle.cells.proofs.Figures.{length_figures, figures_part}
+use Rattle.rows.specs.inner.Overhangs.{third, lefts_in, ats_in, wides_in}
+use Rattle.rows.specs.Row.{item_line, item_span}
+use Rattle.positions.specs.inner.Slices.{row_at}
+use Rattle.positions.proofs.OverAt.{part_length, rest_figures, figures_over}
+use Rattle.positions.proofs.Thirds.{lefts_long, ats_long, wides_long, lefts_here, ats_here, wides_here}
+use borrow.Author.Rules.{rules}
+use Rattle.positions.proofs.one_row.Goals as goal
+use Rattle.positions.proofs.one_row.Goals.{Start}
+
+-- the row's cells, what hangs into it and its entries lie within the slices
+within : (c : Start) → (c.args.first ≤ c.args.end) × (3 * c.args.end ≤ length c.args.cells.now) × (c.args.k ≤ third c.args.overhang.now) × (3 * c.args.n ≤ length c.args.entries.now)
+within c = 
+    (
+  c.requires.rises,
+  omega (arith, c.requires.lines_in_fits, length_figures 3 cell_by held_line c.args.cells.now),
+  omega (arith, c.requires.left_in, lefts_long c.args.overhang.now),
+  omega (arith, c.requires.line_room, length_figures 3 entry_by entry_cell c.args.entries.now),
+)
+
+cells_here : (c : Start) (f : Cell → ℕ) → figures 3 cell_by f (take (3 * c.args.end - 3 * c.args.first) (drop (3 * c.args.first) c.args.cells.now)) ≡ part c.args.first c.args.end (figures 3 cell_by f c.args.cells.now)
+cells_here c f = figures_part 3 cell_by f (omega arith) c.args.first c.args.end c.args.cells.now (within c).0 (within c).1
+
+rest-count : (c : Start) (f : Entry → ℕ) → length (figures 3 entry_by f (take (length c.args.entries.now - 3 * c.args.n) (drop (3 * c.args.n) c.args.entries.now))) ≡ length (figures 3 entry_by f c.args.entries.now) - c.args.n
+rest-count c f = ap length (rest_figures entry_by f c.args.n c.args.entries.now (within c).3) ∙ length-drop c.args.n (figures 3 entry_by f c.args.entries.now)
+
+pub overflow_mul-first : goal.overflow_mul-first
+overflow_mul-first c = omega (arith, within (goal.at.overflow_mul-first c).Start)
+
+pub overflow_mul-end : goal.overflow_mul-end
+overflow_mul-end c = omega (arith, within (goal.at.overflow_mul-end c).Start)
+
+pub offset_bounds-cells-first : goal.offset_bounds-cells-first
+offset_bounds-cells-first c = omega (arith, within (goal.at.offset_bounds-cells-first c).Start)
+
+pub slice_bounds-merge_row-count : goal.slice_bounds-merge_row-count
+slice_bounds-merge_row-count c = omega (arith, within (goal.at.slice_bounds-merge_row-count c).Start)
+
+pub slice_bounds-merge_row-start : goal.slice_bounds-merge_row-start
+slice_bounds-merge_row-start c = omega (arith, within (goal.at.slice_bounds-merge_row-start c).Start)
+
+pub slice_bounds-merge_row-end : goal.slice_bounds-merge_row-end
+slice_bounds-merge_row-end c = omega (arith, within (goal.at.slice_bounds-merge_row-end c).Start)
+
+pub slice_bounds-merge_row-end-2 : goal.slice_bounds-merge_row-end-2
+slice_bounds-merge_row-end-2 c = sym (length-take-le _ _ (omega (arith, within (goal.at.slice_bounds-merge_row-end-2 c).Start)))
+
+pub overflow_add-third : goal.overflow_add-third
+overflow_add-third c = omega (arith, within (goal.at.overflow_add-third c).Start)
+
+pub offset_bounds-overhang-third : goal.offset_bounds-overhang-third
+offset_bounds-overhang-third c = omega (arith, within (goal.at.offset_bounds-overhang-third c).Start)
+
+pub slice_bounds-merge_row-count-2 : goal.slice_bounds-merge_row-count-2
+slice_bounds-merge_row-count-2 c = omega (arith, within (goal.at.slice_bounds-merge_row-count-2 c).Start)
+
+pub slice_bounds-merge_row-start-2 : goal.slice_bounds-merge_row-start-2
+slice_bounds-merge_row-start-2 c = omega (arith, within (goal.at.slice_bounds-merge_row-start-2 c).Start)
+
+pub slice_bounds-merge_row-end-3 : goal.slice_bounds-merge_row-end-3
+slice_bounds-merge_row-end-3 c = omega (arith, within (goal.at.slice_bounds-merge_row-end-3 c).Start)
+
+pub overflow_mul-third : goal.overflow_mul-third
+overflow_mul-third c = omega (arith, within (goal.at.overflow_mul-third c).Start)
+
+pub overflow_mul-third-2 : goal.overflow_mul-third-2
+overflow_mul-third-2 c = omega (arith, within (goal.at.overflow_mul-third-2 c).Start)
+
+pub overflow_add-third-2 : goal.overflow_add-third-2
+overflow_add-third-2 c = omega (arith, within (goal.at.overflow_add-third-2 c).Start)
+
+pub offset_bounds-overhang-third-2 : goal.offset_bounds-overhang-third-2
+offset_bounds-overhang-third-2 c = omega (arith, within (goal.at.offset_bounds-overhang-third-2 c).Start)
+
+pub slice_bounds-merge_row-count-3 : goal.slice_bounds-merge_row-count-3
+slice_bounds-merge_row-count-3 c = omega (arith, within (goal.at.slice_bounds-merge_row-count-3 c).Start)
+
+pub slice_bounds-merge_row-start-3 : goal.slice_bounds-merge_row-start-3
+slice_bounds-merge_row-start-3 c = omega (arith, within (goal.at.slice_bounds-merge_row-start-3 c).Start)
+
+pub slice_bounds-merge_row-end-4 : goal.slice_bounds-merge_row-end-4
+slice_bounds-merge_row-end-4 c = omega (arith, within (goal.at.slice_bounds-merge_row-end-4 c).Start)
+
+pub overflow_mul-n : goal.overflow_mul-n
+overflow_mul-n c = omega (arith, within (goal.at.overflow_mul-n c).Start)
+
+pub offset_bounds-entries-n : goal.offset_bounds-entries-n
+offset_bounds-entries-n c = omega (arith, within (goal.at.offset_bounds-entries-n c).Start)
+
+pub slice_bounds-merge_row-count-4 : goal.slice_bounds-merge_row-count-4
+slice_bounds-merge_row-count-4 c = omega (arith, within (goal.at.slice_bounds-merge_row-count-4 c).Start)
+
+pub slice_bounds-merge_row-start-4 : goal.slice_bounds-merge_row-start-4
+slice_bounds-merge_row-start-4 c = omega (arith, within (goal.at.slice_bounds-merge_row-start-4 c).Start)
+
+pub merge_row-requires : goal.merge_row-requires
+unfolding row_at
+merge_row-requires c = 
+    let a = c.args in
+    let q = c.requires in
+    let o = a.overhang.now in
+    let h = (within (goal.at.merge_row-requires c).Start).2 in
+    let il = ap length (cells_here (goal.at.merge_row-requires c).Start held_line) ∙ part_length a.first a.end (lines_of a.cells.now) q.rises q.lines_in_fits in
+    let hl = ap length (lefts_here o a.k h) ∙ length-take-le a.k (lefts_in o) q.left_in in
+    let ha = ap length (ats_here o a.k h) ∙ length-take-le a.k (ats_in o) q.at_in in
+    let hw = ap length (wides_here o a.k h) ∙ length-take-le a.k (wides_in o) q.wide_in in
+    let room = rest-count (goal.at.merge_row-requires c).Start in record {
+      at_len = (ha ∙ sym hl, hw ∙ sym hl);
+      row_room = record {
+          lines = omega (arith, il, hl, room entry_cell, length_figures 3 entry_by entry_cell a.entries.now, q.line_room);
+          spans = omega (arith, il, hl, room entry_span, length_figures 3 entry_by entry_span a.entries.now, q.span_room);
+          lefts = omega (arith, il, hl, q.next_left_room);
+          ats = omega (arith, il, hl, q.next_at_room);
+          wides = omega (arith, il, hl, q.next_wide_room);
+        };
+      wide_bound = rw (cells_here (goal.at.merge_row-requires c).Start held_line, cells_here (goal.at.merge_row-requires c).Start held_span, cells_here (goal.at.merge_row-requires c).Start held_rows, lefts_here o a.k h, ats_here o a.k h, wides_here o a.k h) q.ends;
+    }
+
+pub returns : goal.returns
+unfolding row_at
+returns c = 
+    let a = c.args in
+    let o = a.overhang.now in
+    let h = (within (goal.at.returns c).Start).2 in
+    let m = rw (cells_here (goal.at.returns c).Start held_line, cells_here (goal.at.returns c).Start held_span, cells_here (goal.at.returns c).Start held_rows, lefts_here o a.k h, ats_here o a.k h, wides_here o a.k h) at c.merge_row.ensures in
+    let xs = row_at (lines_of a.cells.now) (spans_of a.cells.now) (rowspans_of a.cells.now) a.first a.end (lefts_in o) (ats_in o) (wides_in o) a.k in
+    record {
+      hangs = m.hangs;
+      written = let w = m.written in record {
+        lines = figures_over entry_by entry_cell a.n a.entries.now (within (goal.at.returns c).Start).3 (map item_line xs) _ w.lines;
+        spans = figures_over entry_by entry_span a.n a.entries.now (within (goal.at.returns c).Start).3 (map item_span xs) _ w.spans;
+        lefts = w.lefts;
+        ats = w.ats;
+        wides = w.wides;
+      };
+    }

@@ -1,0 +1,11 @@
+-- `printing::put_two` meets its contract: the second number is put after the first (`put_next`).
+-- Assumes nothing.
+use borrow.Author.Rules.{rules}
+use native.Mathlib.Omega.{arith}
+use Rattle.printing.specs.Printing.{line}
+use Rattle.printing.proofs.Writing.{put_next}
+use Rattle.printing.proofs.put_two.Goals as goal
+
+pub returns : goal.returns
+unfolding line
+returns c = put_next c.put_ended-next.ensures (omega arith) 11 c.put_ended.ensures

@@ -1,0 +1,16 @@
+-- `sheet::front::feeds_of` meets its contract. The loop's invariant: the line feeds counted, with those from the place on, are those of the whole.
+-- A turn passes one block. The measure is what is left of the sheet. Assumes nothing.
+use mathlib.Core.Path.{◌≡◌}
+use Prim.Native.Nat.{◌+◌, ◌-◌, ◌≤◌}
+use native.Mathlib.Omega.{arith}
+use lib.ListN.{length, drop, length-take}
+use borrow.Author.Rules.{rules}
+use Rattle.fields.specs.Lines.{feeds}
+use Rattle.sheet.proofs.Heading.{feeds_block, feeds_few, feeds_end}
+use Rattle.sheet.proofs.front.feeds_of.Given as goal
+
+abbrev pub invariant-loop-i : goal.invariant-loop-i
+invariant-loop-i l = (l.i ≤ length l.bytes) × (l.n + feeds (drop l.i l.bytes) ≡ feeds l.bytes)
+
+abbrev pub decreases-loop-i : goal.decreases-loop-i
+decreases-loop-i l = length l.bytes - l.i

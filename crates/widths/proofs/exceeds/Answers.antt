@@ -1,0 +1,14 @@
+-- `widths::exceeds` meets its contract. The two sides compared are the width and the sum with its gaps; the sum is small enough for the
+-- addition to fit. Assumes nothing.
+use mathlib.Core.Path.{ap₂}
+use Prim.Native.Nat.{ℕ, ◌+◌}
+use native.Mathlib.Omega.{arith}
+use lib.Dec.{ltb}
+use borrow.Author.Rules.{rules}
+use Rattle.widths.proofs.exceeds.Goals as goal
+
+pub overflow_add-result : goal.overflow_add-result
+overflow_add-result c = omega arith
+
+pub returns : goal.returns
+returns c = ap₂ ltb c.to_u64.ensures (ap₂ (λ (x y : ℕ). x + y) c.total.ensures.is c.gaps_of.ensures)

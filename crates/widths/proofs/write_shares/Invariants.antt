@@ -1,0 +1,22 @@
+-- `widths::write_shares` meets its contract. The loop's invariant: the first i places have the first i shares, and the rest stands as it did.
+-- A turn stores the share of column i, whose size is at most the total. At the end all shares are written. The measure is the number of
+-- columns left. Assumes nothing.
+use mathlib.Core.Path.{◌≡◌, sym, ap, ◌∙◌}
+use mathlib.Core.List.{◌++◌}
+use Prim.Native.Nat.{◌-◌, ◌≤◌}
+use native.Mathlib.Omega.{arith}
+use lib.ListN.{length, take, drop, length-set}
+use borrow.Author.Rules.{rules}
+use Rattle.lists.specs.Lists.{sum}
+use Rattle.lists.proofs.Write.{write_more, write_all}
+use Rattle.widths.specs.Share.{share, shares}
+use Rattle.cutting.specs.Cut.{at}
+use Rattle.cutting.proofs.Sums.{at_le_sum}
+use Rattle.widths.proofs.Share.{length_shares, at_shares}
+use Rattle.widths.proofs.write_shares.Given as goal
+
+abbrev pub invariant-loop-i : goal.invariant-loop-i
+invariant-loop-i l = (l.i ≤ length l.sizes) × (length l.wide ≡ length l.initial.wide) × (l.wide ≡ take l.i (shares l.sizes l.leasts l.width) ++ drop l.i l.initial.wide)
+
+abbrev pub decreases-loop-i : goal.decreases-loop-i
+decreases-loop-i l = length l.sizes - l.i
