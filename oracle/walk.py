@@ -10,7 +10,7 @@ A cell's width is the one that the Rust prints it with, and what head, quote, ul
 ol and dd pass on is the answer of the Rust's `width_minus`.
 Started by itself it holds the calls tables_walk and tables_nested to that, each
 case with overflow 0 and 1. WALKER is walker.c, linked with the static library:
-    gcc -O2 -Iinclude oracle/walker.c target/staticlib/libtables_c.a -o WALKER
+    gcc -O2 -Iinclude oracle/walker.c crates/tables_c/out/libtables_c.a -o WALKER
 KIND, SEED, COUNT, FIRST are as for generate.py. With --minus the cases are one
 line over one text for each prefix, width and least of a grid. Prints what was
 seen, and the first case that differs. Ends with 0 if nothing differs.

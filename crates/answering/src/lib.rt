@@ -1,5 +1,7 @@
 // What the public calls answer for an input, which holds settings and a sheet, so that a program can print it: the layouts as `layout` prints
 // them, the estimates of all lines and each table's grid. The format is our own: the Rust has no counterpart.
+#![tactic(auto)]
+
 mod calls; // calls.rt: what the calls answer of a sheet and of each table
 
 ghost use Rattle.std.specs.Prelude.{◌≤◌};

@@ -2,12 +2,11 @@
 use mathlib.Core.Path.{◌≡◌, refl, sym, ap, ◌∙◌}
 use mathlib.Core.Bool.{false}
 use mathlib.Core.List.{List, map}
-use Prim.Native.Nat.{ℕ, ◌+◌, ◌*◌, ◌/◌, ◌≤◌, ◌<◌}
+use Prim.Native.Nat.{ℕ, ◌/◌, ◌≤◌}
 use native.Mathlib.Omega.{arith}
 use lib.ListN.{length, take, length-map}
 use Rattle.lists.specs.Lists.{over}
-use Rattle.lists.specs.Limits.{max_lines}
-use Rattle.lists.specs.Refusals.{Check, first_answer, if_passes}
+use Rattle.lists.specs.Refusals.{Check, if_passes}
 use Rattle.text.specs.declared.Estimate.{Estimate}
 use Rattle.records.specs.Records.{numbers_of}
 use Rattle.sheet.specs.Sheet.{sheet_lines}

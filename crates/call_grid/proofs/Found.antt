@@ -6,7 +6,7 @@ use Prim.Native.Nat.{ℕ, ◌-◌, ◌*◌, ◌/◌, ◌≤◌}
 use native.Mathlib.Omega.{arith}
 use lib.ListN.{length, take}
 use Rattle.lists.specs.Limits.{max_entries, max_lines, max_position}
-use Rattle.lists.specs.Refusals.{Check, first_answer, passes}
+use Rattle.lists.specs.Refusals.{Check}
 use Rattle.records.specs.Kept.{kept_count, kepts_of}
 use Rattle.records.specs.declared.Kept.{Kept}
 use Rattle.records.specs.declared.Entry.{Entry}
@@ -24,7 +24,7 @@ use Rattle.opening.specs.Opening.{open_checks}
 use Rattle.table.specs.inner.Asked.{Asked}
 use Rattle.answers.specs.declared.Gridded.{Gridded}
 use Rattle.answers.specs.declared.Gridded.TheVariants.{Grid, Refused}
-use Rattle.sheet_figures.specs.Figures.{rows_at, columns_at}
+use Rattle.sheet_figures.specs.Figures.{rows_at}
 use Rattle.sheet_figures.specs.inner.Opened.{AskedIn, MostIn, OpenedAt}
 use Rattle.sheet_figures.proofs.Openings.{failed, told, opened_passed}
 use Rattle.call_grid.specs.inner.Found.{entries_in, rows_in, GridRoom, GridFound, GridTried}

@@ -1,5 +1,5 @@
 -- `layout`: what is found in the sheet is what the call answers and leaves, and of it the third demand holds. Assumes nothing.
-use mathlib.Core.Path.{◌≡◌, refl, sym, ap, ◌∙◌}
+use mathlib.Core.Path.{◌≡◌, refl, sym, ◌∙◌}
 use mathlib.Core.Bool.{true, false, ◌||◌}
 use mathlib.Core.List.{List, [], ◌∷◌}
 use Prim.Native.Nat.{ℕ, ◌-◌, ◌≤◌}
@@ -8,14 +8,12 @@ use lib.Dec.{ltb}
 use lib.ListN.{length, take}
 use borrow.Author.Tests.{ltb-false}
 use Rattle.lists.specs.Lists.{padded}
-use Rattle.lists.specs.Limits.{max_lines, max_entries, max_wrap, max_width, max_size}
+use Rattle.lists.specs.Limits.{max_lines, max_entries, max_wrap, max_width}
 use Rattle.lists.specs.Refusals.{Check, first_answer, verdict_of, passes, if_passes}
 use Rattle.lists.specs.declared.Verdict.{Verdict}
 use Rattle.lists.specs.declared.Verdict.TheVariants.{Accepted, Refused as Refuses}
 use Rattle.sheet.proofs.First.{neither}
-use Rattle.grid.specs.Grid.{entries_of}
 use Rattle.opening.specs.Opening.{asked, open_checks}
-use Rattle.sheet_figures.specs.Figures.{rows_at, columns_at, way_at, width_at}
 use Rattle.table.specs.inner.Asked.{OutRoom}
 use Rattle.call_layout.specs.inner.Found.{columns_in, entries_in, InRange, LayoutFound}
 use Rattle.arguments.specs.declared.Settings.{Settings}
@@ -23,7 +21,7 @@ use Rattle.arguments.specs.Arguments.{any_shorter, layout_arguments}
 use Rattle.call_layout.specs.Layout.{layout_checks, laid_out_of, LayoutAnswer}
 use Rattle.sheet_figures.specs.inner.Early.{early}
 use Rattle.answers.specs.declared.LaidOut.{LaidOut}
-use Rattle.answers.specs.declared.LaidOut.TheVariants.{Layout, Refused}
+use Rattle.answers.specs.declared.LaidOut.TheVariants.{Refused}
 use Rattle.arguments.proofs.Shorter.{two_fit, or_false}
 use Rattle.sheet_figures.proofs.Early.{early_nines, none_nines, fits, leaving}
 

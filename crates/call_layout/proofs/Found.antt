@@ -6,7 +6,7 @@ use Prim.Native.Nat.{ℕ, ◌+◌, ◌-◌, ◌*◌, ◌≤◌}
 use native.Mathlib.Omega.{arith}
 use lib.ListN.{length, take}
 use Rattle.lists.specs.Limits.{max_entries, max_position}
-use Rattle.lists.specs.Refusals.{Check, first_answer, passes}
+use Rattle.lists.specs.Refusals.{Check}
 use Rattle.text.specs.declared.Estimate.{Estimate}
 use Rattle.records.specs.Kept.{kept_count, kepts_of}
 use Rattle.records.specs.declared.Kept.{Kept}

@@ -1,5 +1,5 @@
 -- The table of the cases that are asked to be proved, about the definitions, in the order in which they are asked. Assumes nothing.
-use Rattle.std.specs.Prelude.{◌≡◌, refl, true, false, List, [], ◌∷◌, map, ℕ}
+use Rattle.std.specs.Prelude.{◌≡◌, refl, true, false, List, [], ◌∷◌, ℕ}
 use Rattle.lists.specs.Lists.{sum, mem}
 use Rattle.lists.specs.Refusals.{verdict_of, first_answer}
 use Rattle.lists.specs.declared.Verdict.TheVariants.{Accepted}

@@ -34,9 +34,9 @@ use Rattle.widths.specs.Share.{share, shares_of}
 use Rattle.widths.specs.Widths.{way_of, final_widths, nonzero, table_width}
 use Rattle.placing.specs.Place.{at, place_side, place_down, place_row, place_rows}
 use Rattle.lists.specs.declared.Verdict.TheVariants.{Accepted, Refused}
-use Rattle.answers.specs.declared.Way.TheVariants.{Sideways, Down}
+use Rattle.answers.specs.declared.Way.TheVariants.{Down}
 use Rattle.opening.specs.Opening.{kept_lines}
-use Rattle.sheet_figures.specs.Figures.{columns_at, way_at, widths_at, width_at, places_at}
+use Rattle.sheet_figures.specs.Figures.{way_at, widths_at, width_at, places_at}
 use Rattle.sheet_figures.specs.Calls.{check_checks}
 
 -- a text as a line of a sheet

@@ -1,13 +1,13 @@
 -- The commonest lines kind by kind: the bytes that are compared are those of such a line, whose fields and figures follow by computing. Assumes nothing.
-use mathlib.Core.Path.{◌≡◌, refl, sym, ap, ◌∙◌}
+use mathlib.Core.Path.{◌≡◌, refl, ap, ◌∙◌}
 use mathlib.Core.Bool.{true, false, or-true}
 use mathlib.Core.List.{List, [], ◌∷◌, ◌++◌}
-use Prim.Native.Nat.{ℕ, ◌+◌, ◌-◌, ◌*◌, ◌/◌, ◌%◌, ◌≤◌, ◌<◌}
+use Prim.Native.Nat.{ℕ, ◌+◌, ◌-◌, ◌*◌, ◌/◌, ◌%◌, ◌≤◌}
 use native.Mathlib.Nat.{add-zero}
 use native.Mathlib.Numerals.{add-one}
 use native.Mathlib.Omega.{arith}
 use lib.Dec.{eqb}
-use lib.ListN.{length, get_or, take, drop}
+use lib.ListN.{length, take, drop}
 use lib.Seq.{drop-cons}
 use borrow.Author.Tests.{le-leb}
 use Rattle.lists.specs.Limits.{max_cols, max_rows}
@@ -24,7 +24,7 @@ use Rattle.fields.specs.Reading.{kind_read}
 use Rattle.line.specs.Fields.{n_fits}
 use Rattle.line.specs.Reading.{span_limit}
 use Rattle.line.proofs.OneDigit.{Name, line_is, bare_is}
-use Rattle.eights.specs.inner.Briefs.{figures_of, InBrief}
+use Rattle.eights.specs.inner.Briefs.{InBrief}
 use Rattle.eights.specs.inner.Bytes.{Digit, Bare, Cell, Texts, ending}
 use Rattle.eights.specs.declared.Brief.{Brief}
 use Rattle.eights.specs.declared.Common.TheVariants.{Line, Other}

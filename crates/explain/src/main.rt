@@ -2,6 +2,8 @@
 // entries are missing, or why the sheet is refused.
 
 // Settings take at most 28 bytes, so a full buffer holds a sheet that is too long.
+#![tactic(auto)]
+
 const INPUT_BYTES: usize = 65565;
 
 // The descriptor of standard input.

@@ -8,7 +8,6 @@ use lib.Dec.{eqb, ltb}
 use borrow.Author.Tests.{eqb-true}
 use Rattle.lists.specs.Limits.{max_entries}
 use Rattle.lists.specs.Refusals.{Check, check, first_answer, verdict_of}
-use Rattle.lists.specs.declared.Verdict.{Verdict}
 use Rattle.lists.specs.declared.Verdict.TheVariants.{Accepted, Refused}
 use Rattle.lists.specs.Lists.{All}
 use Rattle.kinds.specs.Kinds.{table_kind}
@@ -20,7 +19,7 @@ use Rattle.cells.specs.Facts.{Ending}
 use Rattle.cells.proofs.Facts.{filled_rows}
 use Rattle.positions.specs.Positions.{Row, hang_below, all_rows, ends_past, entry_count}
 use Rattle.positions.proofs.Bodies.{table_none, rows_same}
-use Rattle.grid.specs.Grid.{GridRow, is_column_edge, ends_of, grid_row, longest, grid_of, columns_of, table_checks, tables_checks}
+use Rattle.grid.specs.Grid.{is_column_edge, ends_of, grid_row, longest, grid_of, columns_of, table_checks, tables_checks}
 use Rattle.grid.specs.Before.{resolved_before, extras_in, extras, extra_rows, grid_before, columns_before, checks_before, tables_before, AllEnding}
 
 extras_none : extras [] ≡ []

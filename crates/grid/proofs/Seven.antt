@@ -1,6 +1,6 @@
 -- Refusal 7 is impossible: every entry of rows ends at an edge of these rows, in the definitions and where they are numbered, and the answers of every
 -- table are 5 or 6. Assumes nothing.
-use mathlib.Core.Path.{◌≡◌, refl, sym, ap, ◌∙◌}
+use mathlib.Core.Path.{◌≡◌, sym, ap, ◌∙◌}
 use mathlib.Core.Bool.{Bool, true, cond}
 use mathlib.Core.List.{List}
 use Prim.Native.Nat.{ℕ}

@@ -1,8 +1,8 @@
 -- The loop of `fits` on plain lists: if what the lines still to come hold is within the bound, from what hangs, the row's end and the entries on, then so is
 -- the table. Assumes nothing.
-use mathlib.Core.Path.{◌≡◌, refl, sym, ap, subst, ◌∙◌}
+use mathlib.Core.Path.{◌≡◌, sym, ap, subst, ◌∙◌}
 use mathlib.Core.Bool.{cond}
-use mathlib.Core.List.{List, [], ◌∷◌, map}
+use mathlib.Core.List.{List, [], ◌∷◌}
 use Prim.{tt}
 use Prim.Native.Nat.{ℕ, suc, ◌+◌, ◌-◌, ◌≤◌, ◌<◌}
 use native.Mathlib.Numerals.{add-one}
@@ -14,7 +14,7 @@ use Rattle.lists.specs.Lists.{sum}
 use Rattle.lists.specs.Limits.{max_position, max_entries}
 use Rattle.records.specs.Kept.{no_kept}
 use Rattle.records.specs.declared.Kept.{Kept}
-use Rattle.cells.specs.Cells.{Cell, Row, Frame, cell, frame, no_frame, open_body, open_row, open_cell}
+use Rattle.cells.specs.Cells.{Row, Frame, cell, frame, no_frame, open_body, open_row, open_cell}
 use Rattle.cells.specs.Listed.{all_cells, table_rows}
 use Rattle.cells.proofs.Lines.{framed, after, frame_stop, frame_body, frame_row, frame_cell, frame_deeper, inside}
 use Rattle.grid.specs.Facts.{Sound}

@@ -10,7 +10,7 @@ use native.Mathlib.Omega.{arith}
 use lib.Dec.{leb, eqb}
 use lib.ListN.{length, get_or, drop, drop_of_length-le}
 use lib.Seq.{drop-cons}
-use borrow.Author.Tests.{eq-eqb, ne_eqb, eqb-true, leb-false}
+use borrow.Author.Tests.{eq-eqb, eqb-true, leb-false}
 use Rattle.lists.specs.Lists.{sum}
 use Rattle.lists.specs.Limits.{max_position, max_entries}
 use Rattle.lists.proofs.Sum.{sum_append}
@@ -22,9 +22,9 @@ use Rattle.cells.specs.Listed.{all_cells, table_rows}
 use Rattle.positions.specs.Positions.{all_rows, entry_count}
 use Rattle.grid.specs.Facts.{CellOf}
 use Rattle.grid.specs.Facts.{Sound}
-use Rattle.grid_bounds.specs.Bound.{wide_of, hung_of, rows_of, wide, hung, RowsBound, BodiesBound, bodies_asked}
+use Rattle.grid_bounds.specs.Bound.{wide_of, rows_of, wide, hung, RowsBound, BodiesBound, bodies_asked}
 use Rattle.grid_bounds.proofs.Bounds.{bodies_few, bound_fits}
-use Rattle.grid_bounds.specs.Sheets.{cols_by, rows_by, SheetBound, Suffice, Nests, AllSound}
+use Rattle.grid_bounds.specs.Sheets.{SheetBound, Suffice, Nests, AllSound}
 use Rattle.grid_bounds.proofs.CellKinds.{cell_kind_lem}
 
 -- ---- the cells of a table, by a figure of each, are no more than the lines'

@@ -4,7 +4,7 @@ use Rattle.std.specs.Prelude.{◌≡◌, cond, List, [], ◌∷◌, map, ℕ, su
 use Prim.{Unit}
 use Rattle.lists.specs.Lists.{sum}
 use Rattle.lists.specs.Limits.{max_position, max_entries}
-use Rattle.cells.specs.Cells.{Cell, Row, Frame}
+use Rattle.cells.specs.Cells.{Cell, Row}
 use Rattle.cells.specs.Listed.{all_cells}
 
 abbrev pub wide_of : Cell → ℕ

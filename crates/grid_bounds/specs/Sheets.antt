@@ -1,5 +1,5 @@
 -- A bound on the cells of all tables of a sheet together, within which no table can be refused. These are definitions; nothing is assumed.
-use Rattle.std.specs.Prelude.{◌≡◌, true, cond, List, map, ℕ, suc, ◌≤◌, ◌<◌, eqb, length, get_or}
+use Rattle.std.specs.Prelude.{◌≡◌, true, cond, List, map, ℕ, ◌≤◌, ◌<◌, eqb, length, get_or}
 use Rattle.lists.specs.Lists.{sum}
 use Rattle.lists.specs.Limits.{max_position, max_entries}
 use Rattle.kinds.specs.Kinds.{table_kind, cell_kind, may_hold}

@@ -1,8 +1,8 @@
 -- What the number of a table's refusal says, and the verdict of its checks. Assumes nothing.
-use mathlib.Core.Path.{◌≡◌, refl, sym, ap, ap₂, ◌∙◌}
+use mathlib.Core.Path.{◌≡◌, refl, sym, ap₂}
 use mathlib.Core.Bool.{Bool, true, false, cond}
-use mathlib.Core.List.{List, [], ◌∷◌, ◌++◌}
-use Prim.Native.Nat.{ℕ, ◌≤◌}
+use mathlib.Core.List.{List, ◌∷◌, ◌++◌}
+use Prim.Native.Nat.{ℕ}
 use native.Mathlib.Omega.{arith}
 use lib.Dec.{ltb, eqb}
 use borrow.Author.Tests.{ltb-false, le-ltb}
@@ -14,7 +14,6 @@ use Rattle.cells.specs.Cells as cells
 use Rattle.positions.specs.Positions.{all_rows, ends_past, entry_count}
 use Rattle.grid.specs.Grid.{table_checks}
 use Rattle.grid.specs.Facts.{Sound}
-use Rattle.grid_counts.specs.declared.Count.{Count}
 use Rattle.grid_counts.specs.declared.Count.TheVariants.{Fits, Past, Many}
 use Rattle.grid_counts.specs.Count.{count_of}
 use Rattle.grid_check.specs.Checking.{number_of, refusal_of}

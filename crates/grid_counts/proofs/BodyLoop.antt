@@ -1,8 +1,8 @@
 -- The loop of `count_body` on plain lists: what hangs into row q is as wide as is told, and place q + k of the slice tells how much of it hangs into k rows
 -- more; with the rows still to come this is the body. Assumes nothing.
-use mathlib.Core.Path.{◌≡◌, refl, sym, ap, ap₂, subst, ◌∙◌}
-use mathlib.Core.Bool.{Bool, true, false, cond, ◌||◌}
-use mathlib.Core.List.{List, [], ◌∷◌, ◌++◌, map}
+use mathlib.Core.Path.{◌≡◌, refl, sym, ap, ap₂, ◌∙◌}
+use mathlib.Core.Bool.{Bool, ◌||◌}
+use mathlib.Core.List.{List, [], ◌∷◌, map}
 use Prim.Native.Nat.{ℕ, suc, ◌+◌, ◌-◌, ◌*◌, ◌≤◌, ◌<◌, min, max}
 use native.Mathlib.Omega.{arith}
 use lib.Dec.{ltb}
@@ -14,8 +14,8 @@ use Rattle.records.specs.Kept.{no_kept}
 use Rattle.records.specs.declared.Kept.{Kept}
 use Rattle.cells.specs.Cells.{Cell, Row, row, row_sum, widest, resolve_cell, resolve_row, fill_body, cut_cell, cut_row, cut_body, resolve_body}
 use Rattle.cells.specs.Listed.{all_cells}
-use Rattle.rows.specs.Row.{Item, item_of, items_end, nexts}
-use Rattle.positions.specs.Positions.{originals, all_rows, ends_past, entry_count}
+use Rattle.rows.specs.Row.{Item, items_end, nexts}
+use Rattle.positions.specs.Positions.{originals, all_rows, ends_past}
 use Rattle.positions.proofs.TableFacts.{entries}
 use Rattle.grid_bounds.proofs.Ends.{wides, wides_small, entries_end, entries_wides, nexts_end, nexts_wides}
 use Rattle.grid_bounds.proofs.Entries.{takens, takens_append, body_entries}
@@ -23,7 +23,7 @@ use Rattle.grid_counts.specs.declared.Tally.{Tally}
 use Rattle.grid_counts.specs.declared.Tally.TheVariants as tally
 use Rattle.grid_counts.specs.declared.Entries.{Entries}
 use Rattle.grid_counts.specs.declared.Entries.TheVariants as upto
-use Rattle.grid_counts.specs.inner.Tallies.{framed, many_entries, Lines, RowSum, Surveyed, ready, cols_sum, RowReady, RowDone, BodyReady, BodyDone, BodyCounted}
+use Rattle.grid_counts.specs.inner.Tallies.{framed, many_entries, Lines, RowSum, Surveyed, ready, cols_sum, RowReady, RowDone, BodyCounted}
 use Rattle.grid_counts.proofs.Scan.{there, rows_none, rows_more, rows_on}
 
 -- rows of a body whose largest sum is `most`, resolved

@@ -1,23 +1,21 @@
 -- The loop of `count_row` on plain lists: what is counted, with what the cells still to come add, is what the row's cells add. Assumes nothing.
-use mathlib.Core.Path.{◌≡◌, refl, sym, ap, ap₂, subst, ◌∙◌}
-use mathlib.Core.Bool.{cond}
-use mathlib.Core.List.{List, [], ◌∷◌, map}
+use mathlib.Core.Path.{◌≡◌, refl, sym, ap, ap₂, ◌∙◌}
+use mathlib.Core.List.{List, ◌∷◌, map}
 use Prim.Native.Nat.{ℕ, suc, ◌+◌, ◌-◌, ◌*◌, ◌≤◌, ◌<◌, min}
 use native.Mathlib.Decide.{ℕ_discrete}
 use native.Mathlib.Omega.{arith}
-use lib.Dec.{eqb}
 use lib.ListN.{length, get_or, set, length-set}
 use lib.Seq.{get_or-set_same, get_or-set_other}
 use Rattle.lists.specs.Lists.{sum}
 use Rattle.lists.specs.Limits.{max_lines, max_cols, max_position}
 use Rattle.records.specs.Kept.{no_kept}
 use Rattle.records.specs.declared.Kept.{Kept}
-use Rattle.cells.specs.Cells.{Cell, cell, resolve_cell, hangs, taken, cut_cell}
-use Rattle.rows.specs.Row.{Item, item_of}
+use Rattle.cells.specs.Cells.{Cell, cell, resolve_cell, cut_cell}
+use Rattle.rows.specs.Row.{item_of}
 use Rattle.grid_bounds.proofs.Ends.{wide_at, at_same, at_other}
 use Rattle.grid_counts.specs.declared.Tally.{Tally}
 use Rattle.grid_counts.specs.declared.Tally.TheVariants as tally
-use Rattle.grid_counts.specs.inner.Tallies.{framed, many_entries, Lines, Filled, Hanging, ready, cols_sum, rows_taken, wides_of, RowReady, RowDone, RowCounted}
+use Rattle.grid_counts.specs.inner.Tallies.{framed, many_entries, Filled, Hanging, ready, cols_sum, rows_taken, wides_of, RowReady, RowCounted}
 use Rattle.grid_counts.proofs.Scan.{there, cells_none, cells_more, cells_on}
 
 module _ (ks : List Kept) (d instead left : ℕ) where

@@ -1,14 +1,14 @@
 -- The cells of a row, the rows of a body and the bodies of a table, line by line. Assumes nothing.
-use mathlib.Core.Path.{◌≡◌, refl, sym, ap, ◌∙◌}
+use mathlib.Core.Path.{◌≡◌, sym, ap, ◌∙◌}
 use mathlib.Core.List.{List, [], ◌∷◌}
-use Prim.Native.Nat.{ℕ, suc, ◌+◌, ◌-◌, ◌≤◌, ◌<◌}
+use Prim.Native.Nat.{ℕ, ◌+◌, ◌-◌, ◌≤◌, ◌<◌}
 use native.Mathlib.Decide.{dec_lt, ℕ_discrete}
 use native.Mathlib.Omega.{arith}
-use lib.ListN.{length, get_or, drop}
+use lib.ListN.{length, get_or}
 use Rattle.records.specs.Kept.{no_kept}
 use Rattle.records.specs.declared.Kept.{Kept}
-use Rattle.cells.specs.Cells.{Cell, Row, Frame, cell, row, frame, open_body, open_row, open_cell}
-use Rattle.cells.proofs.Lines.{after, frame_stop, frame_body, frame_row, frame_cell, frame_deeper, inside}
+use Rattle.cells.specs.Cells.{Cell, Row, Frame, cell, row, open_body, open_row, open_cell}
+use Rattle.cells.proofs.Lines.{frame_stop, frame_body, frame_row, frame_cell, frame_deeper, inside}
 use Rattle.grid_counts.specs.inner.Tallies.{framed}
 
 abbrev cells_of : Frame → List Cell

@@ -1,7 +1,7 @@
 -- The loops of `row_sum` and of `survey` on plain lists. Assumes nothing.
-use mathlib.Core.Path.{◌≡◌, refl, sym, ap, subst, ◌∙◌}
-use mathlib.Core.List.{List, [], ◌∷◌}
-use Prim.Native.Nat.{ℕ, suc, ◌+◌, ◌-◌, ◌*◌, ◌≤◌, ◌<◌, max}
+use mathlib.Core.Path.{◌≡◌, refl, ap, ◌∙◌}
+use mathlib.Core.List.{List}
+use Prim.Native.Nat.{ℕ, ◌+◌, ◌-◌, ◌*◌, ◌≤◌, ◌<◌, max}
 use native.Mathlib.Decide.{ℕ_discrete}
 use native.Mathlib.Omega.{arith}
 use lib.ListN.{length, get_or, set, length-set}
@@ -10,7 +10,7 @@ use Rattle.lists.specs.Lists.{sum}
 use Rattle.lists.specs.Limits.{max_lines, max_cols}
 use Rattle.records.specs.Kept.{no_kept}
 use Rattle.records.specs.declared.Kept.{Kept}
-use Rattle.cells.specs.Cells.{Cell, Row, cell, row, row_sum, widest}
+use Rattle.cells.specs.Cells.{row_sum, widest}
 use Rattle.grid_counts.specs.inner.Tallies.{framed, Lines, RowSum, BodyReady, Surveyed}
 use Rattle.grid_counts.proofs.Scan.{there, cells_none, cells_more, cells_on, rows_none, rows_more, rows_on}
 

@@ -1,7 +1,7 @@
 -- The loop of `count_table` on plain lists, and the answer. Assumes nothing.
-use mathlib.Core.Path.{◌≡◌, refl, sym, ap, ap₂, subst, ◌∙◌}
+use mathlib.Core.Path.{◌≡◌, sym, ap, ◌∙◌}
 use mathlib.Core.Bool.{Bool, true, false, cond, ◌||◌}
-use mathlib.Core.List.{List, [], ◌∷◌}
+use mathlib.Core.List.{List}
 use Prim.Native.Nat.{ℕ, suc, ◌+◌, ◌-◌, ◌≤◌, ◌<◌, min}
 use native.Mathlib.Decide.{dec_lt}
 use native.Mathlib.Numerals.{add-one}
@@ -16,7 +16,6 @@ use Rattle.cells.specs.Cells.{Row, frame, resolve_body, resolved}
 use Rattle.cells.specs.Listed.{table_rows}
 use Rattle.positions.specs.Positions.{all_rows, ends_past, entry_count}
 use Rattle.grid_bounds.proofs.Tables.{past_bodies, count_bodies, past_none, count_none}
-use Rattle.grid_counts.specs.declared.Count.{Count}
 use Rattle.grid_counts.specs.declared.Count.TheVariants.{Fits, Past, Many}
 use Rattle.grid_counts.specs.Count.{count_of, judged_by}
 use Rattle.grid_counts.specs.inner.Tallies.{framed, many_entries, BodyDone}

@@ -1,6 +1,8 @@
 // Reads settings and a sheet from standard input, and prints how each table of the sheet is laid out, or why it is refused.
 
 // Settings take at most 28 bytes, so a full buffer holds a sheet that is too long.
+#![tactic(auto)]
+
 const INPUT_BYTES: usize = 65565;
 
 // The descriptor of standard input.

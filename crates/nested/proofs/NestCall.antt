@@ -1,8 +1,8 @@
 -- The call `nested`: what is found in the sheet is what it answers and leaves, and of it the third demand holds. Assumes nothing.
 use mathlib.Core.Path.{◌≡◌, refl, sym, ap, ◌∙◌}
 use mathlib.Core.Bool.{Bool, true, false, ◌||◌}
-use mathlib.Core.List.{List, [], ◌∷◌, ◌++◌, map, append-nil}
-use Prim.Native.Nat.{ℕ, ◌-◌, ◌/◌, ◌≤◌, ◌<◌}
+use mathlib.Core.List.{List, [], ◌∷◌, append-nil}
+use Prim.Native.Nat.{ℕ, ◌-◌, ◌/◌, ◌≤◌}
 use native.Mathlib.Omega.{arith}
 use lib.Dec.{ltb}
 use lib.ListN.{length, get_or, take, get_or-map}
@@ -14,7 +14,7 @@ use Rattle.lists.specs.Refusals.{Check, first_answer, verdict_of, passes, if_pas
 use Rattle.lists.specs.declared.Verdict.{Verdict}
 use Rattle.lists.specs.declared.Verdict.TheVariants.{Accepted, Refused as Refuses}
 use Rattle.text.specs.declared.Estimate.{Estimate}
-use Rattle.records.specs.Kept.{no_place, kept_count, kepts_of}
+use Rattle.records.specs.Kept.{no_place, kept_count}
 use Rattle.records.specs.declared.Place.{Place}
 use Rattle.sheet.specs.Sheet.{sheet_lines}
 use Rattle.sheet.specs.Steps.{room_for}
@@ -29,10 +29,9 @@ use Rattle.table.specs.inner.Asked.{OutRoom}
 use Rattle.table.proofs.Grids.{all_cells}
 use Rattle.arguments.specs.Arguments.{any_shorter, nested_arguments}
 use Rattle.arguments.proofs.Shorter.{two_fit, or_false}
-use Rattle.arguments.specs.declared.Settings.{Settings}
 use Rattle.answers.specs.declared.LaidOut.{LaidOut}
 use Rattle.answers.specs.declared.LaidOut.TheVariants as laidOut
-use Rattle.sheet_figures.specs.inner.Opened.{AskedIn, MeasuredIn, OpenedAt, LinesOf}
+use Rattle.sheet_figures.specs.inner.Opened.{AskedIn, MeasuredIn, LinesOf}
 use Rattle.sheet_figures.proofs.Openings.{asked_in}
 use Rattle.sheet_figures.proofs.Tables.{measured_in}
 use Rattle.call_layout.specs.inner.Found as layouts
@@ -50,7 +49,7 @@ use Rattle.passing.specs.declared.Width.{Width}
 use Rattle.passing.specs.declared.Width.TheVariants.{Wide, Without}
 use Rattle.pacing.specs.Sheets.{walk_of}
 use Rattle.nested.specs.Nested.{width_to, told_at, columns_for, xs_for, wides_for, nested_checks, nested_of, NestedAnswer}
-use Rattle.pacing.specs.inner.Found.{SheetOpened, walked_checks, SheetWalked}
+use Rattle.pacing.specs.inner.Found.{walked_checks, SheetWalked}
 use Rattle.nested.specs.inner.Found.{width_for, PlaceIn, nest_in, without_in, NestRead, columns_in, entries_in, NestFound}
 use Rattle.answers.specs.declared.NestedLayout.{NestedLayout}
 use Rattle.answers.specs.declared.NestedLayout.TheVariants as nested

@@ -1,5 +1,7 @@
 // The call `nested`: the layout of one table at the width that the walk gives it. It asks its arguments first; then what is found in the sheet stands
 // in the lent buffers, and in the end it clears what is no figure. A refused call clears all.
+#![tactic(auto)]
+
 mod nesting; // one table, laid out at the width that the walk gives it
 
 ghost use Rattle.std.specs.Prelude.{◌≡◌};

@@ -4,7 +4,7 @@ use mathlib.Core.List.{List, [], ◌∷◌, map}
 use Prim.Native.Nat.{ℕ, zero, suc, ◌+◌, ◌-◌, ◌*◌, ◌/◌, ◌%◌, ◌^◌, ◌≤◌, ◌<◌}
 use native.Mathlib.Nat.{add-zero}
 use native.Mathlib.Omega.{arith}
-use lib.Bits.{bit_and, and_le_l, and_le_r}
+use lib.Bits.{bit_and, and_le_r}
 use lib.Count.{count_trailing_zeros}
 use lib.ListN.{length, get_or, take, drop, length-map}
 use lib.Pow.{shl_exact}
@@ -14,7 +14,7 @@ use Rattle.octets.specs.inner.Digits.{as_number, Octets, Low, Bits, Digitwise, t
 use Rattle.octets.specs.inner.Plain.{PlainFront}
 use Rattle.octets.specs.declared.Plain.{Plain}
 use Rattle.octets.proofs.Lanes.{eight_cases, each_eight, add_each, sum_each, less_each, map_map, tops_are, times, and_bits, base, base_is, mod_digits, div_digits, width, zeros_are, zeros_lt}
-use Rattle.octets.proofs.Fronts.{map_all, bits_octets}
+use Rattle.octets.proofs.Fronts.{map_all}
 
 pub tops_answer : (w : ℕ) → Digitwise Octets top 72340172838076673 w (bit_and w 9259542123273814144 / 128)
 tops_answer w =

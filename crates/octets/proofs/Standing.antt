@@ -2,7 +2,7 @@
 use mathlib.Core.Path.{◌≡◌, refl, sym, ap, ap₂, ◌∙◌}
 use mathlib.Core.Bool.{Bool, true, false, ◌&&◌, false≢true}
 use mathlib.Core.List.{List, [], ◌∷◌, ◌++◌}
-use Prim.Native.Nat.{ℕ, ◌+◌, ◌*◌, ◌≤◌, ◌<◌}
+use Prim.Native.Nat.{ℕ, ◌+◌, ◌≤◌, ◌<◌}
 use native.Mathlib.Numerals.{add-one}
 use native.Mathlib.Omega.{arith}
 use lib.Dec.{ltb}
@@ -10,7 +10,7 @@ use lib.ListN.{length, get_or, take, drop, take-append-drop}
 use lib.Seq.{drop-cons, drop-drop, take-take}
 use borrow.Author.Tests.{ltb-true}
 use Rattle.lists.specs.Lists.{All}
-use Rattle.octets.specs.inner.Digits.{as_number, Octets, Eight}
+use Rattle.octets.specs.inner.Digits.{as_number, Eight}
 
 abbrev byte : ℕ → Type 0
 byte b = b < 256

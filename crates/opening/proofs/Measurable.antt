@@ -20,7 +20,7 @@ use Rattle.sheet.specs.Sheet.{sheet_lines}
 use Rattle.sheet.specs.Steps.{room_for}
 use Rattle.sheet.specs.Reading.{kept_of, reading_of}
 use Rattle.sheet.specs.declared.Reading.{Reading}
-use Rattle.sheet.specs.declared.Reading.TheVariants.{Lines, Refused}
+use Rattle.sheet.specs.declared.Reading.TheVariants.{Lines}
 use Rattle.sheet.proofs.Nests.{lines_ranged, accepted_nested}
 use Rattle.sheet.proofs.Bounds.{accepted_room, accepted_own}
 use Rattle.grid_bounds.specs.Sheets.{Suffice}
@@ -28,7 +28,6 @@ use Rattle.grid_bounds.proofs.Sheets.{suffice_entries}
 use Rattle.estimates.specs.Estimates.{measured, est_of, estimates}
 use Rattle.estimates.specs.Sheet.{own_of, Sheet}
 use Rattle.estimates.specs.Meets.{Measured, CellsMeasured, Lent}
-use Rattle.estimates.specs.inner.Figures.{figures_of}
 use Rattle.estimates.proofs.Laws.{length_all}
 use Rattle.opening.specs.Opening.{kept_lines}
 use Rattle.opening.specs.inner.Opened.{Apt, Opened}

@@ -1,17 +1,16 @@
 -- A sheet that was opened and measured can be walked, and what is told of its lines is told of the sheet. Assumes nothing.
 use mathlib.Core.Path.{◌≡◌, refl, sym, ap, ◌∙◌}
-use mathlib.Core.Bool.{Bool, true, false}
-use mathlib.Core.List.{List, [], ◌++◌, map, append-nil}
-use Prim.Native.Nat.{ℕ, ◌*◌, ◌≤◌, ◌<◌}
+use mathlib.Core.Bool.{Bool}
+use mathlib.Core.List.{List, [], ◌++◌, append-nil}
+use Prim.Native.Nat.{ℕ, ◌*◌, ◌≤◌}
 use native.Mathlib.Omega.{arith}
-use lib.ListN.{length, get_or, take, replicate, length-replicate}
+use lib.ListN.{length, get_or, take}
 use lib.Seq.{get_or-take, length-take-le}
-use Rattle.lists.specs.Limits.{max_position, max_lines}
-use Rattle.lists.specs.Refusals.{Check, first_answer, verdict_of, passes}
+use Rattle.lists.specs.Refusals.{Check, first_answer, verdict_of}
 use Rattle.lists.specs.declared.Verdict.{Verdict}
 use Rattle.lists.specs.declared.Verdict.TheVariants as verdict
 use Rattle.text.specs.declared.Estimate.{Estimate}
-use Rattle.records.specs.Kept.{kept_count, kepts_of, places_of}
+use Rattle.records.specs.Kept.{kept_count, kepts_of}
 use Rattle.records.specs.declared.Kept.{Kept}
 use Rattle.records.specs.declared.Place.{Place}
 use Rattle.records.proofs.Kepts.{kepts_take, length_kepts}
@@ -28,12 +27,10 @@ use Rattle.opening.proofs.Ready.{kept_lined}
 use Rattle.opening.proofs.Measurable.{front_measurable}
 use Rattle.opening.proofs.Passing.{Passed, passed}
 use Rattle.table.proofs.Grids.{all_measured}
-use Rattle.passing.specs.Walk.{walk, narrow_checks}
-use Rattle.passing.specs.inner.Places.{width_place}
+use Rattle.passing.specs.Walk.{narrow_checks}
 use Rattle.walking.specs.inner.Steps.{Walkable}
 use Rattle.walking.specs.inner.Steps as steps
-use Rattle.pacing.specs.Sheets.{walk_of}
-use Rattle.pacing.specs.inner.Found.{SheetOpened, ReadWalkable, WalkRead, walked_checks, SheetWalked}
+use Rattle.pacing.specs.inner.Found.{SheetOpened, ReadWalkable, WalkRead, SheetWalked}
 
 -- ---- opened and measured
 

@@ -1,6 +1,6 @@
 -- What a line passes on, and whether it is too narrow, by the ways of the code. Assumes nothing.
-use mathlib.Core.Path.{◌≡◌, refl, sym, ap, ◌∙◌}
-use mathlib.Core.Bool.{Bool, true, false, cond, ◌&&◌}
+use mathlib.Core.Path.{◌≡◌, sym, ap, ◌∙◌}
+use mathlib.Core.Bool.{true, false}
 use Prim.Native.Nat.{ℕ, ◌-◌, max}
 use lib.Dec.{ltb}
 use Rattle.text.specs.declared.Estimate.{Estimate}

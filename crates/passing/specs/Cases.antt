@@ -23,7 +23,6 @@ use Rattle.table.specs.Laying.{way_in}
 use Rattle.table.specs.Arranging.{boxes_at}
 use Rattle.placing.specs.Place.{place_side, place_down, place_row, place_rows}
 use Rattle.passing.specs.Walk.{takes_off, passed_on, too_narrow, printed_in, cell_width, from_nearest, line_width, walk_to, walk, narrow_from, narrow_checks}
-use Rattle.passing.specs.declared.Width.{Width}
 use Rattle.passing.specs.declared.Width.TheVariants.{Wide, Without}
 
 abbrev ln : (depth kind cols rows own : ℕ) → Kept

@@ -1,5 +1,5 @@
 -- The walk from a sheet's first line down: which width each line gets. Place k holds line k + 1. These are definitions; nothing is assumed.
-use Rattle.std.specs.Prelude.{Bool, true, false, cond, ◌&&◌, ◌||◌, List, [], ◌∷◌, ◌++◌, map, ℕ, zero, suc, ◌+◌, ◌-◌, max, eqb, ltb, length, get_or}
+use Rattle.std.specs.Prelude.{Bool, false, cond, ◌&&◌, ◌||◌, List, [], ◌∷◌, ◌++◌, map, ℕ, zero, suc, ◌+◌, ◌-◌, max, eqb, ltb, length, get_or}
 use Rattle.lists.specs.Refusals.{Check, check}
 use Rattle.text.specs.declared.Estimate.{Estimate}
 use Rattle.kinds.specs.Kinds.{head_kind, quote_kind, ul_kind, ol_kind, dd_kind, cell_kind}

@@ -1,5 +1,7 @@
 // Pointing into the preview of a table that goes sideways: what lies at a character column of a row, which printed cells lie in a stretch of it, and
 // which character joins it to the next row. Each call asks its arguments first, then finds the row in the sheet, and passes over its entries once.
+#![tactic(auto)]
+
 ghost use Rattle.std.specs.Prelude.{◌≡◌, ℕ, ◌≤◌};
 ghost use Rattle.lists.specs.Limits.{max_entries};
 ghost use Rattle.pointing.specs.Point.{placed};

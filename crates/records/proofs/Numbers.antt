@@ -1,5 +1,5 @@
 -- One number of each record: how many, where each stands, and that it is a figure of the records. Assumes nothing.
-use mathlib.Core.Path.{◌≡◌, refl, sym, ap, ◌∙◌}
+use mathlib.Core.Path.{◌≡◌, refl, ap, ◌∙◌}
 use mathlib.Core.List.{List, [], ◌∷◌, map}
 use Prim.Native.Nat.{ℕ, zero, suc, ◌+◌, ◌*◌, ◌/◌, ◌≤◌, ◌<◌}
 use native.Mathlib.Nat.{mul-suc, mul-div-le, mul-le-mul_left, not-suc-le-zero, le_of_suc-le-suc}

@@ -1,5 +1,7 @@
 // Reads cases from standard input, each of them settings and a sheet as the program `layout` takes them, and prints for each what that
 // program prints, and the figures that a layout is made from. A case stands in a frame: `case LENGTH`, a line feed, so many bytes.
+#![tactic(auto)]
+
 ghost use Rattle.std.specs.Prelude.{◌≡◌, ◌+◌, ◌-◌, ◌*◌, ◌≤◌, length};
 ghost use Rattle.writing.specs.Writing.{Place};
 ghost use Rattle.replay.specs.Frames.{Within};

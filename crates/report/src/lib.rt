@@ -1,5 +1,7 @@
 // What the programs `layout` and `explain` print of an input, which holds settings and a sheet: the layout of each table, or why its columns are as wide as
 // they are and which entries are missing. The format is our own: the Rust has no counterpart.
+#![tactic(auto)]
+
 mod each; // each.rt: each table of a walked sheet
 
 ghost use Rattle.std.specs.Prelude.{◌≡◌, ◌≤◌, length};

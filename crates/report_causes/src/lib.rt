@@ -1,5 +1,7 @@
 // What `explain` tells of one table: a line for each of its columns, with its cause, and which of its entries are missing. Causes and missing entries are
 // those of the call `missing`. It is a crate beside `report` so that neither takes long to prove.
+#![tactic(auto)]
+
 mod columns_told; // columns_told.rt: a line for each column, with its cause
 mod losses; // losses.rt: which entries are missing, and how many
 

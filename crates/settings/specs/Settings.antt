@@ -1,14 +1,12 @@
 -- The settings before the sheet in the input of a program: two lines, the first "wrap raw width", the second these three numbers, one
 -- space between, written as in a sheet. These are definitions; nothing is assumed.
-use Rattle.std.specs.Prelude.{Bool, true, false, cond, ◌&&◌, List, [], ◌∷◌, ℕ, ◌+◌, ◌-◌, eqb, length, take, drop}
+use Rattle.std.specs.Prelude.{cond, List, [], ◌∷◌, ℕ, ◌-◌, eqb, length, take, drop}
 use Rattle.lists.specs.Limits.{max_wrap, max_width}
 use Rattle.lists.specs.declared.Verdict.{Verdict}
 use Rattle.lists.specs.declared.Verdict.TheVariants.{Accepted, Refused}
-use Rattle.text.specs.Decimal.{Number}
 use Rattle.kinds.specs.Kinds.{same}
 use Rattle.fields.specs.Lines.{feed}
 use Rattle.fields.specs.Numbers.{Numeral, numeral, unwritten, number_of, up_to, magnitude}
-use Rattle.settings.specs.declared.Given.{Given}
 use Rattle.settings.specs.declared.Settled.{Settled}
 use Rattle.settings.specs.declared.Settled.TheVariants.{Set, Malformed}
 

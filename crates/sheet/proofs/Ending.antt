@@ -2,7 +2,7 @@
 use mathlib.Core.Path.{◌≡◌, refl, sym, ap, ap₂, ◌∙◌}
 use mathlib.Core.Bool.{Bool, true, false, ◌||◌}
 use mathlib.Core.List.{List, [], ◌∷◌, map}
-use Prim.Native.Nat.{ℕ, zero, suc, ◌+◌, ◌≤◌, ◌<◌}
+use Prim.Native.Nat.{ℕ, suc, ◌+◌, ◌≤◌, ◌<◌}
 use native.Mathlib.Numerals.{add-one}
 use native.Mathlib.Omega.{arith}
 use native.Mathlib.Decide.{dec_lt}
@@ -15,7 +15,7 @@ use Rattle.records.specs.Kept.{no_kept, kept_count, kepts_of}
 use Rattle.records.proofs.Kepts.{length_kepts}
 use Rattle.records.specs.declared.Kept.{Kept}
 use Rattle.line.specs.Fields.{Line, no_line}
-use Rattle.sheet.specs.Nesting.{childless, left_empty, depth_at, kind_at}
+use Rattle.sheet.specs.Nesting.{childless, left_empty, depth_at}
 use Rattle.sheet.specs.Sheet.{empty_checks}
 use Rattle.sheet.specs.Reading.{kept_of}
 use Rattle.sheet.specs.Steps.{empty_at, line_end, bare_line, bare}

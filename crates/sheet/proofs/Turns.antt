@@ -14,7 +14,7 @@ use Rattle.kinds.specs.Kinds.{kind_count}
 use Rattle.records.specs.Kept.{kept_with, kepts_of, kept_count}
 use Rattle.records.proofs.Kepts.{length_kepts}
 use Rattle.fields.specs.Lines.{Piece, feeds, pieces, headed, node_pieces, heading_bytes}
-use Rattle.line.specs.Fields.{Line, no_line, Read, read_line, is_unread, has_bad_byte, not_expression, out_of_bounds, or_none}
+use Rattle.line.specs.Fields.{Line, no_line, read_line, is_unread, has_bad_byte, not_expression, out_of_bounds, or_none}
 use Rattle.line.specs.LineAt.{piece_at, node_of, line_in, line_at}
 use Rattle.line.proofs.Pieces.{pieces_at, pieces_end, feeds_at}
 use Rattle.line.proofs.Told.{good_line}

@@ -19,7 +19,7 @@ use Rattle.cells.specs.Cells.{rows_under}
 use Rattle.cells.specs.Cells as cells
 use Rattle.grid.specs.Grid.{table_checks, tables_checks}
 use Rattle.opening.specs.Opening.{kept_lines}
-use Rattle.sheet_figures.specs.Calls.{every_table, check_checks, asked_checks}
+use Rattle.sheet_figures.specs.Calls.{check_checks, asked_checks}
 
 -- a check of another refusal
 abbrev pub Other : Check → Type 0

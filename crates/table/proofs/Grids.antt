@@ -1,8 +1,8 @@
 -- The grid of a table of a measured sheet can be laid out, and what is laid out are the boxes of the definition. Its rows tile the columns, its cells
 -- are later lines, whose estimates stand among the figures, and no least passes its size. Assumes nothing.
-use mathlib.Core.Path.{◌≡◌, refl, sym, ap, ◌∙◌}
+use mathlib.Core.Path.{◌≡◌, sym, ap, ◌∙◌}
 use mathlib.Core.List.{List, [], ◌∷◌, ◌++◌}
-use Prim.Native.Nat.{ℕ, suc, ◌+◌, ◌-◌, ◌/◌, ◌≤◌, ◌<◌}
+use Prim.Native.Nat.{ℕ, ◌+◌, ◌-◌, ◌/◌, ◌≤◌, ◌<◌}
 use native.Mathlib.Omega.{arith}
 use lib.ListN.{length, get_or, take, get_or-map}
 use lib.Seq.{length-take-le, get_or-take}

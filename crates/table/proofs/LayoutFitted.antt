@@ -2,7 +2,6 @@
 use mathlib.Core.List.{List}
 use Prim.Native.Nat.{ℕ, ◌-◌, ◌≤◌}
 use native.Mathlib.Omega.{arith}
-use lib.ListN.{length}
 use Rattle.lists.specs.Limits.{max_size}
 use Rattle.records.specs.declared.Kept.{Kept}
 use Rattle.cells.specs.Cells as cells

@@ -11,7 +11,6 @@ use Rattle.records.specs.Kept.{entry_by, entries_of, row_by, rows_of}
 use Rattle.records.specs.declared.Kept.{Kept}
 use Rattle.records.proofs.Records.{length_of}
 use Rattle.records.proofs.Numbers.{length_numbers, numbers_are}
-use Rattle.cells.specs.Listed.{table_rows}
 use Rattle.grid_bounds.specs.Sheets.{Suffice}
 use Rattle.grid_bounds.proofs.Sheets.{suffice_entries}
 use Rattle.gridding.specs.Packed.{TableReady}

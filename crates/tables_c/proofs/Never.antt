@@ -7,7 +7,7 @@ use Rattle.lists.proofs.All.{all_append}
 use Rattle.records.specs.declared.Kept.{Kept}
 use Rattle.opening.specs.Opening.{kept_lines}
 use Rattle.sheet_figures.proofs.Never.{Other, no_more, more, check_other, asked_other}
-use Rattle.passing.specs.Walk.{narrow_from, narrow_checks}
+use Rattle.passing.specs.Walk.{narrow_from}
 use Rattle.call_estimates.specs.Estimates.{estimates_checks}
 use Rattle.call_grid.specs.Grid.{grid_checks}
 use Rattle.call_layout.specs.Layout.{layout_checks}

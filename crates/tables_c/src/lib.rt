@@ -1,4 +1,6 @@
 // The eleven calls for C and Rust: numbers, lent slices and `#[repr(C)]` structs of numbers alone. A slice crosses as a pointer and a length.
+#![tactic(auto)]
+
 ghost use Rattle.std.specs.Prelude.{◌≡◌};
 ghost use Rattle.lists.specs.Refusals.{verdict_of};
 ghost use Rattle.text.specs.Text.{measure_of};

@@ -9,7 +9,7 @@ use native.Mathlib.Omega.{arith}
 use lib.Dec.{eqb}
 use lib.ListN.{length, get_or, take, drop, set, length-map, length-set, drop_of_length-le, get_or-map}
 use lib.Seq.{drop-cons, get_or-take, length-take-le, get_or-set_same, get_or-set_other}
-use borrow.Author.Tests.{eq-eqb, ne_eqb, eqb-true}
+use borrow.Author.Tests.{eq-eqb, ne_eqb}
 use Rattle.lists.specs.Lists.{mem}
 use Rattle.records.specs.Kept.{no_entry, no_place}
 use Rattle.records.specs.declared.Entry.{Entry}

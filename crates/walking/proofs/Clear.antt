@@ -1,13 +1,12 @@
 -- Slices of zeros hold no width. Assumes nothing.
 use mathlib.Core.Path.{◌≡◌, refl, sym, ◌∙◌}
-use mathlib.Core.List.{List, [], ◌∷◌}
+use mathlib.Core.List.{List}
 use Prim.Native.Nat.{ℕ, zero, suc, ◌+◌, ◌-◌, ◌*◌, ◌/◌, ◌≤◌, ◌<◌}
 use native.Mathlib.Decide.{dec_lt}
 use native.Mathlib.Omega.{arith}
 use lib.ListN.{length, get_or, take, replicate, length-replicate}
 use Rattle.lists.specs.Lists.{padded}
 use Rattle.records.specs.Kept.{no_place, place_by, places_of}
-use Rattle.records.specs.declared.Place.{Place}
 use Rattle.records.proofs.Records.{length_of}
 use Rattle.records.proofs.Kepts.{place_read}
 use Rattle.walking.specs.inner.Steps.{Cleared}

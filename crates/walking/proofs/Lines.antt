@@ -1,14 +1,14 @@
 -- The walk on plain lists: its front stays, the nearest line of a depth, and the table of a cell. Assumes nothing.
 use mathlib.Core.Path.{◌≡◌, refl, sym, ap, ◌∙◌}
-use mathlib.Core.Bool.{Bool, true, false, cond, true≢false}
-use mathlib.Core.List.{List, [], ◌∷◌, ◌++◌}
-use Prim.Native.Nat.{ℕ, zero, suc, ◌+◌, ◌-◌, ◌≤◌, ◌<◌}
+use mathlib.Core.Bool.{true, cond, true≢false}
+use mathlib.Core.List.{List, [], ◌∷◌}
+use Prim.Native.Nat.{ℕ, zero, suc, ◌-◌, ◌≤◌, ◌<◌}
 use native.Mathlib.Nat.{not-suc-le-zero}
 use native.Mathlib.Decide.{dec_lt, ℕ_discrete}
 use native.Mathlib.Omega.{arith}
 use lib.Dec.{eqb}
 use lib.ListN.{length, get_or, length-append, get_or-append}
-use lib.Seq.{get_or_at, get_or-append-add}
+use lib.Seq.{get_or_at}
 use borrow.Author.Tests.{eq-eqb, ne_eqb}
 use Rattle.kinds.specs.Kinds.{table_kind, body_kind, row_kind, cell_kind, is_frame}
 use Rattle.records.specs.Kept.{no_kept}
@@ -20,7 +20,7 @@ use Rattle.estimates.proofs.Nesting.{Allowed, may, parent}
 use Rattle.passing.specs.Walk.{from_nearest, line_width, walk_to}
 use Rattle.walking.specs.inner.Steps.{CellIn}
 use Rattle.passing.specs.declared.Width.{Width}
-use Rattle.passing.specs.declared.Width.TheVariants.{Wide, Without}
+use Rattle.passing.specs.declared.Width.TheVariants.{Without}
 
 -- ---- the front of a walk
 

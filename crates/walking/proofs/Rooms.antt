@@ -1,5 +1,5 @@
 -- The loop over the lines with its slices: what each call asks for is there, the slices keep their lengths, and the answers. Assumes nothing.
-use mathlib.Core.Path.{◌≡◌, refl, sym, ap, ◌∙◌}
+use mathlib.Core.Path.{◌≡◌, refl, ◌∙◌}
 use mathlib.Core.Bool.{Bool, true, false, ◌&&◌}
 use mathlib.Core.List.{List}
 use Prim.Native.Nat.{ℕ, ◌+◌, ◌/◌, ◌*◌, ◌≤◌, ◌<◌}

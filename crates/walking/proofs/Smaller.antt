@@ -1,17 +1,15 @@
 -- No width passes what its line was given: an entry is no wider than its table, and a line passes on no more than it has, or its least width.
 -- Assumes nothing.
-use mathlib.Core.Path.{◌≡◌, refl, sym, ap, ◌∙◌}
+use mathlib.Core.Path.{◌≡◌, refl, ap}
 use mathlib.Core.Bool.{Bool, true, false, cond}
 use mathlib.Core.List.{List, [], ◌∷◌, ◌++◌, map}
 use Prim.Native.Nat.{ℕ, zero, suc, ◌+◌, ◌-◌, ◌≤◌, ◌<◌, max}
-use native.Mathlib.Nat.{not-suc-le-zero}
 use native.Mathlib.Omega.{arith}
 use lib.Dec.{eqb}
-use lib.ListN.{length, get_or, take, drop}
+use lib.ListN.{get_or, take, drop}
 use Rattle.lists.specs.Lists.{sum, Tiles}
 use Rattle.lists.proofs.Tiles.{tiles_start}
 use Rattle.text.specs.declared.Estimate.{Estimate}
-use Rattle.kinds.specs.Kinds.{table_kind}
 use Rattle.records.specs.Kept.{no_kept}
 use Rattle.records.specs.declared.Kept.{Kept}
 use Rattle.columns.specs.Boxes.{Box, box_first, box_span, flat, BoxesTile, TilesAll}
@@ -20,14 +18,14 @@ use Rattle.columns.proofs.Upto.{length_up_to}
 use Rattle.columns.proofs.Listed.{measures_flat}
 use Rattle.columns.proofs.Largest.{largest_least_size}
 use Rattle.cutting.specs.Cut.{gaps}
-use Rattle.widths.specs.Widths.{way_of, final_widths}
+use Rattle.widths.specs.Widths.{final_widths}
 use Rattle.answers.specs.declared.Way.{Way}
 use Rattle.answers.specs.declared.Way.TheVariants.{Sideways, Down}
-use Rattle.widths.proofs.Share.{Final, final}
+use Rattle.widths.proofs.Share.{final}
 use Rattle.widths.proofs.Whole.{side_only}
 use Rattle.placing.specs.Place.{Placed, at, across, place_side, place_down, place_row, place_rows}
 use Rattle.table.specs.Laying.{way_in, places_in}
-use Rattle.passing.specs.Walk.{takes_off, passed_on, printed, printed_in, from_nearest}
+use Rattle.passing.specs.Walk.{takes_off, passed_on, printed_in, from_nearest}
 use Rattle.walking.specs.inner.Steps.{AtMost}
 use Rattle.passing.specs.declared.Width.{Width}
 use Rattle.passing.specs.declared.Width.TheVariants.{Wide, Without}

@@ -2,19 +2,18 @@
 -- the nearest line of each depth passes on what is kept for that depth. Assumes nothing.
 use mathlib.Core.Path.{◌≡◌, refl, sym, ap, ◌∙◌}
 use mathlib.Core.Bool.{Bool, true, false, cond, ◌&&◌}
-use mathlib.Core.List.{List, [], ◌∷◌, map}
-use Prim.Native.Nat.{ℕ, zero, suc, ◌+◌, ◌-◌, ◌≤◌, ◌<◌}
+use mathlib.Core.List.{List, map}
+use Prim.Native.Nat.{ℕ, suc, ◌+◌, ◌-◌, ◌≤◌, ◌<◌}
 use native.Mathlib.Numerals.{add-one}
 use native.Mathlib.Decide.{ℕ_discrete}
 use native.Mathlib.Omega.{arith}
 use lib.Dec.{eqb}
-use lib.ListN.{length, get_or, take, drop, set, length-map, length-set, get_or-map}
+use lib.ListN.{length, get_or, take, drop, set, length-map, get_or-map}
 use lib.Seq.{get_or-take, length-take-le, get_or-set_same, get_or-set_other, ext_get_or}
 use borrow.Author.Tests.{eq-eqb, ne_eqb, eqb-true}
 use Rattle.lists.specs.Limits.{max_size, depths}
 use Rattle.lists.specs.Lists.{All}
 use Rattle.lists.specs.Refusals.{Check, first_answer, verdict_of}
-use Rattle.lists.specs.declared.Verdict.{Verdict}
 use Rattle.lists.specs.declared.Verdict.TheVariants.{Accepted, Refused}
 use Rattle.text.specs.declared.Estimate.{Estimate}
 use Rattle.kinds.specs.Kinds.{table_kind, cell_kind}
@@ -22,9 +21,7 @@ use Rattle.records.specs.Kept.{no_kept, no_place}
 use Rattle.records.specs.declared.Kept.{Kept}
 use Rattle.records.specs.declared.Place.{Place}
 use Rattle.cells.specs.Listed.{table_rows}
-use Rattle.columns.specs.Boxes.{TilesAll}
 use Rattle.grid.specs.Grid.{shown_line, entries_of, grid_of, columns_of}
-use Rattle.grid.specs.Facts.{CellOf}
 use Rattle.grid.proofs.GridFacts.{held_spanned, grid_tiles}
 use Rattle.estimates.specs.Estimates.{none, undone, est_of, measured, estimates}
 use Rattle.estimates.proofs.Laws.{length_all}
@@ -33,13 +30,13 @@ use Rattle.table.specs.inner.Grids.{Fits}
 use Rattle.table.specs.Laying.{places_in}
 use Rattle.table.specs.Arranging.{boxes_at}
 use Rattle.table.proofs.Boxes.{tiles_of_grid}
-use Rattle.passing.specs.Walk.{passed_on, too_narrow, printed_in, width_in, cell_width, from_nearest, passed_by, line_width, walk_to, walk, narrow_at, narrow_from, narrow_checks, given_number, width_number}
+use Rattle.passing.specs.Walk.{passed_on, too_narrow, width_in, cell_width, from_nearest, passed_by, line_width, walk_to, walk, narrow_at, narrow_from, narrow_checks, given_number, width_number}
 use Rattle.passing.specs.inner.Places.{width_place, width_by}
-use Rattle.walking.specs.inner.Steps.{Walkable, AtMost, CellIn, HandedOut, own_width, Stepped, Cleared, Walked}
+use Rattle.walking.specs.inner.Steps.{Walkable, AtMost, CellIn, HandedOut, own_width, Stepped, Cleared}
 use Rattle.passing.specs.declared.Width.{Width}
 use Rattle.passing.specs.declared.Width.TheVariants.{Wide, Without}
-use Rattle.walking.proofs.Lines.{length_walk, walk_past, walk_last, walk_at, walk_stays, nearest_same, one_table, InTable, cell_table, cell_nearest}
-use Rattle.walking.proofs.Smaller.{most_none, most_passed, most_nearest, most_weaker, most_printed, table_low}
+use Rattle.walking.proofs.Lines.{length_walk, walk_past, walk_last, walk_at, walk_stays, nearest_same, one_table, cell_table, cell_nearest}
+use Rattle.walking.proofs.Smaller.{most_passed, most_nearest, most_weaker, most_printed, table_low}
 
 -- ---- numbers
 

@@ -1,11 +1,11 @@
 -- The call `walk`: what is found in the sheet is what it answers and leaves. Assumes nothing.
 use mathlib.Core.Path.{◌≡◌, refl, sym, ap, ◌∙◌}
 use mathlib.Core.Bool.{Bool, true, false, ◌||◌}
-use mathlib.Core.List.{List, [], ◌∷◌, ◌++◌, map, map-map}
+use mathlib.Core.List.{List, [], ◌∷◌, map}
 use Prim.Native.Nat.{ℕ, ◌/◌, ◌≤◌}
 use native.Mathlib.Omega.{arith}
 use lib.Dec.{ltb}
-use lib.ListN.{length, take, length-map}
+use lib.ListN.{length, take}
 use borrow.Author.Tests.{ltb-false}
 use Rattle.lists.specs.Lists.{padded, over}
 use Rattle.lists.specs.Limits.{max_lines, max_wrap, max_width, max_size}
@@ -16,14 +16,13 @@ use Rattle.text.specs.declared.Estimate.{Estimate}
 use Rattle.records.specs.Records.{numbers_of}
 use Rattle.records.specs.Kept.{place_by, places_of}
 use Rattle.records.specs.declared.Place.{Place}
-use Rattle.records.proofs.Records.{length_of}
 use Rattle.sheet.specs.Sheet.{sheet_lines}
 use Rattle.sheet.specs.Steps.{room_for}
 use Rattle.sheet.specs.declared.Reading.{Reading}
 use Rattle.sheet.specs.declared.Reading.TheVariants.{Lines, Refused}
 use Rattle.sheet.proofs.First.{neither, first_told, first_passes, first_accepts, figures_fail, front_pass}
-use Rattle.opening.specs.Opening.{kept_lines, asked}
-use Rattle.arguments.specs.Arguments.{any_shorter, walk_arguments}
+use Rattle.opening.specs.Opening.{asked}
+use Rattle.arguments.specs.Arguments.{walk_arguments}
 use Rattle.arguments.proofs.Shorter.{two_fit}
 use Rattle.sheet_figures.specs.inner.Opened.{lines_in}
 use Rattle.table.proofs.Rooms.{unpacked}

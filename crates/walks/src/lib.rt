@@ -1,5 +1,7 @@
 // The call `walk`: which width each line of a sheet gets from its first line's. It asks its arguments first; then what is found in the sheet stands
 // in the lent buffers, and in the end it clears what is no figure. A refused call clears all.
+#![tactic(auto)]
+
 mod walking_out; // the walk, written to the lent buffers
 
 ghost use Rattle.std.specs.Prelude.{◌≡◌, ◌≤◌};

@@ -1,7 +1,6 @@
 -- `arguments::of_estimates` meets its contract: each return has the tests before it decided. Assumes nothing.
 use mathlib.Core.Path.{sym}
 use Rattle.lists.specs.Refusals.{verdict_of, first_answer}
-use borrow.Author.Rules.{rules}
 use Rattle.arguments.proofs.of_estimates.Goals as goal
 
 pub returns-then-wrap_out : goal.returns-then-wrap_out

@@ -1,7 +1,6 @@
 -- `arguments::of_grid` meets its contract: each return has the tests before it decided. Assumes nothing.
 use mathlib.Core.Path.{sym}
 use Rattle.lists.specs.Refusals.{verdict_of, first_answer}
-use borrow.Author.Rules.{rules}
 use Rattle.arguments.proofs.of_grid.Goals as goal
 
 pub returns-then-any_below : goal.returns-then-any_below

@@ -1,7 +1,6 @@
 -- `arguments::of_pointing` meets its contract: each return has the test before it decided. Assumes nothing.
 use mathlib.Core.Path.{sym}
 use Rattle.lists.specs.Refusals.{verdict_of, first_answer}
-use borrow.Author.Rules.{rules}
 use Rattle.arguments.proofs.of_pointing.Goals as goal
 
 pub returns-then-settings_out : goal.returns-then-settings_out

@@ -3,7 +3,6 @@ use mathlib.Core.Path.{sym}
 use borrow.Author.Tests.{lt-ltb, le-ltb}
 use Rattle.lists.specs.Refusals.{verdict_of, first_answer}
 use Rattle.arguments.proofs.Shorter.{one_shorter}
-use borrow.Author.Rules.{rules}
 use Rattle.arguments.proofs.of_within.Goals as goal
 
 pub returns-then-settings_out : goal.returns-then-settings_out

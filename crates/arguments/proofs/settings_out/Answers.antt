@@ -1,7 +1,6 @@
 -- `arguments::settings_out` meets its contract: each return has the tests before it decided. Assumes nothing.
 use mathlib.Core.Path.{sym}
 use borrow.Author.Tests.{lt-ltb, le-ltb}
-use borrow.Author.Rules.{rules}
 use Rattle.arguments.proofs.settings_out.Goals as goal
 
 pub returns-then-wrap_out : goal.returns-then-wrap_out

@@ -1,6 +1,5 @@
 -- `arguments::walk_out` meets its contract: each return has the tests before it decided. Assumes nothing.
 use mathlib.Core.Path.{sym}
-use borrow.Author.Rules.{rules}
 use Rattle.arguments.proofs.walk_out.Goals as goal
 
 pub returns-then-settings_out : goal.returns-then-settings_out

@@ -4,10 +4,8 @@ use mathlib.Core.Path.{◌≡◌, refl, sym, ap, ◌∙◌}
 use mathlib.Core.Option.{some}
 use Prim.Native.Nat.{◌-◌}
 use native.Mathlib.Omega.{arith}
-use lib.ListN.{length}
-use borrow.Author.Rules.{rules}
 use Rattle.calc.specs.inner.Kept.{room_of, found_of, waiting_of, place_of, opening_at}
-use Rattle.calc.proofs.Sofar.{Sofar, begin, no_opening, opening_told, opens, no_end, not_open, closes, moves, ended_as}
+use Rattle.calc.proofs.Sofar.{begin, no_opening, opening_told, opens, no_end, not_open, closes, moves, ended_as}
 use Rattle.calc.proofs.evaluate.Goals as goal
 use Rattle.calc.proofs.evaluate.Goals.{In-Open}
 

@@ -1,5 +1,4 @@
 -- `calc::measured` meets its contract. The size of a value is within the bounds by `answer_bound`. Assumes nothing.
-use borrow.Author.Rules.{rules}
 use mathlib.Core.Path.{sym, ap, ◌∙◌}
 use Rattle.calc.specs.declared.Measure.TheVariants.{Size}
 use Rattle.calc.specs.Measures.{measure_by, measure_of}

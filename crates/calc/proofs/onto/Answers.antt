@@ -1,5 +1,4 @@
 -- `calc::onto` meets its contract. Nothing before the number, or an operation. Assumes nothing.
-use borrow.Author.Rules.{rules}
 use Rattle.calc.proofs.onto.Goals as goal
 
 pub returns-in-After : goal.returns-in-After

@@ -1,5 +1,4 @@
 -- `calc::opening` meets its contract: the number of open brackets decides first, then the place. Assumes nothing.
-use borrow.Author.Rules.{rules}
 use borrow.Author.Tests.{lt-ltb, le-ltb}
 use Rattle.calc.specs.inner.Kept.{opening_at}
 use Rattle.calc.proofs.opening.Goals as goal

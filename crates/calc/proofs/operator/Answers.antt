@@ -1,5 +1,4 @@
 -- `calc::operator` meets its contract. By the four tests on the byte. Assumes nothing.
-use borrow.Author.Rules.{rules}
 use mathlib.Core.Path.{ap}
 use mathlib.Core.Option.{Option}
 use lib.IntN.{ℤ}
@@ -11,7 +10,7 @@ use Rattle.calc.proofs.operator.Goals as goal
 
 pub returns-then-c-eq42 : goal.returns-then-c-eq42
 unfolding operatorOf
-returns-then-c-eq42 c = 
+returns-then-c-eq42 c =
     record {
       result_value = rw (eq-eqb c.args.c 42 c.if-c-eq42.true);
       small = tt;
@@ -19,7 +18,7 @@ returns-then-c-eq42 c =
 
 pub returns-then-c-eq47 : goal.returns-then-c-eq47
 unfolding operatorOf
-returns-then-c-eq47 c = 
+returns-then-c-eq47 c =
     record {
       result_value = rw (ne_eqb c.args.c 42 c.if-c-eq42.false, eq-eqb c.args.c 47 c.if-c-eq47.true);
       small = tt;
@@ -27,7 +26,7 @@ returns-then-c-eq47 c =
 
 pub returns-then-c-eq43 : goal.returns-then-c-eq43
 unfolding operatorOf
-returns-then-c-eq43 c = 
+returns-then-c-eq43 c =
     record {
       result_value = rw (ne_eqb c.args.c 42 c.if-c-eq42.false, ne_eqb c.args.c 47 c.if-c-eq47.false, eq-eqb c.args.c 43 c.if-c-eq43.true) (ap (λ (z : Option ℤ). want (waiting (both Plus z) (λ x. x))) c.onto-all.ensures);
       small = tt;
@@ -35,7 +34,7 @@ returns-then-c-eq43 c =
 
 pub returns-then-c-eq45 : goal.returns-then-c-eq45
 unfolding operatorOf
-returns-then-c-eq45 c = 
+returns-then-c-eq45 c =
     record {
       result_value = rw (ne_eqb c.args.c 42 c.if-c-eq42.false, ne_eqb c.args.c 47 c.if-c-eq47.false, ne_eqb c.args.c 43 c.if-c-eq43.false, eq-eqb c.args.c 45 c.if-c-eq45.true) (ap (λ (z : Option ℤ). want (waiting (both Minus z) (λ x. x))) c.onto-all-then-c-eq45.ensures);
       small = tt;
@@ -43,7 +42,7 @@ returns-then-c-eq45 c =
 
 pub returns : goal.returns
 unfolding operatorOf
-returns c = 
+returns c =
     record {
       result_value = rw (ne_eqb c.args.c 42 c.if-c-eq42.false, ne_eqb c.args.c 47 c.if-c-eq47.false, ne_eqb c.args.c 43 c.if-c-eq43.false, ne_eqb c.args.c 45 c.if-c-eq45.false);
       small = tt;

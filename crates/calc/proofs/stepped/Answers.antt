@@ -1,5 +1,4 @@
 -- `calc::stepped` meets its contract. By the place and the byte: each case is a law of proofs/Turns.antt. Assumes nothing.
-use borrow.Author.Rules.{rules}
 use mathlib.Core.Path.{sym, ◌∙◌}
 use native.Mathlib.Omega.{arith}
 use Rattle.sums.proofs.Bytes.{at_least}

@@ -1,5 +1,4 @@
 -- `calc::total` meets its contract. By the place. Assumes nothing.
-use borrow.Author.Rules.{rules}
 use mathlib.Core.Path.{ap, ◌∙◌}
 use mathlib.Core.Option.{some}
 use Rattle.calc.specs.inner.Kept.{onto_of}

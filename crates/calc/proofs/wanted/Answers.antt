@@ -1,5 +1,4 @@
 -- `calc::wanted` meets its contract. By the place. Assumes nothing.
-use borrow.Author.Rules.{rules}
 use Rattle.sums.specs.Machine.{wanted as wantedBy}
 use Rattle.calc.proofs.wanted.Goals as goal
 

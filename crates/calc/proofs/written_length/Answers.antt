@@ -1,5 +1,4 @@
 -- `calc::written_length` meets its contract. The digits, and one for the sign. Assumes nothing.
-use borrow.Author.Rules.{rules}
 use Prim.Native.Nat.{◌+◌}
 use native.Mathlib.Omega.{arith}
 use Rattle.calc.proofs.Lengths.{thirteen, ranged, signed_length, plain_length}

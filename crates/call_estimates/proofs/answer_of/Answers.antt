@@ -3,7 +3,6 @@ use mathlib.Core.Path.{sym, ap}
 use native.Mathlib.Omega.{arith}
 use Rattle.sheet_figures.specs.inner.Opened.{lines_in}
 use Rattle.call_estimates.specs.inner.Found.{answer_in}
-use borrow.Author.Rules.{rules}
 use Rattle.call_estimates.proofs.answer_of.Goals as goal
 
 pub overflow_cast-result : goal.overflow_cast-result

@@ -2,7 +2,6 @@
 use mathlib.Core.Path.{ap, ◌∙◌}
 use Rattle.call_estimates.specs.inner.Found.{verdict_in}
 use Rattle.call_estimates.proofs.Answers.{checked}
-use borrow.Author.Rules.{rules}
 use Rattle.call_estimates.proofs.check.Goals as goal
 
 pub returns : goal.returns

@@ -1,28 +1,26 @@
 -- `call_estimates::estimates` meets its contract: what is found stands in the front of the lent buffers, which are long enough where something is
 -- found, and the rest of each is cleared. Assumes nothing.
-use mathlib.Core.Path.{◌∙◌}
 use native.Mathlib.Omega.{arith}
 use Rattle.call_estimates.proofs.Answers.{figures_fit, rooms, answered}
-use borrow.Author.Rules.{rules}
 use Rattle.call_estimates.proofs.estimates.Goals as goal
 
 pub find_estimates-read-requires : goal.find_estimates-read-requires
 find_estimates-read-requires c = figures_fit c.args.wrap _ _ _ _ c.of_estimates-asked.ensures
 
 pub keep_front-requires : goal.keep_front-requires
-keep_front-requires c = 
+keep_front-requires c =
     let n = c.line_count-n.ensures in
     let f = c.find_estimates-read in
     omega (arith, (rooms c.of_estimates-asked.ensures c.find_estimates-read.ensures).0, c.find_estimates-read.auto.size)
 
 pub keep_front-requires-2 : goal.keep_front-requires-2
-keep_front-requires-2 c = 
+keep_front-requires-2 c =
     let n = c.line_count-n.ensures in
     let f = c.find_estimates-read in
     omega (arith, (rooms c.of_estimates-asked.ensures c.find_estimates-read.ensures).1, c.find_estimates-read.auto.least)
 
 pub keep_front-requires-3 : goal.keep_front-requires-3
-keep_front-requires-3 c = 
+keep_front-requires-3 c =
     let n = c.line_count-n.ensures in
     let f = c.find_estimates-read in
     omega (arith, (rooms c.of_estimates-asked.ensures c.find_estimates-read.ensures).2, c.find_estimates-read.auto.prefix)
@@ -31,7 +29,7 @@ pub answer_of-requires : goal.answer_of-requires
 answer_of-requires c = c.find_estimates-read.ensures.few
 
 pub returns : goal.returns
-returns c = 
+returns c =
     let f = c.find_estimates-read in
     answered c.of_estimates-asked.ensures c.find_estimates-read.ensures c.answer_of.ensures c.line_count-n.ensures
     c.find_estimates-read.auto.size c.find_estimates-read.auto.least c.find_estimates-read.auto.prefix c.keep_front.ensures c.keep_front-2.ensures c.keep_front-3.ensures

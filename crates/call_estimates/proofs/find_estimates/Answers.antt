@@ -1,6 +1,5 @@
 -- `call_estimates::find_estimates` meets its contract: refused for the arguments, it has no figures; else what is found in the sheet. Assumes nothing.
 use Rattle.call_estimates.proofs.Answers.{found_early, found_late}
-use borrow.Author.Rules.{rules}
 use Rattle.call_estimates.proofs.find_estimates.Goals as goal
 
 pub estimates_within-requires : goal.estimates_within-requires

@@ -1,7 +1,6 @@
 -- `call_estimates::verdict_of` meets its contract: each arm answers what the definition says of its variant. Assumes nothing.
 use mathlib.Core.Path.{sym, ap}
 use Rattle.call_estimates.specs.inner.Found.{verdict_in}
-use borrow.Author.Rules.{rules}
 use Rattle.call_estimates.proofs.verdict_of.Goals as goal
 
 pub returns-in-Lines : goal.returns-in-Lines

@@ -1,7 +1,6 @@
 -- `call_grid::entry_count` meets its contract: each arm answers what the definition says of its variant. Assumes nothing.
 use mathlib.Core.Path.{sym, ap}
 use Rattle.call_grid.specs.inner.Found.{entries_in}
-use borrow.Author.Rules.{rules}
 use Rattle.call_grid.proofs.entry_count.Goals as goal
 
 pub returns-in-Grid : goal.returns-in-Grid

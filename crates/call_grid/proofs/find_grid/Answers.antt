@@ -1,6 +1,5 @@
 -- `call_grid::find_grid` meets its contract: refused for the arguments, it has no figures; else what is found in the sheet. Assumes nothing.
 use Rattle.call_grid.proofs.Answers.{grid_early, grid_late}
-use borrow.Author.Rules.{rules}
 use Rattle.call_grid.proofs.find_grid.Goals as goal
 
 pub grid_within-requires : goal.grid_within-requires

@@ -1,13 +1,11 @@
 -- The grid of the table in a line of lines that were read, as records and in the lent buffers. These are definitions; nothing is assumed.
 use Rattle.std.specs.Prelude.{◌≡◌, List, map, ℕ, ◌-◌, ◌≤◌, ◌/◌, length, take}
-use Rattle.lists.specs.Limits.{max_entries, max_lines, max_position}
 use Rattle.records.specs.Kept.{kepts_of}
 use Rattle.records.specs.declared.Entry.{Entry}
 use Rattle.records.specs.declared.Row.{Row}
 use Rattle.sheet.specs.declared.Reading.{Reading}
 use Rattle.sheet.specs.declared.Reading.TheVariants.{Lines, Refused as NotRead}
 use Rattle.cells.specs.Listed.{table_rows}
-use Rattle.grid.specs.Grid.{grid_of, columns_of, entries_of}
 use Rattle.gridding.specs.Packed.{TableMade}
 use Rattle.gridding.specs.declared.Counts.{Counts}
 use Rattle.answers.specs.declared.Gridded.{Gridded}

@@ -1,6 +1,5 @@
 -- `call_layout::find_layout` meets its contract: refused for the arguments, it has no figures; else what is found in the sheet. Assumes nothing.
 use Rattle.call_layout.proofs.Answers.{layout_early, layout_late}
-use borrow.Author.Rules.{rules}
 use Rattle.call_layout.proofs.find_layout.Goals as goal
 
 pub layout_within-requires : goal.layout_within-requires

@@ -6,8 +6,7 @@ use native.Mathlib.Omega.{arith}
 use lib.ListN.{length}
 use Rattle.records.specs.Kept.{entry_by, entries_of}
 use Rattle.records.proofs.Records.{length_of}
-use Rattle.causes.proofs.Listing.{Sofar, list_start, list_take, list_pass, list_stop}
-use borrow.Author.Rules.{rules}
+use Rattle.causes.proofs.Listing.{list_start, list_take, list_pass, list_stop}
 use Rattle.causes.proofs.list_missing.Goals as goal
 use Rattle.causes.proofs.list_missing.Goals.{After-index, In-loop-i}
 
@@ -21,8 +20,8 @@ less-at-After-index c = omega (arith, c.loop-i-test.true, length_of 3 entry_by c
 
 -- it ends within the columns
 within : (c : After-index) → c.index-from.result + c.index.result ≤ length c.args.cause.now
-within c = 
-        omega (
+within c =
+    omega (
       arith,
       rw (← c.entry_at-e.ensures) at (c.requires.ends c.loop-i.i (less-at-After-index c)),
       c.index-from.ensures,

@@ -1,13 +1,9 @@
 -- `causes::list_missing` meets its contract. The loop's invariant, `Sofar`: what is listed, with what the rest of the entries gives, is what all give.
 -- A turn lists an entry or passes it; its columns lie within those that have a cause. The measure is the number of entries left. Assumes nothing.
-use mathlib.Core.Path.{refl, ap}
-use Prim.Native.Nat.{ℕ, ◌+◌, ◌-◌, ◌≤◌, ◌<◌}
-use native.Mathlib.Omega.{arith}
+use Prim.Native.Nat.{◌-◌}
 use lib.ListN.{length}
-use Rattle.records.specs.Kept.{entry_by, entries_of}
-use Rattle.records.proofs.Records.{length_of}
-use Rattle.causes.proofs.Listing.{Sofar, list_start, list_take, list_pass, list_stop}
-use borrow.Author.Rules.{rules}
+use Rattle.records.specs.Kept.{entries_of}
+use Rattle.causes.proofs.Listing.{Sofar}
 use Rattle.causes.proofs.list_missing.Given as goal
 
 abbrev pub invariant-loop-i : goal.invariant-loop-i

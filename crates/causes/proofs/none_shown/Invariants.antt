@@ -1,12 +1,9 @@
 -- `causes::none_shown` meets its contract. The loop's invariant: the causes from i on answer what all of them do. The measure is how many are left.
 -- Assumes nothing.
-use mathlib.Core.Path.{◌≡◌, sym, ◌∙◌}
+use mathlib.Core.Path.{◌≡◌}
 use Prim.Native.Nat.{◌-◌, ◌≤◌}
-use native.Mathlib.Omega.{arith}
 use lib.ListN.{length, drop}
 use Rattle.causes.specs.inner.Hidden.{none_shown}
-use Rattle.causes.proofs.Listing.{shown_here, shown_not_here, shown_stop}
-use borrow.Author.Rules.{rules}
 use Rattle.causes.proofs.none_shown.Given as goal
 
 abbrev pub invariant-loop-i : goal.invariant-loop-i

@@ -1,7 +1,6 @@
 -- `causes::number_of` meets its contract: each arm answers what the definition says of its variant. Assumes nothing.
 use mathlib.Core.Path.{sym, ap}
 use Rattle.causes.specs.Causes.{cause_number}
-use borrow.Author.Rules.{rules}
 use Rattle.causes.proofs.number_of.Goals as goal
 
 pub returns-in-Shown : goal.returns-in-Shown

@@ -3,7 +3,6 @@
 use mathlib.Core.Path.{refl}
 use Rattle.sizing.proofs.Columns.{raisable, layable, laid_columns}
 use Rattle.causes.proofs.Telling.{told}
-use borrow.Author.Rules.{rules}
 use Rattle.causes.proofs.tell_columns.Goals as goal
 
 pub raise_columns-requires : goal.raise_columns-requires
@@ -13,6 +12,6 @@ pub lay_columns-requires : goal.lay_columns-requires
 lay_columns-requires c = layable c.requires.entered c.requires.sizes_length c.raise_columns.ensures refl c.requires.few
 
 pub returns : goal.returns
-returns c = 
+returns c =
     told c.requires.sizes_length c.raise_columns.ensures c.write_shares.ensures
     (laid_columns c.requires.entered c.requires.sizes_length c.raise_columns.ensures c.lay_columns.ensures)

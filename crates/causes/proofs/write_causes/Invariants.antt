@@ -1,16 +1,11 @@
 -- `causes::write_causes` meets its contract. The loop's invariant: the first i places have the numbers of the first i columns' causes, and the rest
 -- stands as it did. The measure is the number of columns left. Assumes nothing.
-use mathlib.Core.Path.{◌≡◌, sym, ap, ◌∙◌}
+use mathlib.Core.Path.{◌≡◌}
 use mathlib.Core.List.{List, ◌++◌}
 use Prim.Native.Nat.{ℕ, ◌-◌, ◌≤◌}
-use native.Mathlib.Omega.{arith}
-use lib.ListN.{length, take, drop, length-set}
-use Rattle.lists.proofs.Write.{write_more, write_all}
+use lib.ListN.{length, take, drop}
 use Rattle.columns.specs.Columns.{up_to}
-use Rattle.columns.proofs.Upto.{length_up_to, at_up_to}
-use Rattle.causes.specs.Causes.{cause_number}
 use Rattle.causes.specs.inner.Telling.{number_at}
-use borrow.Author.Rules.{rules}
 use Rattle.causes.proofs.write_causes.Given as goal
 
 -- the number of each column's cause

@@ -7,14 +7,13 @@ use lib.ListN.{get_or, get_or-eq_default}
 use Rattle.records.specs.Kept.{kepts_of, no_kept}
 use Rattle.records.specs.declared.Kept.{Kept}
 use Rattle.records.proofs.Kepts.{length_kepts}
-use borrow.Author.Rules.{rules}
 use Rattle.cells.proofs.below.Goals as goal
 
 pub returns-then-i-count : goal.returns-then-i-count
 returns-then-i-count c = rw c.kept_at-line.ensures
 
 pub returns : goal.returns
-returns c = 
+returns c =
     let a = c.args in
     let ks = kepts_of a.lines.now in
     let e = get_or-eq_default ks no_kept {n = a.i} (omega (arith, length_kepts a.lines.now)) in

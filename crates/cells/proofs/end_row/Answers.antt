@@ -5,11 +5,10 @@ use lib.ListN.{length}
 use Rattle.records.specs.Kept.{row_by}
 use Rattle.cells.specs.Held.{row_line, row_end}
 use Rattle.cells.proofs.Figures.{figure_set, figure_same}
-use borrow.Author.Rules.{rules}
 use Rattle.cells.proofs.end_row.Goals as goal
 
 pub returns : goal.returns
-returns c = 
+returns c =
     let xs = c.args.rows.now in
     let h : c.args.i < length xs / 2 = c.requires in
     let e = c.put_row.ensures in

@@ -4,18 +4,16 @@
 -- finds a row, since a line is at most one deeper than the line before it. The measure is the number of lines left. Assumes nothing.
 -- from the loop's head: the lines, and what is known of the table's line
 use mathlib.Core.Path.{◌≡◌, refl, sym, ap, ◌∙◌}
-use mathlib.Core.List.{List}
 use Prim.Native.Nat.{ℕ, ◌-◌, ◌≤◌, ◌<◌}
 use native.Mathlib.Omega.{arith}
-use lib.ListN.{length, get_or}
+use lib.ListN.{get_or}
 use borrow.Author.Tests.{ltb-true, ltb-false}
 use Rattle.records.specs.Kept.{kepts_of, no_kept, row_by}
 use Rattle.records.specs.declared.Kept.{Kept}
 use Rattle.records.proofs.Kepts.{length_kepts}
 use Rattle.cells.specs.Held.{cell_by, held_line, held_span, held_rows, lines_of, spans_of, rowspans_of, row_line, row_end, row_lines_of, row_ends_of}
 use Rattle.cells.proofs.Figures.{length_figures, figure_put, figures_still}
-use Rattle.cells.proofs.Listing.{Listing, Room, list_start, list_room, body_held, body_rows, list_stop, list_body, some_row, list_row, list_cell, list_deeper}
-use borrow.Author.Rules.{rules}
+use Rattle.cells.proofs.Listing.{Room, list_start, list_room, body_held, body_rows, list_stop, list_body, some_row, list_row, list_cell, list_deeper}
 use Rattle.cells.proofs.list_rows.Goals as goal
 use Rattle.cells.proofs.list_rows.Goals.{After-kept_at-line, At-loop-line, In-loop-line}
 
@@ -24,8 +22,8 @@ top c = ap (λ (k : Kept). k.depth) c.kept_at-table.ensures
 
 -- a line that the loop takes is below the table
 deep : (c : In-loop-line) → (get_or (kepts_of c.args.lines.now) c.args.at no_kept).depth < (get_or (kepts_of c.args.lines.now) c.loop-line.i no_kept).depth
-deep c = 
-        let h : c.kept_at-table.result.depth < (get_or (kepts_of c.args.lines.now) c.loop-line.i no_kept).depth = ltb-true _ _ (sym c.below.ensures ∙ c.loop-line-test.true) in
+deep c =
+    let h : c.kept_at-table.result.depth < (get_or (kepts_of c.args.lines.now) c.loop-line.i no_kept).depth = ltb-true _ _ (sym c.below.ensures ∙ c.loop-line-test.true) in
     let t : c.kept_at-table.result.depth ≡ (get_or (kepts_of c.args.lines.now) c.args.at no_kept).depth = ap (λ (k : Kept). k.depth) c.kept_at-table.ensures in
     omega arith
 
@@ -58,7 +56,7 @@ pub overflow_add-d : goal.overflow_add-d
 overflow_add-d c = omega (arith, room (goal.at.overflow_add-d c).In-loop-line, top (goal.at.overflow_add-d c).At-loop-line)
 
 pub resolve_body-requires : goal.resolve_body-requires
-resolve_body-requires c = 
+resolve_body-requires c =
     record {
       body_rows = record { order = c.loop-line.invariant.0.order; within = omega (arith, room (goal.at.resolve_body-requires c).In-loop-line) };
       body_held = body_held c.requires c.loop-line.invariant.0;
@@ -72,7 +70,7 @@ pub loop-line-smaller-then-e-d : goal.loop-line-smaller-then-e-d
 loop-line-smaller-then-e-d c = omega (arith, room (goal.at.loop-line-smaller-then-e-d c).In-loop-line)
 
 pub loop-line-preserved-then-e-d : goal.loop-line-preserved-then-e-d
-loop-line-preserved-then-e-d c = 
+loop-line-preserved-then-e-d c =
     let b = c.resolve_body in
     let k = b.auto.cells in (
       rw b.ensures.same
@@ -101,7 +99,7 @@ pub loop-line-smaller-then-e-d-2 : goal.loop-line-smaller-then-e-d-2
 loop-line-smaller-then-e-d-2 c = omega (arith, room (goal.at.loop-line-smaller-then-e-d-2 c).In-loop-line)
 
 pub loop-line-preserved-then-e-d-2 : goal.loop-line-preserved-then-e-d-2
-loop-line-preserved-then-e-d-2 c = 
+loop-line-preserved-then-e-d-2 c =
     let p = c.put_row in
     let q = c.row_of.ensures in (
       rw (figure_put 2 row_by row_line _ _ _ _ _ p.ensures q.0, figure_put 2 row_by row_end _ _ _ _ _ p.ensures q.1)
@@ -138,7 +136,7 @@ pub loop-line-smaller-then-e-d-3 : goal.loop-line-smaller-then-e-d-3
 loop-line-smaller-then-e-d-3 c = omega (arith, room (goal.at.loop-line-smaller-then-e-d-3 c).In-loop-line)
 
 pub loop-line-preserved-then-e-d-3 : goal.loop-line-preserved-then-e-d-3
-loop-line-preserved-then-e-d-3 c = 
+loop-line-preserved-then-e-d-3 c =
     let p = c.put_cell in
     let q = c.cell_of.ensures in
     let e = c.end_row in
@@ -165,7 +163,7 @@ pub loop-line-preserved : goal.loop-line-preserved
 loop-line-preserved c = (list_deeper c.requires c.loop-line.invariant.0 (deep (goal.at.loop-line-preserved c).In-loop-line) (λ e. c.if-e-d.false (omega (arith, line (goal.at.loop-line-preserved c).After-kept_at-line, top (goal.at.loop-line-preserved c).At-loop-line))) (λ e. c.if-e-d-2.false (omega (arith, line (goal.at.loop-line-preserved c).After-kept_at-line, top (goal.at.loop-line-preserved c).At-loop-line))) (λ e. c.if-e-d-3.false (omega (arith, line (goal.at.loop-line-preserved c).After-kept_at-line, top (goal.at.loop-line-preserved c).At-loop-line))), c.loop-line.invariant.1, c.loop-line.invariant.2)
 
 pub resolve_body-requires-2 : goal.resolve_body-requires-2
-resolve_body-requires-2 c = 
+resolve_body-requires-2 c =
     let z = c.loop-line.invariant.0 in record {
       body_rows = record { order = z.order; within = omega (arith, z.order, z.few, z.within, z.same_end, c.requires.short, c.requires.end_room) };
       body_held = body_held c.requires c.loop-line.invariant.0;
@@ -173,7 +171,7 @@ resolve_body-requires-2 c =
     }
 
 pub returns : goal.returns
-returns c = 
+returns c =
     let h : (get_or (kepts_of c.args.lines.now) c.loop-line.i no_kept).depth ≤ c.kept_at-table.result.depth = ltb-false _ _ (sym c.below.ensures ∙ c.loop-line-test.false) in
     let b = c.resolve_body-2.ensures in
     rw b.same (list_stop c.requires c.loop-line.invariant.0 (omega (arith, top (goal.at.returns c).At-loop-line)) _ _ b.done)

@@ -3,23 +3,16 @@
 -- line resolves the last body, a row line adds a row to it, a cell line a cell to its last row, and a deeper line nothing. A cell line
 -- finds a row, since a line is at most one deeper than the line before it. The measure is the number of lines left. Assumes nothing.
 -- from the loop's head: the lines, and what is known of the table's line
-use mathlib.Core.Path.{◌≡◌, refl, sym, ap, ◌∙◌}
-use mathlib.Core.List.{List}
-use Prim.Native.Nat.{ℕ, ◌-◌, ◌≤◌, ◌<◌}
-use native.Mathlib.Omega.{arith}
-use lib.ListN.{length, get_or}
-use borrow.Author.Tests.{ltb-true, ltb-false}
-use Rattle.records.specs.Kept.{kepts_of, no_kept, row_by}
-use Rattle.records.specs.declared.Kept.{Kept}
-use Rattle.records.proofs.Kepts.{length_kepts}
-use Rattle.cells.specs.Held.{cell_by, held_line, held_span, held_rows, lines_of, spans_of, rowspans_of, row_line, row_end, row_lines_of, row_ends_of}
-use Rattle.cells.proofs.Figures.{length_figures, figure_put, figures_still}
-use Rattle.cells.proofs.Listing.{Listing, Room, list_start, list_room, body_held, body_rows, list_stop, list_body, some_row, list_row, list_cell, list_deeper}
-use borrow.Author.Rules.{rules}
+use mathlib.Core.Path.{◌≡◌}
+use Prim.Native.Nat.{◌-◌}
+use lib.ListN.{length}
+use Rattle.records.specs.Kept.{kepts_of}
+use Rattle.cells.specs.Held.{lines_of, spans_of, rowspans_of, row_lines_of, row_ends_of}
+use Rattle.cells.proofs.Listing.{Listing}
 use Rattle.cells.proofs.list_rows.Given as goal
 
 abbrev pub invariant-loop-line : goal.invariant-loop-line
-invariant-loop-line l = 
+invariant-loop-line l =
     Listing (kepts_of l.lines) l.at (lines_of l.initial.cells) (spans_of l.initial.cells) (rowspans_of l.initial.cells) (row_lines_of l.initial.rows) (row_ends_of l.initial.rows) (lines_of l.cells) (spans_of l.cells) (rowspans_of l.cells) (row_lines_of l.rows) (row_ends_of l.rows) l.n l.r l.first_cell l.first_row l.i
     × (length l.cells ≡ length l.initial.cells) × (length l.rows ≡ length l.initial.rows)
 

@@ -7,7 +7,6 @@ use Rattle.records.specs.Kept.{row_by}
 use Rattle.cells.specs.Held.{row_end, row_ends_of}
 use Rattle.cells.specs.Spans.{part}
 use Rattle.cells.proofs.Figures.{length_figures, figures_part}
-use borrow.Author.Rules.{rules}
 use Rattle.cells.proofs.resolve_body.Goals as goal
 use Rattle.cells.proofs.resolve_body.Goals.{Start}
 
@@ -47,7 +46,7 @@ pub slice_bounds-resolve_rows-end : goal.slice_bounds-resolve_rows-end
 slice_bounds-resolve_rows-end c = omega (arith, rows_in_fits (goal.at.slice_bounds-resolve_rows-end c).Start)
 
 pub resolve_rows-requires : goal.resolve_rows-requires
-resolve_rows-requires c = 
+resolve_rows-requires c =
     record {
       body_held = rw (ends_are (goal.at.resolve_rows-requires c).Start) c.requires.body_held;
       rows_held = rw (ends_are (goal.at.resolve_rows-requires c).Start) c.requires.rows_held;

@@ -1,10 +1,8 @@
 -- `cells::resolve_row` meets its contract. The loop's invariant (`Resolving`): the first i cells are resolved, the others are as they were, and every
 -- line stays. A turn writes the cell at place i. The measure is the number of cells left. Assumes nothing.
-use Prim.Native.Nat.{◌-◌, ◌/◌}
+use Prim.Native.Nat.{◌-◌}
 use native.Mathlib.Omega.{arith}
-use lib.ListN.{length}
-use Rattle.cells.proofs.Resolving.{Resolving, row_start, row_turn, row_stop}
-use borrow.Author.Rules.{rules}
+use Rattle.cells.proofs.Resolving.{row_start, row_turn, row_stop}
 use Rattle.cells.proofs.resolve_row.Goals as goal
 
 pub loop-i-init : goal.loop-i-init

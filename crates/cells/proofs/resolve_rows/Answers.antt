@@ -10,8 +10,7 @@ use Rattle.cells.specs.Held.{row_end, row_ends_of}
 use Rattle.cells.specs.Spans.{last_end}
 use Rattle.cells.proofs.Figures.{length_figures, figure_at_lem}
 use Rattle.cells.proofs.Bodies.{row_ends_fits}
-use Rattle.cells.proofs.Resolving.{Sofar, start, stop, row_in, here_narrow, here_lacks, turn}
-use borrow.Author.Rules.{rules}
+use Rattle.cells.proofs.Resolving.{start, stop, row_in, here_narrow, here_lacks, turn}
 use Rattle.cells.proofs.resolve_rows.Goals as goal
 use Rattle.cells.proofs.resolve_rows.Goals.{After-row_at-row}
 
@@ -26,8 +25,8 @@ end_is : (c : After-row_at-row) → get_or (row_ends_of c.args.rows.now) c.loop-
 end_is c = figure_at_lem 2 row_by row_end c.args.rows.now c.loop-j.j c.loop-j-test.true ∙ sym (ap row_end c.row_at-row.ensures)
 
 inside : (c : After-row_at-row) → (c.loop-j.from ≤ c.row_at-row.result.end) × (3 * c.row_at-row.result.end ≤ length c.loop-j.cells) × (c.row_at-row.result.end ≤ last_end c.args.first (row_ends_of c.args.rows.now))
-inside c = 
-        let w = row_in c.requires.body_held c.requires.rows_held c.requires.largest_sum c.loop-j.invariant (more c) _ (end_is c) in
+inside c =
+    let w = row_in c.requires.body_held c.requires.rows_held c.requires.largest_sum c.loop-j.invariant (more c) _ (end_is c) in
     (w.0, w.1, omega (arith, (row_ends_fits c.loop-j.invariant.filled.along (more c)).1, end_is c))
 
 pub loop-j-init : goal.loop-j-init

@@ -2,7 +2,7 @@
 -- A turn takes the cell at place i out of that sum (`sum_more`). The whole sum is at most 1,000 for each cell (`sum_small`), so it fits.
 -- The measure is the number of cells left. Assumes nothing.
 use mathlib.Core.Path.{◌≡◌, sym, ap, ◌∙◌}
-use Prim.Native.Nat.{◌+◌, ◌-◌, ◌/◌, ◌≤◌, ◌<◌, max}
+use Prim.Native.Nat.{◌+◌, ◌-◌, ◌/◌, ◌<◌, max}
 use native.Mathlib.Omega.{arith}
 use lib.ListN.{length, get_or, drop}
 use Rattle.cells.specs.Cells.{row_sum}
@@ -10,7 +10,6 @@ use Rattle.cells.specs.Held.{cell_by, held_span, spans_of}
 use Rattle.cells.specs.Spans.{bare}
 use Rattle.cells.proofs.Figures.{length_figures, figure_at_lem}
 use Rattle.cells.proofs.Sums.{sum_more, sum_none, sum_small}
-use borrow.Author.Rules.{rules}
 use Rattle.cells.proofs.row_sum.Goals as goal
 use Rattle.cells.proofs.row_sum.Goals.{After-cell_at-c, At-loop-i}
 
@@ -26,12 +25,12 @@ pub loop-i-init : goal.loop-i-init
 loop-i-init c = (omega (arith, length_figures 3 cell_by held_span c.args.cells.now), omega arith)
 
 pub overflow_add-sum : goal.overflow_add-sum
-overflow_add-sum c = 
+overflow_add-sum c =
     let l = c.loop-i in
     omega (arith, l.invariant, more (goal.at.overflow_add-sum c).At-loop-i c.loop-i-test.true, read (goal.at.overflow_add-sum c).After-cell_at-c, sum_small (spans_of c.args.cells.now) c.requires.narrow, c.requires.few, c.larger-sum.ensures)
 
 pub loop-i-preserved : goal.loop-i-preserved
-loop-i-preserved c = 
+loop-i-preserved c =
     let l = c.loop-i in
     omega (arith, l.invariant, length_figures 3 cell_by held_span c.args.cells.now, more (goal.at.loop-i-preserved c).At-loop-i c.loop-i-test.true, read (goal.at.loop-i-preserved c).After-cell_at-c, c.larger-sum.ensures)
 

@@ -1,16 +1,12 @@
 -- `cells::row_sum` meets its contract. The loop's invariant: what is added up, with the sum of the cells from place i on, is the row's sum.
 -- A turn takes the cell at place i out of that sum (`sum_more`). The whole sum is at most 1,000 for each cell (`sum_small`), so it fits.
 -- The measure is the number of cells left. Assumes nothing.
-use mathlib.Core.Path.{◌≡◌, sym, ap, ◌∙◌}
-use Prim.Native.Nat.{◌+◌, ◌-◌, ◌/◌, ◌≤◌, ◌<◌, max}
-use native.Mathlib.Omega.{arith}
-use lib.ListN.{length, get_or, drop}
+use mathlib.Core.Path.{◌≡◌}
+use Prim.Native.Nat.{◌+◌, ◌-◌, ◌/◌, ◌≤◌}
+use lib.ListN.{length, drop}
 use Rattle.cells.specs.Cells.{row_sum}
-use Rattle.cells.specs.Held.{cell_by, held_span, spans_of}
+use Rattle.cells.specs.Held.{spans_of}
 use Rattle.cells.specs.Spans.{bare}
-use Rattle.cells.proofs.Figures.{length_figures, figure_at_lem}
-use Rattle.cells.proofs.Sums.{sum_more, sum_none, sum_small}
-use borrow.Author.Rules.{rules}
 use Rattle.cells.proofs.row_sum.Given as goal
 
 abbrev pub invariant-loop-i : goal.invariant-loop-i

@@ -1,6 +1,5 @@
 -- `cells::rows_within` meets its contract: rows 0 runs to the last row, and of other rows the test finds the smaller. Assumes nothing.
 use native.Mathlib.Omega.{arith}
-use borrow.Author.Rules.{rules}
 use borrow.Author.Tests.{eq-eqb, ne_eqb}
 use Rattle.cells.proofs.rows_within.Goals as goal
 

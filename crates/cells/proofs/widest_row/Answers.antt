@@ -3,7 +3,7 @@
 -- parts of the slice are within it. The measure is the number of rows left. Assumes nothing.
 use mathlib.Core.Path.{◌≡◌, sym, ap, subst, ◌∙◌}
 use mathlib.Core.List.{List}
-use Prim.Native.Nat.{ℕ, ◌+◌, ◌*◌, ◌-◌, ◌/◌, ◌≤◌, ◌<◌}
+use Prim.Native.Nat.{ℕ, ◌+◌, ◌*◌, ◌-◌, ◌≤◌, ◌<◌}
 use native.Mathlib.Omega.{arith}
 use lib.ListN.{length, get_or, take, drop}
 use Rattle.records.specs.Kept.{row_by}
@@ -12,7 +12,6 @@ use Rattle.cells.specs.Held.{cell_by, held_span, spans_of, row_end, row_ends_of}
 use Rattle.cells.specs.Spans.{bare, part, last_end, Narrow}
 use Rattle.cells.proofs.Figures.{length_figures, figure_at_lem, figures_part}
 use Rattle.cells.proofs.Bodies.{Widening, row_ends_fits, row_narrow, widest_start, widest_more, widest_stop}
-use borrow.Author.Rules.{rules}
 use Rattle.cells.proofs.widest_row.Goals as goal
 use Rattle.cells.proofs.widest_row.Goals.{After-row_at-row}
 
@@ -24,14 +23,14 @@ end_is : (c : After-row_at-row) → get_or (row_ends_of c.args.rows.now) c.loop-
 end_is c = figure_at_lem 2 row_by row_end c.args.rows.now c.loop-j.j c.loop-j-test.true ∙ sym (ap row_end c.row_at-row.ensures)
 
 row_in : (c : After-row_at-row) → (c.loop-j.from ≤ c.row_at-row.result.end) × (c.row_at-row.result.end ≤ last_end c.args.first (row_ends_of c.args.rows.now)) × (3 * c.row_at-row.result.end ≤ length c.args.cells.now)
-row_in c = 
-        let e = row_ends_fits c.loop-j.invariant.along (more c) in
+row_in c =
+    let e = row_ends_fits c.loop-j.invariant.along (more c) in
     (omega (arith, e.0, end_is c), omega (arith, e.1, end_is c), omega (arith, e.1, end_is c, c.requires.held, length_figures 3 cell_by held_span c.args.cells.now))
 
 spans-here : (c : After-row_at-row) → spans_of (take (3 * c.row_at-row.result.end - 3 * c.loop-j.from) (drop (3 * c.loop-j.from) c.args.cells.now))
     ≡ part c.loop-j.from (get_or (row_ends_of c.args.rows.now) c.loop-j.j 0) (spans_of c.args.cells.now)
-spans-here c = 
-        figures_part 3 cell_by held_span (omega arith) c.loop-j.from c.row_at-row.result.end c.args.cells.now (row_in c).0 (row_in c).2
+spans-here c =
+    figures_part 3 cell_by held_span (omega arith) c.loop-j.from c.row_at-row.result.end c.args.cells.now (row_in c).0 (row_in c).2
     ∙ ap (λ (t : ℕ). part c.loop-j.from t (spans_of c.args.cells.now)) (sym (end_is c))
 
 pub loop-j-init : goal.loop-j-init
@@ -62,7 +61,7 @@ pub row_sum-requires : goal.row_sum-requires
 row_sum-requires c = subst Narrow (sym (spans-here (goal.at.row_sum-requires c).After-row_at-row)) (row_narrow c.loop-j.invariant.along (more (goal.at.row_sum-requires c).After-row_at-row) c.requires)
 
 pub loop-j-preserved : goal.loop-j-preserved
-loop-j-preserved c = 
+loop-j-preserved c =
     subst (λ (t : ℕ). Widening c.args.first (row_ends_of c.args.rows.now) (spans_of c.args.cells.now) c.larger-most.result t (c.loop-j.j + 1)) (end_is (goal.at.loop-j-preserved c).After-row_at-row)
     (widest_more c.requires c.loop-j.invariant (more (goal.at.loop-j-preserved c).After-row_at-row) _ _ (c.row_sum.ensures ∙ ap (λ (p : List ℕ). row_sum (bare p)) (spans-here (goal.at.loop-j-preserved c).After-row_at-row)) c.larger-most.ensures)
 

@@ -1,18 +1,10 @@
 -- `cells::widest_row` meets its contract. The loop's invariant, `Widening`: the larger of what is found and of the largest sum of the rows
 -- from row j on is the body's largest sum, and `from` is where row j begins. Each row's cells lie within the body's (`row_ends_fits`), so the
 -- parts of the slice are within it. The measure is the number of rows left. Assumes nothing.
-use mathlib.Core.Path.{◌≡◌, sym, ap, subst, ◌∙◌}
-use mathlib.Core.List.{List}
-use Prim.Native.Nat.{ℕ, ◌+◌, ◌*◌, ◌-◌, ◌/◌, ◌≤◌, ◌<◌}
-use native.Mathlib.Omega.{arith}
-use lib.ListN.{length, get_or, take, drop}
-use Rattle.records.specs.Kept.{row_by}
-use Rattle.cells.specs.Cells.{row_sum}
-use Rattle.cells.specs.Held.{cell_by, held_span, spans_of, row_end, row_ends_of}
-use Rattle.cells.specs.Spans.{bare, part, last_end, Narrow}
-use Rattle.cells.proofs.Figures.{length_figures, figure_at_lem, figures_part}
-use Rattle.cells.proofs.Bodies.{Widening, row_ends_fits, row_narrow, widest_start, widest_more, widest_stop}
-use borrow.Author.Rules.{rules}
+use Prim.Native.Nat.{◌-◌, ◌/◌}
+use lib.ListN.{length}
+use Rattle.cells.specs.Held.{spans_of, row_ends_of}
+use Rattle.cells.proofs.Bodies.{Widening}
 use Rattle.cells.proofs.widest_row.Given as goal
 
 abbrev pub invariant-loop-j : goal.invariant-loop-j

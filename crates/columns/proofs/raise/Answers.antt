@@ -1,17 +1,14 @@
 -- `columns::raise` meets its contract. The loop's invariant: of the part as it was, the first i places are mapped, and the rest stands as it did.
 -- A turn reads the place i, which is not written yet, and stores the larger of it and the value: the map of that place. At the end every
 -- place is passed. The measure is the number of places left. Assumes nothing.
-use mathlib.Core.Path.{◌≡◌}
-use mathlib.Core.List.{◌++◌, map}
-use Prim.Native.Nat.{ℕ, ◌≤◌, ◌-◌, max}
+use Prim.Native.Nat.{ℕ, ◌-◌, max}
 use native.Mathlib.Omega.{arith}
-use lib.ListN.{length, take, drop, length-set}
-use borrow.Author.Rules.{rules}
+use lib.ListN.{length-set}
 use Rattle.columns.proofs.Mapped.{mapped_turn, mapped_end}
 use Rattle.columns.proofs.raise.Goals as goal
 
 pub loop-i-preserved : goal.loop-i-preserved
-loop-i-preserved c = 
+loop-i-preserved c =
     let a = c.args in
     let l = c.loop-i in (
       omega arith,
@@ -20,7 +17,7 @@ loop-i-preserved c =
     )
 
 pub returns : goal.returns
-returns c = 
+returns c =
     let a = c.args in
     let l = c.loop-i in
     mapped_end (λ (x : ℕ). max x a.value) a.part.now l.part l.i l.invariant.2 (omega arith)

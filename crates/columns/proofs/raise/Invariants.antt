@@ -4,10 +4,7 @@
 use mathlib.Core.Path.{◌≡◌}
 use mathlib.Core.List.{◌++◌, map}
 use Prim.Native.Nat.{ℕ, ◌≤◌, ◌-◌, max}
-use native.Mathlib.Omega.{arith}
-use lib.ListN.{length, take, drop, length-set}
-use borrow.Author.Rules.{rules}
-use Rattle.columns.proofs.Mapped.{mapped_turn, mapped_end}
+use lib.ListN.{length, take, drop}
 use Rattle.columns.proofs.raise.Given as goal
 
 abbrev pub invariant-loop-i : goal.invariant-loop-i

@@ -2,7 +2,6 @@
 use mathlib.Core.Path.{sym, ap}
 use Rattle.answers.specs.Numbers.{what_number}
 use Rattle.crossing.specs.Answers.{at_result}
-use borrow.Author.Rules.{rules}
 use Rattle.crossing.proofs.at_result.Goals as goal
 
 pub returns-in-Cell : goal.returns-in-Cell

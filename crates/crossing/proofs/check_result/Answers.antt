@@ -1,7 +1,6 @@
 -- `crossing::check_result` meets its contract: each arm gives what the definition says of its variant. Assumes nothing.
 use mathlib.Core.Path.{sym, ap}
 use Rattle.crossing.specs.Answers.{check_result}
-use borrow.Author.Rules.{rules}
 use Rattle.crossing.proofs.check_result.Goals as goal
 
 pub returns-in-Accepted : goal.returns-in-Accepted

@@ -1,7 +1,6 @@
 -- `crossing::grid_result` meets its contract: each arm gives what the definition says of its variant. Assumes nothing.
 use mathlib.Core.Path.{sym, ap}
 use Rattle.crossing.specs.Answers.{grid_result}
-use borrow.Author.Rules.{rules}
 use Rattle.crossing.proofs.grid_result.Goals as goal
 
 pub returns-in-Grid : goal.returns-in-Grid

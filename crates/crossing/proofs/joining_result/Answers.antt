@@ -2,7 +2,6 @@
 use mathlib.Core.Path.{sym, ap}
 use Rattle.crossing.specs.Answers.{joining_result}
 use Rattle.crossing.proofs.Crossing.{joint_crosses}
-use borrow.Author.Rules.{rules}
 use Rattle.crossing.proofs.joining_result.Goals as goal
 
 pub returns-in-Character : goal.returns-in-Character

@@ -1,7 +1,6 @@
 -- `crossing::joint_number` meets its contract: each arm gives what the definition says of its variant. Assumes nothing.
 use mathlib.Core.Path.{sym, ap}
 use Rattle.answers.specs.Numbers.{joint_number}
-use borrow.Author.Rules.{rules}
 use Rattle.crossing.proofs.joint_number.Goals as goal
 
 pub returns-in-Plain : goal.returns-in-Plain

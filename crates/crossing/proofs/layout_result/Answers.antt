@@ -2,7 +2,6 @@
 use mathlib.Core.Path.{sym, ap}
 use Rattle.crossing.specs.Answers.{layout_result}
 use Rattle.crossing.proofs.Crossing.{layout_crosses}
-use borrow.Author.Rules.{rules}
 use Rattle.crossing.proofs.layout_result.Goals as goal
 
 pub returns-in-Layout : goal.returns-in-Layout

@@ -1,7 +1,6 @@
 -- `crossing::measure_result` meets its contract: each arm gives what the definition says of its variant. Assumes nothing.
 use mathlib.Core.Path.{sym, ap}
 use Rattle.crossing.specs.Answers.{measure_result}
-use borrow.Author.Rules.{rules}
 use Rattle.crossing.proofs.measure_result.Goals as goal
 
 pub returns-in-Figures : goal.returns-in-Figures

@@ -1,7 +1,6 @@
 -- `crossing::missing_result` meets its contract: each arm gives what the definition says of its variant. Assumes nothing.
 use mathlib.Core.Path.{sym, ap}
 use Rattle.crossing.specs.Answers.{missing_result}
-use borrow.Author.Rules.{rules}
 use Rattle.crossing.proofs.missing_result.Goals as goal
 
 pub returns-in-Causes : goal.returns-in-Causes

@@ -2,7 +2,6 @@
 use mathlib.Core.Path.{sym, ap}
 use Rattle.crossing.specs.Answers.{nested_result}
 use Rattle.crossing.proofs.Crossing.{nested_crosses}
-use borrow.Author.Rules.{rules}
 use Rattle.crossing.proofs.nested_result.Goals as goal
 
 pub returns-in-Table : goal.returns-in-Table

@@ -1,7 +1,6 @@
 -- `crossing::walk_result` meets its contract: each arm gives what the definition says of its variant. Assumes nothing.
 use mathlib.Core.Path.{sym, ap}
 use Rattle.crossing.specs.Answers.{walk_result}
-use borrow.Author.Rules.{rules}
 use Rattle.crossing.proofs.walk_result.Goals as goal
 
 pub returns-in-Lines : goal.returns-in-Lines

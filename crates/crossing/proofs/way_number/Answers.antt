@@ -1,7 +1,6 @@
 -- `crossing::way_number` meets its contract: each arm gives what the definition says of its variant. Assumes nothing.
 use mathlib.Core.Path.{sym, ap}
 use Rattle.answers.specs.Numbers.{way_number}
-use borrow.Author.Rules.{rules}
 use Rattle.crossing.proofs.way_number.Goals as goal
 
 pub returns-in-Sideways : goal.returns-in-Sideways

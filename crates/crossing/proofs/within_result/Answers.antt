@@ -1,7 +1,6 @@
 -- `crossing::within_result` meets its contract: each arm gives what the definition says of its variant. Assumes nothing.
 use mathlib.Core.Path.{sym, ap}
 use Rattle.crossing.specs.Answers.{within_result}
-use borrow.Author.Rules.{rules}
 use Rattle.crossing.proofs.within_result.Goals as goal
 
 pub returns-in-Entries : goal.returns-in-Entries

@@ -1,12 +1,11 @@
 -- `cutting::cut_by_level` meets its contract. What is written are the widths at the level and the bound; these fill the room, so they are what the
 -- cutting leaves. Assumes nothing.
 use mathlib.Core.Path.{◌∙◌}
-use borrow.Author.Rules.{rules}
 use Rattle.cutting.proofs.Fill.{filled_cut}
 use Rattle.cutting.proofs.cut_by_level.Goals as goal
 
 pub returns : goal.returns
-returns c = 
+returns c =
     let level = c.find_level-level.result in
     let bound = c.find_bound-bound in
     c.fill_widths.ensures

@@ -3,8 +3,7 @@
 -- cutting is over. The measure is t, which falls by one a turn. Assumes nothing.
 use mathlib.Core.Path.{refl}
 use native.Mathlib.Omega.{arith}
-use borrow.Author.Rules.{rules}
-use Rattle.cutting.proofs.Kept.{Kept, Turn, kept_end, kept_turn}
+use Rattle.cutting.proofs.Kept.{Turn, kept_end, kept_turn}
 use Rattle.cutting.proofs.cut_one_by_one.Goals as goal
 use Rattle.cutting.proofs.cut_one_by_one.Goals.{After-pick_column-p}
 
@@ -12,13 +11,13 @@ use Rattle.cutting.proofs.cut_one_by_one.Goals.{After-pick_column-p}
 turn : (c : After-pick_column-p) → let h = c.loop-t in
     let a = c.args in
     Turn a.leasts.now a.wide.now a.room h.wide h.t c.pick_column-p.result
-turn c = 
-        let h = c.loop-t in
+turn c =
+    let h = c.loop-t in
     kept_turn c.args.leasts.now c.args.wide.now c.args.room h.wide h.t h.invariant c.pick_column-p.result
     c.pick_column-p.ensures c.requires.roomy.enough (omega arith)
 
 pub loop-t-init : goal.loop-t-init
-loop-t-init c = 
+loop-t-init c =
     let p = c.requires in
     (p.roomy.above, p.summed.is, refl, refl)
 
@@ -41,7 +40,7 @@ pub loop-t-preserved : goal.loop-t-preserved
 loop-t-preserved c = (turn (goal.at.loop-t-preserved c).After-pick_column-p).2
 
 pub returns : goal.returns
-returns c = 
+returns c =
     let h = c.loop-t in
     let a = c.args in
     kept_end a.leasts.now a.wide.now a.room h.wide h.t h.invariant (omega arith)

@@ -2,7 +2,6 @@
 -- only widths are cut that overflow. Assumes nothing.
 use mathlib.Core.Path.{ap, ◌∙◌}
 use native.Mathlib.Omega.{arith}
-use borrow.Author.Rules.{rules}
 use Rattle.cutting.specs.Cut.{cut}
 use Rattle.cutting.proofs.cut_widths.Goals as goal
 

@@ -1,10 +1,8 @@
 -- `cutting::fill_widths` meets its contract. The loop's invariant: the first i places have their widths, and the rest stands as it did. A turn reads
 -- the share of column i, which still stands there, and writes the width. The measure is the number of columns left. Assumes nothing.
 use Prim.Native.Nat.{◌-◌}
-use native.Mathlib.Omega.{arith}
 use lib.ListN.{length}
-use borrow.Author.Rules.{rules}
-use Rattle.cutting.proofs.Fill.{Writing, writing_start, writing_share, writing_turn, writing_end}
+use Rattle.cutting.proofs.Fill.{Writing}
 use Rattle.cutting.proofs.fill_widths.Given as goal
 
 abbrev pub invariant-loop-i : goal.invariant-loop-i

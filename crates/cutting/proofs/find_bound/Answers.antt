@@ -2,16 +2,15 @@
 -- between them, or finds that the widths fill the room. Where lo and hi are neighbours the widths at hi are one character more at the most, so those
 -- at lo fill it. The measure is the distance between them. Assumes nothing.
 use mathlib.Core.Path.{◌≡◌, subst, sym, ◌∙◌}
-use Prim.Native.Nat.{ℕ, suc, ◌+◌, ◌≤◌, ◌<◌, ◌-◌, ◌*◌}
+use Prim.Native.Nat.{ℕ, suc, ◌<◌, ◌-◌}
 use native.Mathlib.Omega.{arith}
-use borrow.Author.Rules.{rules}
 use Rattle.lists.specs.Lists.{sum}
 use Rattle.cutting.specs.inner.Fill.{filled}
 use Rattle.cutting.proofs.Fill.{bound_low, bound_high, bound_found}
 use Rattle.cutting.proofs.find_bound.Goals as goal
 
 pub loop-lo-init : goal.loop-lo-init
-loop-lo-init c = 
+loop-lo-init c =
     let ls = c.args.leasts.now in
     let ss = c.args.shares.now in
     let room = c.args.room in
@@ -27,7 +26,7 @@ pub returns-then-t-full : goal.returns-then-t-full
 returns-then-t-full c = sym c.total_at-t.ensures ∙ c.if-t-full.true ∙ c.to_u64-full.ensures
 
 pub returns : goal.returns
-returns c = 
+returns c =
     let l = c.loop-lo in
     let ls = c.args.leasts.now in
     let ss = c.args.shares.now in

@@ -1,17 +1,13 @@
 -- `cutting::find_bound` meets its contract. The loop's invariant: at lo nothing overflows the room, at hi something does. A turn halves what lies
 -- between them, or finds that the widths fill the room. Where lo and hi are neighbours the widths at hi are one character more at the most, so those
 -- at lo fill it. The measure is the distance between them. Assumes nothing.
-use mathlib.Core.Path.{◌≡◌, subst, sym, ◌∙◌}
-use Prim.Native.Nat.{ℕ, suc, ◌+◌, ◌≤◌, ◌<◌, ◌-◌, ◌*◌}
-use native.Mathlib.Omega.{arith}
-use borrow.Author.Rules.{rules}
+use Prim.Native.Nat.{◌+◌, ◌≤◌, ◌<◌, ◌-◌, ◌*◌}
 use Rattle.lists.specs.Lists.{sum}
 use Rattle.cutting.specs.inner.Fill.{filled}
-use Rattle.cutting.proofs.Fill.{bound_low, bound_high, bound_found}
 use Rattle.cutting.proofs.find_bound.Given as goal
 
 abbrev pub invariant-loop-lo : goal.invariant-loop-lo
-invariant-loop-lo l = 
+invariant-loop-lo l =
     (l.lo < l.hi)
     × (l.hi ≤ l.room * 4096 + 4096)
     × (sum (filled l.leasts l.shares l.level l.lo) ≤ l.room)

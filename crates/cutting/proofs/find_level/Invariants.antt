@@ -1,12 +1,8 @@
 -- `cutting::find_level` meets its contract. The loop's invariant: at lo nothing overflows the room, and at the number after hi something does. A turn
 -- halves what lies between them. At the end they are one, which is the level. The measure is the distance between them. Assumes nothing.
-use mathlib.Core.Path.{◌≡◌, subst}
-use Prim.Native.Nat.{ℕ, suc, ◌≤◌, ◌<◌, ◌-◌, ◌/◌}
-use native.Mathlib.Omega.{arith}
-use borrow.Author.Rules.{rules}
+use Prim.Native.Nat.{suc, ◌≤◌, ◌<◌, ◌-◌}
 use Rattle.lists.specs.Lists.{sum}
 use Rattle.cutting.specs.inner.Fill.{filled}
-use Rattle.cutting.proofs.Fill.{level_low, level_high, level_found}
 use Rattle.cutting.proofs.find_level.Given as goal
 
 abbrev pub invariant-loop-lo : goal.invariant-loop-lo

@@ -2,20 +2,18 @@
 -- excess. A turn compares column i with these, and keeps the better of the two with its figures. At the end all columns are passed.
 -- The measure is the number of columns left. Assumes nothing.
 use mathlib.Core.Path.{ap, sym}
-use mathlib.Core.Logic.{⊎_elim}
 use mathlib.Core.Bool.{true, false}
 use Prim.Native.Nat.{◌<◌, ◌-◌}
 use native.Mathlib.Omega.{arith}
 use lib.ListN.{length}
-use borrow.Author.Rules.{rules}
 use Rattle.cutting.specs.Cut.{pick}
-use Rattle.cutting.proofs.Picked.{Scanned, scan_start, scan_turn, scan_end}
+use Rattle.cutting.proofs.Picked.{scan_start, scan_turn, scan_end}
 use Rattle.cutting.proofs.pick_column.Goals as goal
 use Rattle.cutting.proofs.pick_column.Goals.{then-beaten, else-beaten}
 
 pub returns-then-wide-eq0 : goal.returns-then-wide-eq0
 unfolding pick
-returns-then-wide-eq0 c = 
+returns-then-wide-eq0 c =
     let a = c.args in
     ap (pick a.leasts.now a.wide.now) (sym c.if-wide-eq0.true)
 
@@ -23,7 +21,7 @@ pub overflow_sub-e : goal.overflow_sub-e
 overflow_sub-e c = c.requires.1 0
 
 pub loop-i-init : goal.loop-i-init
-loop-i-init c = 
+loop-i-init c =
     let a = c.args in
     scan_start a.leasts.now a.wide.now (omega arith)
 
@@ -31,12 +29,12 @@ pub overflow_sub-f : goal.overflow_sub-f
 overflow_sub-f c = c.requires.1 c.loop-i.i
 
 pub loop-i-preserved : goal.loop-i-preserved
-loop-i-preserved c = 
+loop-i-preserved c =
     let s = c.loop-i.invariant in
     let h : c.loop-i.i < length c.args.wide.now = omega arith in
     let r = c.beaten.ensures in
     elim c.if-beaten.branch [
-      then-beaten w ↦ rw (w.best-is, w.x-is, w.e-is) (scan_turn s h true w.if-beaten.true r)
+      | then-beaten w ↦ rw (w.best-is, w.x-is, w.e-is) (scan_turn s h true w.if-beaten.true r)
       | else-beaten w ↦ rw (w.best-is, w.x-is, w.e-is) (scan_turn s h false w.if-beaten.false r)
     ]
 

@@ -1,15 +1,9 @@
 -- `cutting::pick_column` meets its contract. The loop's invariant: best is the column picked of the first i, and x and e are its width and its
 -- excess. A turn compares column i with these, and keeps the better of the two with its figures. At the end all columns are passed.
 -- The measure is the number of columns left. Assumes nothing.
-use mathlib.Core.Path.{ap, sym}
-use mathlib.Core.Logic.{⊎_elim}
-use mathlib.Core.Bool.{true, false}
-use Prim.Native.Nat.{◌<◌, ◌-◌}
-use native.Mathlib.Omega.{arith}
+use Prim.Native.Nat.{◌-◌}
 use lib.ListN.{length}
-use borrow.Author.Rules.{rules}
-use Rattle.cutting.specs.Cut.{pick}
-use Rattle.cutting.proofs.Picked.{Scanned, scan_start, scan_turn, scan_end}
+use Rattle.cutting.proofs.Picked.{Scanned}
 use Rattle.cutting.proofs.pick_column.Given as goal
 
 abbrev pub invariant-loop-i : goal.invariant-loop-i

@@ -3,11 +3,8 @@
 -- The measure is the number of figures left. Assumes nothing.
 use mathlib.Core.Path.{◌≡◌}
 use Prim.Native.Nat.{◌+◌, ◌-◌, ◌*◌, ◌≤◌}
-use native.Mathlib.Omega.{arith}
 use lib.ListN.{length, drop}
-use borrow.Author.Rules.{rules}
 use Rattle.lists.specs.Lists.{sum}
-use Rattle.cutting.proofs.Sums.{sum_rest, sum_none}
 use Rattle.cutting.proofs.total.Given as goal
 
 abbrev pub invariant-loop-i : goal.invariant-loop-i

@@ -3,13 +3,11 @@
 use mathlib.Core.Path.{◌∙◌}
 use Prim.Native.Nat.{◌-◌}
 use native.Mathlib.Omega.{arith}
-use lib.ListN.{length}
-use borrow.Author.Rules.{rules}
-use Rattle.cutting.proofs.Fill.{Adding, adding_turn, adding_end}
+use Rattle.cutting.proofs.Fill.{adding_turn, adding_end}
 use Rattle.cutting.proofs.total_at.Goals as goal
 
 pub width_at-requires : goal.width_at-requires
-width_at-requires c = 
+width_at-requires c =
     let i = c.loop-i.i in record {
       i_lt_max_lines = omega arith;
       least_le_share = c.requires.below.1 i;
@@ -19,7 +17,7 @@ pub overflow_add-t : goal.overflow_add-t
 overflow_add-t c = omega arith
 
 pub loop-i-preserved : goal.loop-i-preserved
-loop-i-preserved c = 
+loop-i-preserved c =
     let l = c.loop-i in
     adding_turn c.args.leasts.now c.args.shares.now c.args.level c.args.bound c.requires.below.0 l.invariant (omega arith)
     (c.to_u64-t.ensures ∙ c.width_at.ensures) (omega arith)

@@ -1,11 +1,8 @@
 -- `cutting::total_at` meets its contract. The loop's invariant: t with the sum of the widths from i on is the sum of all, and t is at most i times
 -- the largest figure of 32 bits. A turn adds the width of column i. The measure is the number of columns left. Assumes nothing.
-use mathlib.Core.Path.{◌∙◌}
 use Prim.Native.Nat.{◌-◌}
-use native.Mathlib.Omega.{arith}
 use lib.ListN.{length}
-use borrow.Author.Rules.{rules}
-use Rattle.cutting.proofs.Fill.{Adding, adding_turn, adding_end}
+use Rattle.cutting.proofs.Fill.{Adding}
 use Rattle.cutting.proofs.total_at.Given as goal
 
 abbrev pub invariant-loop-i : goal.invariant-loop-i

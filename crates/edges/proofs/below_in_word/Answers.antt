@@ -5,11 +5,10 @@ use native.Mathlib.Omega.{arith}
 use lib.Count.{ones}
 use lib.Pow.{pow_pos}
 use Rattle.edges.proofs.Words.{shifted, masked}
-use borrow.Author.Rules.{rules}
 use Rattle.edges.proofs.below_in_word.Goals as goal
 
 pub overflow_sub-result : goal.overflow_sub-result
-overflow_sub-result c = 
+overflow_sub-result c =
     let k : c.args.p % 64 < 64 = omega arith in
     rw (shifted (c.args.p % 64) k) (pow_pos (c.args.p % 64))
 

@@ -3,8 +3,7 @@
 use Prim.Native.Nat.{◌-◌}
 use native.Mathlib.Omega.{arith}
 use Rattle.edges.specs.Lookup.{Words}
-use Rattle.edges.proofs.CountLoop.{Counting, start, stop, turn, turn_le}
-use borrow.Author.Rules.{rules}
+use Rattle.edges.proofs.CountLoop.{start, stop, turn, turn_le}
 use Rattle.edges.proofs.count_words.Goals as goal
 use Rattle.edges.proofs.count_words.Goals.{After-slice_known-1}
 
@@ -16,12 +15,12 @@ pub loop-i-init : goal.loop-i-init
 loop-i-init c = start _ _ c.requires.counts_len
 
 pub overflow_add-n : goal.overflow_add-n
-overflow_add-n c = 
+overflow_add-n c =
     let l = c.loop-i in
     omega (arith, c.ones_of-n.ensures, turn_le l.invariant (omega arith) (all_words (goal.at.overflow_add-n c).After-slice_known-1))
 
 pub loop-i-preserved : goal.loop-i-preserved
-loop-i-preserved c = 
+loop-i-preserved c =
     let l = c.loop-i in
     turn l.invariant (omega arith) _ c.ones_of-n.ensures
 

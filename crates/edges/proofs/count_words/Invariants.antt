@@ -1,10 +1,7 @@
 -- `count_words` meets its contract. The loop's invariant (`Counting`): n is the count of the ones in the words passed, and each of these has its
 -- count. Each edge's word is passed in the end, since no edge lies above `top`. The measure is how many words are left. Assumes nothing.
 use Prim.Native.Nat.{◌-◌}
-use native.Mathlib.Omega.{arith}
-use Rattle.edges.specs.Lookup.{Words}
-use Rattle.edges.proofs.CountLoop.{Counting, start, stop, turn, turn_le}
-use borrow.Author.Rules.{rules}
+use Rattle.edges.proofs.CountLoop.{Counting}
 use Rattle.edges.proofs.count_words.Given as goal
 
 abbrev pub invariant-loop-i : goal.invariant-loop-i

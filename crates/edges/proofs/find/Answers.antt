@@ -5,12 +5,10 @@ use mathlib.Core.Bool.{true}
 use Prim.Native.Nat.{ℕ, ◌+◌, ◌/◌, ◌≤◌}
 use native.Mathlib.Omega.{arith}
 use lib.ListN.{get_or}
-use borrow.Author.Tests.{not-true, not-false}
 use Rattle.edges.specs.declared.Edge.TheVariants.{At}
 use Rattle.edges.specs.Edges.{is_edge}
 use Rattle.edges.proofs.Words.{is_missing}
 use Rattle.edges.proofs.Lookup.{counted_plain, plain_edge, counted_at_lem, counted_le}
-use borrow.Author.Rules.{rules}
 use Rattle.edges.proofs.find.Goals as goal
 use Rattle.edges.proofs.find.Goals.{After-below_in_word}
 
@@ -21,7 +19,7 @@ at_edge c = sym c.is_edge.ensures ∙ c.if-not-is_edge.false
 -- the number found is at most the position
 small : (c : After-below_in_word) → get_or c.args.counts.now (c.args.p / 64) 0 + c.below_in_word.result
     ≤ c.args.p
-small c =     omega (arith, c.below_in_word.ensures, counted_le c.requires.counted c.args.p c.requires.p_le_max_position (at_edge c))
+small c = omega (arith, c.below_in_word.ensures, counted_le c.requires.counted c.args.p c.requires.p_le_max_position (at_edge c))
 
 pub returns-then-not-is_edge : goal.returns-then-not-is_edge
 returns-then-not-is_edge c = is_missing _ _ (sym c.is_edge.ensures ∙ c.if-not-is_edge.true)
@@ -33,7 +31,7 @@ pub overflow_cast-result : goal.overflow_cast-result
 overflow_cast-result c = omega (arith, small (goal.at.overflow_cast-result c).After-below_in_word, c.requires.p_le_max_position)
 
 pub returns : goal.returns
-returns c = 
+returns c =
     ap (λ (n : ℕ). At (get_or c.args.counts.now (c.args.p / 64) 0 + n)) c.below_in_word.ensures
     ∙ counted_at_lem _ c.args.counts.now c.args.p (at_edge (goal.at.returns c).After-below_in_word)
     ∙ counted_plain c.requires.counted _ c.requires.p_le_max_position

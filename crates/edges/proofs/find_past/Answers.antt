@@ -3,11 +3,9 @@
 use mathlib.Core.Path.{◌≡◌, sym, ap, ◌∙◌}
 use Prim.Native.Nat.{ℕ, ◌+◌}
 use native.Mathlib.Omega.{arith}
-use borrow.Author.Tests.{not-true, not-false}
 use Rattle.edges.specs.Edges.{is_edge, count_below}
 use Rattle.edges.proofs.Counts.{count_le, count_next}
 use Rattle.edges.proofs.Words.{is_missing, is_at}
-use borrow.Author.Rules.{rules}
 use Rattle.edges.proofs.find_past.Goals as goal
 
 pub returns-then-not-is_edge : goal.returns-then-not-is_edge
@@ -17,7 +15,7 @@ pub overflow_add-result : goal.overflow_add-result
 overflow_add-result c = omega (arith, c.requires.n_value, c.requires.s_bound, count_le (is_edge c.args.words.now) c.args.p)
 
 pub returns : goal.returns
-returns c = 
+returns c =
     let f = is_edge c.args.words.now in
     let one : c.args.s ≡ 1 = omega arith in
     is_at _ _ _ (sym c.is_edge.ensures ∙ c.if-not-is_edge.false)

@@ -3,11 +3,10 @@ use Prim.Native.Nat.{◌/◌, ◌%◌, ◌<◌}
 use native.Mathlib.Omega.{arith}
 use lib.ListN.{length}
 use Rattle.edges.proofs.Words.{shifted, marked_edge}
-use borrow.Author.Rules.{rules}
 use Rattle.edges.proofs.insert.Goals as goal
 
 pub returns : goal.returns
-returns c q = 
+returns c q =
     let a = c.args in
     let k : a.p % 64 < 64 = omega arith in
     let i : a.p / 64 < length a.words.now = omega arith in

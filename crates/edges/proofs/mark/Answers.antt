@@ -2,14 +2,13 @@
 -- that the contract says. A turn moves the first end from the one to the other, by what `insert` ensures. The measure is how many
 -- entries are left. Assumes nothing.
 use mathlib.Core.Path.{◌≡◌, sym, ap, ◌∙◌}
-use Prim.Native.Nat.{◌-◌, ◌/◌, ◌≤◌, ◌<◌}
+use Prim.Native.Nat.{◌-◌, ◌≤◌, ◌<◌}
 use native.Mathlib.Omega.{arith}
 use lib.ListN.{length, get_or}
 use Rattle.records.specs.Kept.{entry_by}
 use Rattle.cells.specs.Held.{entry_span, entry_spans_of}
 use Rattle.cells.proofs.Figures.{length_figures, figure_at_lem}
-use Rattle.edges.proofs.MarkLoop.{Marked, mark_start, mark_fits, mark_turn_by, mark_ended, mark_stop}
-use borrow.Author.Rules.{rules}
+use Rattle.edges.proofs.MarkLoop.{mark_start, mark_fits, mark_turn_by, mark_ended, mark_stop}
 use Rattle.edges.proofs.mark.Goals as goal
 use Rattle.edges.proofs.mark.Goals.{After-entry_at-e, After-loop-i, In-loop-i}
 
@@ -29,7 +28,7 @@ pub overflow_add-pos : goal.overflow_add-pos
 overflow_add-pos c = omega (arith, mark_fits c.loop-i.invariant (more (goal.at.overflow_add-pos c).In-loop-i), span-is (goal.at.overflow_add-pos c).After-entry_at-e)
 
 pub insert-requires : goal.insert-requires
-insert-requires c = 
+insert-requires c =
     record {
       words_len = omega (arith, c.loop-i.invariant.long, c.requires.words_len);
       p_le_max_position = omega (arith, mark_fits c.loop-i.invariant (more (goal.at.insert-requires c).In-loop-i), span-is (goal.at.insert-requires c).After-entry_at-e);
@@ -39,7 +38,7 @@ pub loop-i-preserved : goal.loop-i-preserved
 loop-i-preserved c = mark_turn_by c.loop-i.invariant (more (goal.at.loop-i-preserved c).In-loop-i) _ (span-is (goal.at.loop-i-preserved c).After-entry_at-e) _ c.insert.auto.words c.insert.ensures
 
 pub returns : goal.returns
-returns c = 
+returns c =
     record {
       ended = mark_ended c.loop-i.invariant (none_left (goal.at.returns c).After-loop-i);
       marked = mark_stop c.loop-i.invariant (none_left (goal.at.returns c).After-loop-i);

@@ -4,7 +4,7 @@
 -- how many rows are left. Assumes nothing.
 use mathlib.Core.Path.{◌≡◌, refl, sym, ap, subst, ◌∙◌}
 use mathlib.Core.List.{List}
-use Prim.Native.Nat.{ℕ, ◌*◌, ◌-◌, ◌/◌, ◌≤◌, ◌<◌, max}
+use Prim.Native.Nat.{ℕ, ◌*◌, ◌-◌, ◌≤◌, ◌<◌, max}
 use native.Mathlib.Omega.{arith}
 use lib.ListN.{length, get_or, take, drop}
 use Rattle.lists.specs.Lists.{sum}
@@ -13,9 +13,7 @@ use Rattle.records.specs.Kept.{entry_by, row_by}
 use Rattle.cells.specs.Held.{row_end, row_ends_of, entry_span, entry_spans_of}
 use Rattle.cells.proofs.Figures.{length_figures, figure_at_lem, figures_part}
 use Rattle.edges.specs.Edges.{part}
-use Rattle.edges.proofs.Owned.{owned_length}
-use Rattle.edges.proofs.MarkLoop.{RowsMarked, rows_start, rows_fit, rows_turn_by, rows_stop}
-use borrow.Author.Rules.{rules}
+use Rattle.edges.proofs.MarkLoop.{rows_start, rows_fit, rows_turn_by, rows_stop}
 use Rattle.edges.proofs.mark_rows.Goals as goal
 use Rattle.edges.proofs.mark_rows.Goals.{After-row_at-row, In-loop-r}
 
@@ -30,8 +28,8 @@ more-at-After-row_at-row c = omega (arith, length_figures 2 row_by row_end c.arg
 
 -- the row's entries lie within the entries
 row_in : (c : After-row_at-row) → (c.loop-r.start ≤ c.row_at-row.result.end) × (3 * c.row_at-row.result.end ≤ length c.args.entries.now)
-row_in c = 
-        let f = rows_fit c.loop-r.invariant (more-at-After-row_at-row c) in
+row_in c =
+    let f = rows_fit c.loop-r.invariant (more-at-After-row_at-row c) in
     (omega (arith, f.0, end_is c), omega (arith, f.1, end_is c, length_figures 3 entry_by entry_span c.args.entries.now))
 
 part-here : (c : After-row_at-row) → entry_spans_of (take (3 * c.row_at-row.result.end - 3 * c.loop-r.start) (drop (3 * c.loop-r.start) c.args.entries.now))
@@ -67,14 +65,14 @@ pub slice_bounds-mark-end-in-loop-r : goal.slice_bounds-mark-end-in-loop-r
 slice_bounds-mark-end-in-loop-r c = omega (arith, row_in (goal.at.slice_bounds-mark-end-in-loop-r c).After-row_at-row)
 
 pub mark-last-requires : goal.mark-last-requires
-mark-last-requires c = 
+mark-last-requires c =
     record {
       words_len = c.loop-r.invariant.long;
       entries_bound = subst (λ (l : List ℕ). sum l ≤ max_position) (sym (spans-here (goal.at.mark-last-requires c).After-row_at-row)) (rows_fit c.loop-r.invariant (more (goal.at.mark-last-requires c).In-loop-r)).2;
     }
 
 pub loop-r-preserved : goal.loop-r-preserved
-loop-r-preserved c = 
+loop-r-preserved c =
     let m = c.mark-last.ensures in
     let l = c.loop-r in
     let e = part-here (goal.at.loop-r-preserved c).After-row_at-row in
@@ -88,7 +86,7 @@ pub slice_bounds-count_words-end-2 : goal.slice_bounds-count_words-end-2
 slice_bounds-count_words-end-2 c = refl
 
 pub count_words-requires : goal.count_words-requires
-count_words-requires c = 
+count_words-requires c =
     let z = c.loop-r.invariant in record {
       words_len = z.long;
       top_le_max_position = z.small;
@@ -97,7 +95,7 @@ count_words-requires c =
     }
 
 pub returns : goal.returns
-returns c = 
+returns c =
     record {
       counted = c.count_words.ensures;
       marked = rows_stop c.loop-r.invariant (omega (arith, length_figures 2 row_by row_end c.args.rows.now, c.loop-r-test.false));

@@ -1,7 +1,6 @@
 -- `ones_of` meets its contract: 0 has no ones. Assumes nothing.
 use mathlib.Core.Path.{sym, ap}
 use lib.Count.{ones}
-use borrow.Author.Rules.{rules}
 use Rattle.edges.proofs.ones_of.Goals as goal
 
 pub returns-then-w-eq0 : goal.returns-then-w-eq0

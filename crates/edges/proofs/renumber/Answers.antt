@@ -9,26 +9,25 @@ use native.Mathlib.Omega.{arith}
 use lib.ListN.{length, get_or, drop, length-drop}
 use lib.Seq.{length-take-le}
 use Rattle.lists.specs.Limits.{max_position}
-use Rattle.records.specs.Kept.{entry_by, entries_of}
+use Rattle.records.specs.Kept.{entry_by}
 use Rattle.records.proofs.Records.{length_of}
 use Rattle.cells.specs.Held.{figures, entry_cell, entry_span, entry_cells_of, entry_spans_of}
 use Rattle.cells.proofs.Figures.{length_figures}
 use Rattle.edges.specs.Edges.{is_edge, count_below, part}
-use Rattle.edges.proofs.RenumberLoop.{Sofar, found, not_found, start, stop, turn, turn_at, turn_fits, turn_missing, entry_span_lem, entry_cell_lem}
-use borrow.Author.Rules.{rules}
+use Rattle.edges.proofs.RenumberLoop.{found, not_found, start, stop, turn, turn_at, turn_fits, turn_missing, entry_span_lem, entry_cell_lem}
 use Rattle.edges.proofs.renumber.Goals as goal
 use Rattle.edges.proofs.renumber.Goals.{After-entry_at-placed, In-At, In-loop-i, Start}
 
 -- as many entries are the row's
 many : (c : Start) → length (part c.args.at c.args.end (entry_spans_of c.args.entries.now)) ≡ c.args.end - c.args.at
-many c = 
-        length-take-le (c.args.end - c.args.at) (drop c.args.at (entry_spans_of c.args.entries.now))
+many c =
+    length-take-le (c.args.end - c.args.at) (drop c.args.at (entry_spans_of c.args.entries.now))
     (omega (arith, length-drop c.args.at (entry_spans_of c.args.entries.now), c.requires.at_le_end.1, length_figures 3 entry_by entry_span c.args.entries.now, length_of 3 entry_by c.args.entries.now))
 
 -- as many entries are the row's
 many-at-In-loop-i : (c : In-loop-i) → length (part c.args.at c.args.end (entry_spans_of c.args.entries.now)) ≡ c.args.end - c.args.at
-many-at-In-loop-i c = 
-        length-take-le (c.args.end - c.args.at) (drop c.args.at (entry_spans_of c.args.entries.now))
+many-at-In-loop-i c =
+    length-take-le (c.args.end - c.args.at) (drop c.args.at (entry_spans_of c.args.entries.now))
     (omega (arith, length-drop c.args.at (entry_spans_of c.args.entries.now), c.requires.at_le_end.1, length_figures 3 entry_by entry_span c.args.entries.now, length_of 3 entry_by c.args.entries.now))
 
 more : (c : In-loop-i) → c.loop-i.i < length (part c.args.at c.args.end (entry_spans_of c.args.entries.now))
@@ -53,8 +52,8 @@ at_edge c = found _ _ _ (sym c.find_past.ensures ∙ c.in-At.is)
 
 -- as many entries are the row's
 many-at-In-At : (c : In-At) → length (part c.args.at c.args.end (entry_spans_of c.args.entries.now)) ≡ c.args.end - c.args.at
-many-at-In-At c = 
-        length-take-le (c.args.end - c.args.at) (drop c.args.at (entry_spans_of c.args.entries.now))
+many-at-In-At c =
+    length-take-le (c.args.end - c.args.at) (drop c.args.at (entry_spans_of c.args.entries.now))
     (omega (arith, length-drop c.args.at (entry_spans_of c.args.entries.now), c.requires.at_le_end.1, length_figures 3 entry_by entry_span c.args.entries.now, length_of 3 entry_by c.args.entries.now))
 
 more-at-In-At : (c : In-At) → c.loop-i.i < length (part c.args.at c.args.end (entry_spans_of c.args.entries.now))
@@ -82,7 +81,7 @@ pub entry_at-placed-requires : goal.entry_at-placed-requires
 entry_at-placed-requires c = omega (arith, inside (goal.at.entry_at-placed-requires c).In-loop-i)
 
 pub find_past-requires : goal.find_past-requires
-find_past-requires c = 
+find_past-requires c =
     let z = c.loop-i.invariant.0 in record {
       counted = c.requires.counted;
       s_bound = turn_fits c.loop-i.invariant.0 (more (goal.at.find_past-requires c).In-loop-i) _ (span-is (goal.at.find_past-requires c).After-entry_at-placed) c.requires.entries_bound;
@@ -115,8 +114,7 @@ pub loop-i-smaller : goal.loop-i-smaller
 loop-i-smaller c = omega (arith, c.loop-i-test.true)
 
 pub loop-i-preserved : goal.loop-i-preserved
-loop-i-preserved c = 
-    (
+loop-i-preserved c = (
   turn c.loop-i.invariant.0 (more (goal.at.loop-i-preserved c).In-loop-i) _ (span-is (goal.at.loop-i-preserved c).After-entry_at-placed) _ (at_edge (goal.at.loop-i-preserved c).In-At).0 (at_edge (goal.at.loop-i-preserved c).In-At).1 _ (cell_is (goal.at.loop-i-preserved c).After-entry_at-placed) (omega (arith, inside (goal.at.loop-i-preserved c).In-loop-i, length_of 3 entry_by c.loop-i.entries)) _ c.put_entry.ensures,
   c.put_entry.auto.entries ∙ c.loop-i.invariant.1,
 )

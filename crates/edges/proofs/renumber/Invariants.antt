@@ -2,20 +2,13 @@
 -- position on, are the definition of the whole row; the records that are left stand as they stood; the position is an edge and the column its
 -- number. A turn looks the entry's end up from there: at an edge its record is written anew, else the row is refused. The measure is how many
 -- entries are left. Assumes nothing.
-use mathlib.Core.Path.{◌≡◌, refl, sym, ap, ◌∙◌}
-use mathlib.Core.Bool.{true}
-use Prim.Native.Nat.{◌+◌, ◌-◌, ◌/◌, ◌≤◌, ◌<◌}
-use native.Mathlib.Omega.{arith}
-use lib.ListN.{length, get_or, drop, length-drop}
-use lib.Seq.{length-take-le}
-use Rattle.lists.specs.Limits.{max_position}
-use Rattle.records.specs.Kept.{entry_by, entries_of}
-use Rattle.records.proofs.Records.{length_of}
-use Rattle.cells.specs.Held.{figures, entry_cell, entry_span, entry_cells_of, entry_spans_of}
-use Rattle.cells.proofs.Figures.{length_figures}
-use Rattle.edges.specs.Edges.{is_edge, count_below, part}
-use Rattle.edges.proofs.RenumberLoop.{Sofar, found, not_found, start, stop, turn, turn_at, turn_fits, turn_missing, entry_span_lem, entry_cell_lem}
-use borrow.Author.Rules.{rules}
+use mathlib.Core.Path.{◌≡◌}
+use Prim.Native.Nat.{◌-◌}
+use lib.ListN.{length}
+use Rattle.records.specs.Kept.{entries_of}
+use Rattle.cells.specs.Held.{entry_cells_of, entry_spans_of}
+use Rattle.edges.specs.Edges.{is_edge, part}
+use Rattle.edges.proofs.RenumberLoop.{Sofar}
 use Rattle.edges.proofs.renumber.Given as goal
 
 abbrev pub invariant-loop-i : goal.invariant-loop-i

@@ -1,10 +1,8 @@
 -- `eights::bare_line` meets its contract: the number is that of ` 0 0 0 ` and a line feed. Assumes nothing.
 use mathlib.Core.Path.{refl}
-use mathlib.Core.List.{[], ◌∷◌}
 use Rattle.eights.specs.inner.Bytes.{ending}
 use Rattle.octets.proofs.Standing.{stand_given}
 use Rattle.eights.proofs.Told.{untold}
-use borrow.Author.Rules.{rules}
 use Rattle.eights.proofs.bare_line.Goals as goal
 
 pub returns-then-eight-ne-ZEROS : goal.returns-then-eight-ne-ZEROS

@@ -1,11 +1,6 @@
 -- `eights::cell_line` meets its contract: the number is that of ` 0 C R ` and a line feed. Assumes nothing.
-use mathlib.Core.Path.{refl}
-use Prim.Native.Nat.{◌/◌, ◌%◌, ◌-◌}
-use native.Mathlib.Omega.{arith}
-use Rattle.lists.specs.Lists.{All}
-use Rattle.eights.specs.inner.Bytes.{ending}
+use Prim.Native.Nat.{◌-◌}
 use Rattle.eights.proofs.Told.{untold, cell_ends}
-use borrow.Author.Rules.{rules}
 use Rattle.eights.proofs.cell_line.Goals as goal
 
 pub returns-then-end-lt-ZEROS : goal.returns-then-end-lt-ZEROS

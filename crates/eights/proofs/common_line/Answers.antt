@@ -1,6 +1,5 @@
 -- `eights::common_line` meets its contract: a line that has room and begins with a digit is told, of others nothing is. Assumes nothing.
 use Rattle.eights.proofs.Told.{untold}
-use borrow.Author.Rules.{rules}
 use Rattle.eights.proofs.common_line.Goals as goal
 
 pub returns-then-bytes-lt-LONGEST : goal.returns-then-bytes-lt-LONGEST

@@ -2,7 +2,6 @@
 use mathlib.Core.Path.{refl}
 use Rattle.octets.proofs.Standing.{stand_given}
 use Rattle.eights.proofs.Told.{untold, cell_front, row_front, body_front, table_front, text_front, text_end, cell_told, row_told, body_told, table_told, text_told}
-use borrow.Author.Rules.{rules}
 use Rattle.eights.proofs.line_with.Goals as goal
 
 pub returns-then-front-eq-CELL_FRONT : goal.returns-then-front-eq-CELL_FRONT

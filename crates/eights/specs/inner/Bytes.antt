@@ -6,8 +6,6 @@ use Rattle.text.specs.declared.Front.{Front}
 use Rattle.kinds.specs.Kinds.{text_kind, cell_kind}
 use Rattle.fields.specs.Lines.{feed}
 use Rattle.eights.specs.declared.Brief.{Brief}
-use Rattle.eights.specs.declared.Common.{Common}
-use Rattle.eights.specs.declared.Common.TheVariants.{Line}
 
 -- a depth of one digit stands at the place, and room for a line
 pub record Digit (s : List ℕ) (at depth : ℕ) : Type 0 where

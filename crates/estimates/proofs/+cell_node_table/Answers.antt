@@ -3,20 +3,17 @@
 -- that holds nothing without a call, by the laws that `cell` has for it), whose grid it makes once they are passed. The loops' invariants
 -- say that the lines passed have their estimates, and that what is combined so far, with the lines left, comes to the whole. The measure is
 -- twice the lines left, and one more for `node`, which may call for its own line. Assumes nothing.
-use Prim.Native.Nat.{ℕ, ◌+◌, ◌*◌, ◌-◌, ◌<◌}
-use mathlib.Core.Logic.{⊎_elim}
-use mathlib.Core.Path.{◌≡◌, refl, sym, ◌∙◌}
+use Prim.Native.Nat.{◌+◌, ◌-◌, ◌<◌}
+use mathlib.Core.Path.{refl, sym, ◌∙◌}
 use lib.ListN.{length}
 use native.Mathlib.Omega.{arith}
-use borrow.Author.Rules.{rules}
-use Rattle.records.specs.Kept.{kepts_of, kept_count}
+use Rattle.records.specs.Kept.{kepts_of}
 use Rattle.records.proofs.Kepts.{length_kepts}
 use Rattle.estimates.specs.Sheet.{line_at}
-use Rattle.estimates.specs.inner.Figures.{figures_of}
 use Rattle.estimates.specs.inner.Cycle.{Ends, Holder}
 use Rattle.estimates.proofs.Passing.{begin}
-use Rattle.estimates.proofs.Children.{inside, roomy, again, deeper, no_deeper, CellLoop, cell_start, cell_child, cell_again, cell_leaf, cell_fits, cell_end, plain_holder, leaf_meets, table_meets, holder_ready, holder_meets}
-use Rattle.estimates.proofs.Framing.{TableLoop, table_start, table_cell, table_again, table_unfilled, table_ready, table_end}
+use Rattle.estimates.proofs.Children.{inside, roomy, again, deeper, no_deeper, cell_start, cell_child, cell_again, cell_leaf, cell_fits, cell_end, plain_holder, leaf_meets, table_meets, holder_ready, holder_meets}
+use Rattle.estimates.proofs.Framing.{table_start, table_again, table_unfilled, table_ready, table_end}
 use Rattle.estimates.specs.Sheet.{line_at}
 use Rattle.estimates.proofs.+cell_node_table.Goals as goal
 use Rattle.estimates.proofs.+cell_node_table.Goals.{table-else-loop-i-test, table-then-loop-i-test+then-line-top}
@@ -43,11 +40,13 @@ pub cell-node-next-requires : goal.cell-node-next-requires
 cell-node-next-requires t c =
     let within : c.loop-i.i < length (kepts_of c.args.lines.now) = inside c.requires.node_ready (omega (arith, c.loop-i-test.true, c.count-n.ensures)) in
     let ls = kepts_of c.args.lines.now in
-    let deep : (line_at ls c.args.at).depth < (line_at ls c.loop-i.i).depth = deeper ls c.args.at c.loop-i.i c.kept_at-top.ensures c.kept_at-line.ensures c.if-line-top.false in
-    (omega (arith, c.decreases, c.loop-i-test.true, c.count-n.ensures, c.loop-i.invariant.4.passed.after), (
-      again c.requires.node_ready c.loop-i.invariant.0 c.loop-i.invariant.1 c.loop-i.invariant.2 c.loop-i.invariant.3 (omega (arith, c.loop-i-test.true, c.count-n.ensures)),
-      cell_child c.requires.node_ready.sheet c.requires.holder c.loop-i.invariant.4 within deep,
-    ))
+    let deep : (line_at ls c.args.at).depth < (line_at ls c.loop-i.i).depth = deeper ls c.args.at c.loop-i.i c.kept_at-top.ensures c.kept_at-line.ensures c.if-line-top.false in (
+      omega (arith, c.decreases, c.loop-i-test.true, c.count-n.ensures, c.loop-i.invariant.4.passed.after),
+      (
+        again c.requires.node_ready c.loop-i.invariant.0 c.loop-i.invariant.1 c.loop-i.invariant.2 c.loop-i.invariant.3 (omega (arith, c.loop-i-test.true, c.count-n.ensures)),
+        cell_child c.requires.node_ready.sheet c.requires.holder c.loop-i.invariant.4 within deep,
+      ),
+    )
 
 pub cell-overflow_add-sum-else-is_leaf : goal.cell-overflow_add-sum-else-is_leaf
 cell-overflow_add-sum-else-is_leaf t c =
@@ -112,7 +111,7 @@ pub table-table_figures-requires : goal.table-table_figures-requires
 table-table_figures-requires t c =
     let ls = kepts_of c.args.lines.now in
     let left : Ends ls (line_at ls c.args.at).depth c.loop-i.i = elim c.loop-i-test.branch [
-      table-else-loop-i-test w ↦ λ h. absurd (omega (arith, w.loop-i-test.false, c.count-n.ensures, length_kepts c.args.lines.now))
+      | table-else-loop-i-test w ↦ λ h. absurd (omega (arith, w.loop-i-test.false, c.count-n.ensures, length_kepts c.args.lines.now))
       | table-then-loop-i-test+then-line-top w ↦ λ h. no_deeper ls c.args.at c.loop-i.i c.kept_at-top.ensures w.kept_at-line.ensures w.if-line-top.true
     ] in
     table_ready _ _ _ c.requires.node_ready c.requires.at_value c.loop-i.invariant.4 left c.loop-i.invariant.1 c.loop-i.invariant.2 c.loop-i.invariant.3
@@ -121,7 +120,7 @@ pub table-returns : goal.table-returns
 table-returns t c =
     let ls = kepts_of c.args.lines.now in
     let left : Ends ls (line_at ls c.args.at).depth c.loop-i.i = elim c.loop-i-test.branch [
-      table-else-loop-i-test w ↦ λ h. absurd (omega (arith, w.loop-i-test.false, c.count-n.ensures, length_kepts c.args.lines.now))
+      | table-else-loop-i-test w ↦ λ h. absurd (omega (arith, w.loop-i-test.false, c.count-n.ensures, length_kepts c.args.lines.now))
       | table-then-loop-i-test+then-line-top w ↦ λ h. no_deeper ls c.args.at c.loop-i.i c.kept_at-top.ensures w.kept_at-line.ensures w.if-line-top.true
     ] in
     let r = c.requires.node_ready in

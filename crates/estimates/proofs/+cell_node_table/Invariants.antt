@@ -1,7 +1,7 @@
 -- The cycle `node`, `table`, `cell`: each call passes a line and all below it. The loops' invariants say that the lines passed have their
 -- estimates, and that what is combined so far, with the lines left, comes to the whole. The measure is twice the lines left, and one more for
 -- `node`, which may call for its own line. Assumes nothing.
-use Prim.Native.Nat.{ℕ, ◌+◌, ◌*◌, ◌-◌}
+use Prim.Native.Nat.{◌+◌, ◌*◌, ◌-◌}
 use mathlib.Core.Path.{◌≡◌}
 use lib.ListN.{length}
 use Rattle.records.specs.Kept.{kepts_of, kept_count}

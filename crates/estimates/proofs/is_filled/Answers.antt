@@ -3,7 +3,6 @@ use mathlib.Core.Path.{sym}
 use mathlib.Core.Bool.{true≢false}
 use native.Mathlib.Omega.{arith}
 use borrow.Author.Tests.{ltb-false}
-use borrow.Author.Rules.{rules}
 use Rattle.records.proofs.Kepts.{length_kepts}
 use Rattle.estimates.proofs.is_filled.Goals as goal
 
@@ -11,14 +10,14 @@ pub returns-then-line-ne-CELL : goal.returns-then-line-ne-CELL
 returns-then-line-ne-CELL c = record { cell = λ e. absurd (true≢false (sym e)); bare = λ e k. absurd (c.if-line-ne-CELL.true (rw c.kept_at-line.ensures k)) }
 
 pub returns-then-next-count : goal.returns-then-next-count
-returns-then-next-count c = 
+returns-then-next-count c =
     record {
       cell = λ e. absurd (true≢false (sym e));
       bare = λ e k h. absurd (omega (arith, c.if-next-count.true, c.count.ensures, length_kepts c.args.lines.now));
     }
 
 pub returns : goal.returns
-returns c = 
+returns c =
     record {
       cell = λ e. rw (← c.kept_at-line.ensures) c.if-line-ne-CELL.false;
       bare = λ e k h. rw (← c.kept_at-after.ensures, ← c.kept_at-line.ensures) (ltb-false _ _ e);

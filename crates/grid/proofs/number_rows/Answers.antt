@@ -3,18 +3,16 @@
 -- `renumber`: at edges one row's records more are written, else the rows are refused. The measure is how many rows are left. Assumes nothing.
 use mathlib.Core.Path.{◌≡◌, refl, sym, ap, subst, ◌∙◌}
 use mathlib.Core.List.{List}
-use Prim.Native.Nat.{ℕ, ◌-◌, ◌/◌, ◌≤◌, ◌<◌}
+use Prim.Native.Nat.{ℕ, ◌-◌, ◌≤◌, ◌<◌}
 use native.Mathlib.Omega.{arith}
 use lib.ListN.{length, get_or}
 use Rattle.lists.specs.Lists.{sum}
 use Rattle.lists.specs.Limits.{max_position}
 use Rattle.records.specs.Kept.{entry_by, row_by, entries_of}
 use Rattle.records.proofs.Records.{length_of}
-use Rattle.cells.specs.Held.{figures, row_end, row_ends_of, entry_span, entry_cells_of, entry_spans_of}
+use Rattle.cells.specs.Held.{figures, row_end, row_ends_of, entry_span}
 use Rattle.cells.proofs.Figures.{length_figures, figure_at_lem}
-use Rattle.edges.specs.Edges.{is_edge}
-use Rattle.grid.proofs.NumberLoop.{Sofar, start, stop, fits, same_spans, same_row, turn, turn_missing}
-use borrow.Author.Rules.{rules}
+use Rattle.grid.proofs.NumberLoop.{start, stop, fits, same_spans, same_row, turn, turn_missing}
 use Rattle.grid.proofs.number_rows.Goals as goal
 use Rattle.grid.proofs.number_rows.Goals.{After-row_at-row, In-loop-r}
 
@@ -29,7 +27,7 @@ loop-r-init c = (start _ _ _ _ _ c.requires.rows_fit, refl)
 
 pub renumber-requires : goal.renumber-requires
 unfolding figures
-renumber-requires c = 
+renumber-requires c =
     let z = c.loop-r.invariant.0 in
     let f = fits c.loop-r.invariant.0 (more (goal.at.renumber-requires c).In-loop-r) _ (end_is (goal.at.renumber-requires c).After-row_at-row) in
     let e = same_spans c.loop-r.start c.row_at-row.result.end (entries_of c.args.entries.now) (entries_of c.loop-r.entries) z.kept in record {
@@ -45,8 +43,7 @@ returns-in_default c = turn_missing c.loop-r.invariant.0 (more (goal.at.returns-
 
 pub loop-r-preserved : goal.loop-r-preserved
 unfolding figures
-loop-r-preserved c = 
-    (
+loop-r-preserved c = (
   turn c.loop-r.invariant.0 (more (goal.at.loop-r-preserved c).In-loop-r) _ (end_is (goal.at.loop-r-preserved c).After-row_at-row) (same_row _ _ (entries_of c.args.entries.now) (entries_of c.loop-r.entries) c.loop-r.invariant.0.kept c.renumber.ensures) _ c.in-Done.is _ c.longer-columns.ensures,
   c.renumber.auto.entries ∙ c.loop-r.invariant.1,
 )

@@ -17,7 +17,6 @@ use Rattle.rows.specs.inner.Overhangs.{overhang_by, hung_left, hung_at, hung_spa
 use Rattle.positions.proofs.Thirds.{lefts_long, ats_long, wides_long}
 use Rattle.grid.proofs.Rebuilt.{figures_front, held_few, listed_in, listed_ready, lined_ready}
 use Rattle.grid.proofs.Judging.{placed_stands}
-use borrow.Author.Rules.{rules}
 use Rattle.grid.proofs.place_table.Goals as goal
 use Rattle.grid.proofs.place_table.Goals.{After-list_rows-listed}
 
@@ -38,7 +37,7 @@ rows-front : (c : After-list_rows-listed) (f : Row → ℕ) → figures 2 row_by
 rows-front c f = figures_take 2 row_by f (omega arith) c.list_rows-listed.result.rows c.list_rows-listed.new.rows (fits-rows c)
 
 pub list_rows-listed-requires : goal.list_rows-listed-requires
-list_rows-listed-requires c = 
+list_rows-listed-requires c =
     let r = c.requires.room in
     let k = c.args.cells.now in
     let o = c.args.rows.now in
@@ -64,7 +63,7 @@ pub slice_bounds-position_rows-end-4 : goal.slice_bounds-position_rows-end-4
 slice_bounds-position_rows-end-4 c = sym (length-take-le _ _ (fits-rows (goal.at.slice_bounds-position_rows-end-4 c).After-list_rows-listed))
 
 pub position_rows-requires : goal.position_rows-requires
-position_rows-requires c = 
+position_rows-requires c =
     let r = c.requires.room in
     let x = c.list_rows-listed.new.cells in
     let y = c.list_rows-listed.new.rows in
@@ -79,7 +78,7 @@ position_rows-requires c =
     (omega (arith, r.next_room, length_figures 3 overhang_by hung_left c.args.next.now)) (omega (arith, r.next_room, length_figures 3 overhang_by hung_at c.args.next.now)) (omega (arith, r.next_room, length_figures 3 overhang_by hung_span c.args.next.now)))
 
 pub returns : goal.returns
-returns c = 
+returns c =
     let p = c.position_rows in
     let k = c.list_rows-listed.result.rows in
     let x = c.list_rows-listed.new.rows in

@@ -11,7 +11,6 @@ use Rattle.cells.specs.Held.{figures, row_end, row_ends_of, entry_cell, entry_sp
 use Rattle.cells.proofs.Figures.{length_figures, of_append, figures_take}
 use Rattle.grid.proofs.Seven.{never_missing}
 use Rattle.grid.proofs.NumberLoop.{numbered_front}
-use borrow.Author.Rules.{rules}
 use Rattle.grid.proofs.placed_grid.Goals as goal
 use Rattle.grid.proofs.placed_grid.Goals.{Start}
 
@@ -49,7 +48,7 @@ pub returns-in_default : goal.returns-in_default
 returns-in_default c = absurd (never_missing c.number_table.ensures c.in_default.is)
 
 pub returns : goal.returns
-returns c = 
+returns c =
     let m = rw (ends-front (goal.at.returns c).Start, entries-front (goal.at.returns c).Start entry_span, entries-front (goal.at.returns c).Start entry_cell, c.in-Done.is) at c.number_table.ensures in
     let n = c.number_table.auto.entries ∙ length-take-le _ _ (entries_in_fits (goal.at.returns c).Start) in
     rw (of_append 3 entry_by entry_cell (omega arith) _ _ _ n) (numbered_front m _)

@@ -1,7 +1,6 @@
 -- `grid_bounds::hung_by` meets its contract. Assumes nothing.
 use native.Mathlib.Omega.{arith}
 use borrow.Author.Tests.{eq-eqb, ne_eqb}
-use borrow.Author.Rules.{rules}
 use Rattle.grid_bounds.proofs.hung_by.Goals as goal
 
 -- src/lib.rt:36:1

@@ -2,17 +2,16 @@
 -- how many lines are left. Assumes nothing.
 use mathlib.Core.Path.{◌≡◌, refl, sym, ap, ◌∙◌}
 use mathlib.Core.List.{List}
-use Prim.Native.Nat.{ℕ, ◌-◌, ◌<◌, ◌≤◌}
+use Prim.Native.Nat.{ℕ, ◌-◌, ◌<◌}
 use native.Mathlib.Omega.{arith}
 use lib.ListN.{length, get_or}
-use borrow.Author.Tests.{ltb-true, ltb-false, not-false}
+use borrow.Author.Tests.{ltb-true, ltb-false}
 use Rattle.records.specs.Kept.{kepts_of, no_kept}
 use Rattle.records.specs.declared.Kept.{Kept}
 use Rattle.records.proofs.Kepts.{length_kepts}
 use Rattle.lists.specs.Limits.{max_entries}
 use Rattle.grid_bounds.specs.Bound.{Room}
-use Rattle.grid_bounds.proofs.BoundLoop.{Bounding, bound_start, bound_stop, bound_body, bound_row, bound_cell, bound_deeper, more}
-use borrow.Author.Rules.{rules}
+use Rattle.grid_bounds.proofs.BoundLoop.{bound_start, bound_stop, bound_body, bound_row, bound_cell, bound_deeper, more}
 use Rattle.grid_bounds.proofs.table_fits.Goals as goal
 use Rattle.grid_bounds.proofs.table_fits.Goals.{After-kept_at-line, At-loop-line, Else-not-has_room, In-loop-line}
 
@@ -30,8 +29,8 @@ top-at-In-loop-line c = ap (λ (k : Kept). k.depth) c.kept_at-table.ensures
 
 -- a line that the loop takes is below the table
 deep : (c : In-loop-line) → (get_or (ks-at-In-loop-line c) c.args.at no_kept).depth < (get_or (ks-at-In-loop-line c) c.loop-line.i no_kept).depth
-deep c = 
-        let h : c.kept_at-table.result.depth < (get_or (ks-at-In-loop-line c) c.loop-line.i no_kept).depth = ltb-true _ _ (sym c.below.ensures ∙ c.loop-line-test.true) in
+deep c =
+    let h : c.kept_at-table.result.depth < (get_or (ks-at-In-loop-line c) c.loop-line.i no_kept).depth = ltb-true _ _ (sym c.below.ensures ∙ c.loop-line-test.true) in
     omega (arith, top-at-In-loop-line c)
 
 -- it is there
@@ -46,8 +45,8 @@ top-at-After-kept_at-line c = ap (λ (k : Kept). k.depth) c.kept_at-table.ensure
 
 -- a line that the loop takes is below the table
 deep-at-After-kept_at-line : (c : After-kept_at-line) → (get_or (ks-at-After-kept_at-line c) c.args.at no_kept).depth < (get_or (ks-at-After-kept_at-line c) c.loop-line.i no_kept).depth
-deep-at-After-kept_at-line c = 
-        let h : c.kept_at-table.result.depth < (get_or (ks-at-After-kept_at-line c) c.loop-line.i no_kept).depth = ltb-true _ _ (sym c.below.ensures ∙ c.loop-line-test.true) in
+deep-at-After-kept_at-line c =
+    let h : c.kept_at-table.result.depth < (get_or (ks-at-After-kept_at-line c) c.loop-line.i no_kept).depth = ltb-true _ _ (sym c.below.ensures ∙ c.loop-line-test.true) in
     omega (arith, top-at-After-kept_at-line c)
 
 below_top : (c : After-kept_at-line) → (get_or (ks-at-After-kept_at-line c) c.args.at no_kept).depth < c.kept_at-line.result.depth

@@ -1,13 +1,12 @@
 -- `grid_check::check_each` meets its contract. The loop's invariant, `Sofar`: the verdict on the lines left is that on all. The measure is how many lines are left.
 -- Assumes nothing.
-use mathlib.Core.Path.{◌≡◌, refl, sym, ap, ◌∙◌}
+use mathlib.Core.Path.{refl, ◌∙◌}
 use Prim.Native.Nat.{◌-◌, ◌<◌}
 use native.Mathlib.Omega.{arith}
 use lib.ListN.{length}
 use Rattle.records.specs.Kept.{kepts_of}
 use Rattle.records.proofs.Kepts.{length_kepts}
-use Rattle.grid_check.proofs.CheckLoop.{Sofar, start, stop, turn_other, turn_refused, turn_table}
-use borrow.Author.Rules.{rules}
+use Rattle.grid_check.proofs.CheckLoop.{start, stop, turn_other, turn_refused, turn_table}
 use Rattle.grid_check.proofs.check_each.Goals as goal
 use Rattle.grid_check.proofs.check_each.Goals.{In-loop-t}
 
@@ -19,7 +18,7 @@ pub loop-t-init : goal.loop-t-init
 loop-t-init c = (start _, refl)
 
 pub check_table-number-requires : goal.check_table-number-requires
-check_table-number-requires c = 
+check_table-number-requires c =
     record {
       at_in_bounds = here (goal.at.check_table-number-requires c).In-loop-t;
       lined = c.requires.lined;

@@ -1,13 +1,10 @@
 -- `grid_check::check_each` meets its contract. The loop's invariant, `Sofar`: the verdict on the lines left is that on all. The measure is how many lines are left.
 -- Assumes nothing.
-use mathlib.Core.Path.{◌≡◌, refl, sym, ap, ◌∙◌}
-use Prim.Native.Nat.{◌-◌, ◌<◌}
-use native.Mathlib.Omega.{arith}
+use mathlib.Core.Path.{◌≡◌}
+use Prim.Native.Nat.{◌-◌}
 use lib.ListN.{length}
 use Rattle.records.specs.Kept.{kepts_of}
-use Rattle.records.proofs.Kepts.{length_kepts}
-use Rattle.grid_check.proofs.CheckLoop.{Sofar, start, stop, turn_other, turn_refused, turn_table}
-use borrow.Author.Rules.{rules}
+use Rattle.grid_check.proofs.CheckLoop.{Sofar}
 use Rattle.grid_check.proofs.check_each.Given as goal
 
 abbrev pub invariant-loop-t : goal.invariant-loop-t

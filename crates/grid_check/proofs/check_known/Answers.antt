@@ -1,7 +1,6 @@
 -- `grid_check::check_known` meets its contract: no table of a sheet within the bound is refused. Assumes nothing.
 use Rattle.grid_bounds.proofs.Sheets.{sheet_sound}
 use Rattle.grid_check.proofs.CheckLoop.{fit_accepted}
-use borrow.Author.Rules.{rules}
 use Rattle.grid_check.proofs.check_known.Goals as goal
 
 pub returns-then-bounded : goal.returns-then-bounded

@@ -1,9 +1,8 @@
 -- `grid_check::check_table` meets its contract: a table within the bound has no refusal, and of any other the count tells. Assumes nothing.
-use mathlib.Core.Path.{◌≡◌, ap, ◌∙◌}
+use mathlib.Core.Path.{ap, ◌∙◌}
 use native.Mathlib.Omega.{arith}
 use Rattle.grid_check.specs.Checking.{number_of, refusal_of}
 use Rattle.grid_check.proofs.Numbers.{fits_none}
-use borrow.Author.Rules.{rules}
 use Rattle.grid_check.proofs.check_table.Goals as goal
 
 pub table_fits-requires : goal.table_fits-requires
@@ -13,7 +12,7 @@ pub returns-then-table_fits : goal.returns-then-table_fits
 returns-then-table_fits c = fits_none _ (c.table_fits.ensures c.if-table_fits.true)
 
 pub count_table-count-requires : goal.count_table-count-requires
-count_table-count-requires c = 
+count_table-count-requires c =
     let p = c.requires in record {
       at_in_bounds = p.at_in_bounds;
       body_ready = record { lines = record { short = p.lined.short; shallow = p.lined.shallow c.args.at; narrow = p.lined.narrow }; room = p.lines_in_bounds; few = omega arith };

@@ -1,6 +1,6 @@
 -- `grid_counts::count_body` meets its contract. The loop's invariant, `BodyCounting`: what is counted, with the rows from place j on, is the body. The measure is how
 -- many lines are left. Assumes nothing.
-use mathlib.Core.Path.{◌≡◌, refl, sym, ap, ◌∙◌}
+use mathlib.Core.Path.{refl, sym, ap, ◌∙◌}
 use mathlib.Core.List.{List}
 use Prim.Native.Nat.{ℕ, ◌+◌, ◌-◌, ◌<◌, ◌≤◌}
 use native.Mathlib.Omega.{arith}
@@ -11,8 +11,7 @@ use Rattle.records.specs.declared.Kept.{Kept}
 use Rattle.records.proofs.Kepts.{length_kepts}
 use Rattle.grid_counts.proofs.Scan.{there}
 use Rattle.grid_counts.specs.inner.Tallies.{framed, Surveyed}
-use Rattle.grid_counts.proofs.BodyLoop.{BodyCounting, body_start, body_stop, body_on, some_left, sum_small, row_ready, body_past, here_small, body_more}
-use borrow.Author.Rules.{rules}
+use Rattle.grid_counts.proofs.BodyLoop.{body_start, body_stop, body_on, some_left, sum_small, row_ready, body_past, here_small, body_more}
 use Rattle.grid_counts.proofs.count_body.Goals as goal
 use Rattle.grid_counts.proofs.count_body.Goals.{After-kept_at-line, After-loop-line, At-loop-line, In-loop-line}
 
@@ -62,7 +61,7 @@ found : (c : At-loop-line) → Surveyed (framed (ks c) c.args.d c.args.i).rows c
 found c = c.survey-found.ensures
 
 pub survey-found-requires : goal.survey-found-requires
-survey-found-requires c = 
+survey-found-requires c =
     record {
       body_ready = record { lines = c.requires.body_ready.lines; room = c.requires.body_ready.room; few = omega arith };
       i_in_bounds = c.requires.i_in_bounds;
@@ -84,7 +83,7 @@ pub overflow_add-j : goal.overflow_add-j
 overflow_add-j c = omega (arith, inside (goal.at.overflow_add-j c).In-loop-line, c.requires.body_ready.lines.short)
 
 pub row_sum-requires : goal.row_sum-requires
-row_sum-requires c = 
+row_sum-requires c =
     record {
       lines = c.requires.body_ready.lines;
       i_in_bounds = omega (arith, inside (goal.at.row_sum-requires c).In-loop-line);
@@ -109,7 +108,7 @@ pub overflow_cast-rows : goal.overflow_cast-rows
 overflow_cast-rows c = omega (arith, (found (goal.at.overflow_cast-rows c).At-loop-line).few)
 
 pub count_row-counted-requires : goal.count_row-counted-requires
-count_row-counted-requires c = 
+count_row-counted-requires c =
     record {
       row_ready = row_ready c.requires.body_ready.lines (found (goal.at.count_row-counted-requires c).At-loop-line).small (found (goal.at.count_row-counted-requires c).At-loop-line).few (found (goal.at.count_row-counted-requires c).At-loop-line).room c.loop-line.invariant _ c.kept_at-line.ensures (line-deep (goal.at.count_row-counted-requires c).After-kept_at-line) c.if-line-body-eq1.true _ c.row_sum.ensures;
       i_in_bounds = omega (arith, inside (goal.at.count_row-counted-requires c).In-loop-line);

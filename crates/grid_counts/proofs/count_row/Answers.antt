@@ -1,6 +1,6 @@
 -- `grid_counts::count_row` meets its contract. The loop's invariant, `Counting`: what is counted, with what the cells from place j on add, is what the row adds.
 -- The measure is how many lines are left. Assumes nothing.
-use mathlib.Core.Path.{◌≡◌, refl, sym, ap, ◌∙◌}
+use mathlib.Core.Path.{refl, sym, ap, ◌∙◌}
 use mathlib.Core.List.{List}
 use Prim.Native.Nat.{ℕ, ◌+◌, ◌-◌, ◌<◌, ◌≤◌}
 use native.Mathlib.Omega.{arith}
@@ -11,13 +11,9 @@ use Rattle.records.specs.declared.Kept.{Kept}
 use Rattle.records.proofs.Kepts.{length_kepts}
 use Rattle.grid_counts.proofs.Scan.{there}
 use Rattle.lists.specs.Limits.{max_position}
-use Rattle.grid_counts.proofs.RowLoop.{Counting, row_start, row_stop, row_on, wide_small, row_past, row_more}
-use borrow.Author.Rules.{rules}
+use Rattle.grid_counts.proofs.RowLoop.{row_start, row_stop, row_on, wide_small, row_past, row_more}
 use Rattle.grid_counts.proofs.count_row.Goals as goal
 use Rattle.grid_counts.proofs.count_row.Goals.{After-filled-wide, After-kept_at-line, After-loop-line, At-loop-line, Else-sum-gt-MAX_POSITION, In-loop-line}
-
-abbrev ks : (c : At-loop-line) → List Kept
-ks c = kepts_of c.args.lines.now
 
 abbrev j : (c : At-loop-line) → ℕ
 j c = c.loop-line.j

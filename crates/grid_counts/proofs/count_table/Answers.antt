@@ -2,7 +2,7 @@
 -- many lines are left. Assumes nothing.
 use mathlib.Core.Path.{◌≡◌, refl, sym, ap, subst, ◌∙◌}
 use mathlib.Core.List.{List}
-use Prim.Native.Nat.{ℕ, ◌+◌, ◌-◌, ◌<◌, ◌≤◌}
+use Prim.Native.Nat.{ℕ, ◌+◌, ◌-◌, ◌<◌}
 use native.Mathlib.Omega.{arith}
 use lib.ListN.{length, get_or}
 use borrow.Author.Tests.{ltb-true, ltb-false}
@@ -11,8 +11,7 @@ use Rattle.records.specs.declared.Kept.{Kept}
 use Rattle.records.proofs.Kepts.{length_kepts}
 use Rattle.grid_counts.proofs.Scan.{there}
 use Rattle.grid_counts.specs.inner.Tallies.{framed, Lines, BodyCounted}
-use Rattle.grid_counts.proofs.TableLoop.{TableCounting, table_start, table_stop, table_on, table_past, table_more}
-use borrow.Author.Rules.{rules}
+use Rattle.grid_counts.proofs.TableLoop.{table_start, table_stop, table_on, table_past, table_more}
 use Rattle.grid_counts.proofs.count_table.Goals as goal
 use Rattle.grid_counts.proofs.count_table.Goals.{After-count_body-counted, After-kept_at-line, At-loop-line, In-loop-line}
 
@@ -36,8 +35,8 @@ top-at-In-loop-line c = ap (λ (k : Kept). k.depth) c.kept_at-table.ensures
 
 -- a line that the loop takes is below the table
 deep : (c : In-loop-line) → d-at-In-loop-line c < (get_or (ks-at-In-loop-line c) c.loop-line.i no_kept).depth
-deep c = 
-        let h : c.kept_at-table.result.depth < (get_or (ks-at-In-loop-line c) c.loop-line.i no_kept).depth = ltb-true _ _ (sym c.below.ensures ∙ c.loop-line-test.true) in
+deep c =
+    let h : c.kept_at-table.result.depth < (get_or (ks-at-In-loop-line c) c.loop-line.i no_kept).depth = ltb-true _ _ (sym c.below.ensures ∙ c.loop-line-test.true) in
     omega (arith, top-at-In-loop-line c)
 
 inside : (c : In-loop-line) → c.loop-line.i < length (ks-at-In-loop-line c)
@@ -54,8 +53,8 @@ top-at-After-kept_at-line c = ap (λ (k : Kept). k.depth) c.kept_at-table.ensure
 
 -- a line that the loop takes is below the table
 deep-at-After-kept_at-line : (c : After-kept_at-line) → d-at-After-kept_at-line c < (get_or (ks-at-After-kept_at-line c) c.loop-line.i no_kept).depth
-deep-at-After-kept_at-line c = 
-        let h : c.kept_at-table.result.depth < (get_or (ks-at-After-kept_at-line c) c.loop-line.i no_kept).depth = ltb-true _ _ (sym c.below.ensures ∙ c.loop-line-test.true) in
+deep-at-After-kept_at-line c =
+    let h : c.kept_at-table.result.depth < (get_or (ks-at-After-kept_at-line c) c.loop-line.i no_kept).depth = ltb-true _ _ (sym c.below.ensures ∙ c.loop-line-test.true) in
     omega (arith, top-at-After-kept_at-line c)
 
 line-deep : (c : After-kept_at-line) → d-at-After-kept_at-line c < c.kept_at-line.result.depth
@@ -92,7 +91,7 @@ pub overflow_add-i-then-line-d-eq1 : goal.overflow_add-i-then-line-d-eq1
 overflow_add-i-then-line-d-eq1 c = omega (arith, inside (goal.at.overflow_add-i-then-line-d-eq1 c).In-loop-line, c.requires.body_ready.lines.short)
 
 pub count_body-counted-requires : goal.count_body-counted-requires
-count_body-counted-requires c = 
+count_body-counted-requires c =
     record {
       body_ready = record { lines = subst (Lines (ks (goal.at.count_body-counted-requires c).At-loop-line)) (sym (top (goal.at.count_body-counted-requires c).At-loop-line)) c.requires.body_ready.lines; room = omega (arith, c.requires.body_ready.room, c.loop-line.invariant.1); few = c.loop-line.invariant.0.few };
       i_in_bounds = omega (arith, inside (goal.at.count_body-counted-requires c).In-loop-line);

@@ -1,7 +1,6 @@
 -- `grid_counts::filled` meets its contract. Assumes nothing.
 use native.Mathlib.Omega.{arith}
 use borrow.Author.Tests.{eq-eqb, ne_eqb}
-use borrow.Author.Rules.{rules}
 use Rattle.grid_counts.proofs.filled.Goals as goal
 
 pub returns-then-cols-eq0 : goal.returns-then-cols-eq0

@@ -1,7 +1,6 @@
 -- `grid_counts::hangs_within` meets its contract. Assumes nothing.
 use native.Mathlib.Omega.{arith}
 use borrow.Author.Tests.{eq-eqb, ne_eqb}
-use borrow.Author.Rules.{rules}
 use Rattle.grid_counts.proofs.hangs_within.Goals as goal
 
 pub returns-then-rows-eq0 : goal.returns-then-rows-eq0

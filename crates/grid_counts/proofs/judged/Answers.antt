@@ -2,7 +2,6 @@
 use Rattle.lists.specs.Limits.{max_entries}
 use borrow.Author.Tests.{lt-ltb, le-ltb}
 use native.Mathlib.Omega.{arith}
-use borrow.Author.Rules.{rules}
 use Rattle.grid_counts.proofs.judged.Goals as goal
 
 pub returns-then-entries-gt-MAX_ENTRIES : goal.returns-then-entries-gt-MAX_ENTRIES

@@ -1,6 +1,6 @@
 -- `grid_counts::row_sum` meets its contract. The loop's invariant, `Summing`: what is added up, with the sum of the cells from place j on, is the row's sum. The
 -- measure is how many lines are left. Assumes nothing.
-use mathlib.Core.Path.{◌≡◌, refl, sym, ap, ◌∙◌}
+use mathlib.Core.Path.{refl, sym, ap, ◌∙◌}
 use mathlib.Core.List.{List}
 use Prim.Native.Nat.{ℕ, ◌+◌, ◌-◌, ◌<◌, ◌≤◌}
 use native.Mathlib.Omega.{arith}
@@ -11,12 +11,8 @@ use Rattle.records.specs.declared.Kept.{Kept}
 use Rattle.records.proofs.Kepts.{length_kepts}
 use Rattle.grid_counts.proofs.Scan.{there}
 use Rattle.grid_counts.proofs.SumLoop.{Summing, sum_start, sum_stop, sum_more, sum_on}
-use borrow.Author.Rules.{rules}
 use Rattle.grid_counts.proofs.row_sum.Goals as goal
 use Rattle.grid_counts.proofs.row_sum.Goals.{After-kept_at-line, After-larger-sum, After-loop-line, At-loop-line, In-loop-line}
-
-abbrev ks : (c : At-loop-line) → List Kept
-ks c = kepts_of c.args.lines.now
 
 abbrev j : (c : At-loop-line) → ℕ
 j c = c.loop-line.j

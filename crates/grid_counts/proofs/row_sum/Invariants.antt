@@ -1,17 +1,9 @@
 -- `grid_counts::row_sum` meets its contract. The loop's invariant, `Summing`: what is added up, with the sum of the cells from place j on, is the row's sum. The
 -- measure is how many lines are left. Assumes nothing.
-use mathlib.Core.Path.{◌≡◌, refl, sym, ap, ◌∙◌}
-use mathlib.Core.List.{List}
-use Prim.Native.Nat.{ℕ, ◌+◌, ◌-◌, ◌<◌, ◌≤◌}
-use native.Mathlib.Omega.{arith}
-use lib.ListN.{length, get_or}
-use borrow.Author.Tests.{ltb-true, ltb-false}
-use Rattle.records.specs.Kept.{kepts_of, no_kept}
-use Rattle.records.specs.declared.Kept.{Kept}
-use Rattle.records.proofs.Kepts.{length_kepts}
-use Rattle.grid_counts.proofs.Scan.{there}
-use Rattle.grid_counts.proofs.SumLoop.{Summing, sum_start, sum_stop, sum_more, sum_on}
-use borrow.Author.Rules.{rules}
+use Prim.Native.Nat.{◌-◌}
+use lib.ListN.{length}
+use Rattle.records.specs.Kept.{kepts_of}
+use Rattle.grid_counts.proofs.SumLoop.{Summing}
 use Rattle.grid_counts.proofs.row_sum.Given as goal
 
 abbrev pub invariant-loop-line : goal.invariant-loop-line

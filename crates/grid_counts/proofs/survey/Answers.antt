@@ -1,6 +1,6 @@
 -- `grid_counts::survey` meets its contract. The loop's invariant, `Surveying`: what is counted, with the rows from place j on, is the body. The measure is how many
 -- lines are left. Assumes nothing.
-use mathlib.Core.Path.{◌≡◌, refl, sym, ap, ◌∙◌}
+use mathlib.Core.Path.{refl, sym, ap, ◌∙◌}
 use mathlib.Core.List.{List}
 use Prim.Native.Nat.{ℕ, ◌+◌, ◌-◌, ◌<◌, ◌≤◌}
 use native.Mathlib.Omega.{arith}
@@ -10,13 +10,9 @@ use Rattle.records.specs.Kept.{kepts_of, no_kept}
 use Rattle.records.specs.declared.Kept.{Kept}
 use Rattle.records.proofs.Kepts.{length_kepts}
 use Rattle.grid_counts.proofs.Scan.{there}
-use Rattle.grid_counts.proofs.SumLoop.{Surveying, survey_start, survey_stop, survey_more, survey_on}
-use borrow.Author.Rules.{rules}
+use Rattle.grid_counts.proofs.SumLoop.{survey_start, survey_stop, survey_more, survey_on}
 use Rattle.grid_counts.proofs.survey.Goals as goal
 use Rattle.grid_counts.proofs.survey.Goals.{After-kept_at-line, After-loop-line, At-loop-line, In-loop-line}
-
-abbrev ks : (c : At-loop-line) → List Kept
-ks c = kepts_of c.args.lines.now
 
 abbrev j : (c : At-loop-line) → ℕ
 j c = c.loop-line.j
@@ -73,7 +69,7 @@ pub overflow_add-j : goal.overflow_add-j
 overflow_add-j c = omega (arith, inside (goal.at.overflow_add-j c).In-loop-line, c.requires.body_ready.lines.short)
 
 pub row_sum-requires : goal.row_sum-requires
-row_sum-requires c = 
+row_sum-requires c =
     record {
       lines = c.requires.body_ready.lines;
       i_in_bounds = omega (arith, inside (goal.at.row_sum-requires c).In-loop-line);

@@ -1,5 +1,5 @@
 -- What is counted of a row and of a body, where the lines from a place on hold them. These are definitions; nothing is assumed.
-use Rattle.std.specs.Prelude.{◌≡◌, true, false, cond, List, [], ◌∷◌, map, ℕ, suc, ◌+◌, ◌-◌, ◌*◌, ◌≤◌, ◌<◌, min, eqb, length, get_or, drop}
+use Rattle.std.specs.Prelude.{◌≡◌, true, false, cond, List, map, ℕ, suc, ◌+◌, ◌-◌, ◌*◌, ◌≤◌, ◌<◌, min, eqb, length, get_or, drop}
 use Rattle.lists.specs.Lists.{sum}
 use Rattle.lists.specs.Limits.{max_lines, max_depth, max_cols, max_position, max_entries}
 use Rattle.records.specs.Kept.{no_kept}

@@ -1,6 +1,5 @@
 -- `grid_plain::make` meets its contract: a plain table's grid is made by `try_plain`, and for any other there is the same room as before. Assumes nothing.
 use Rattle.grid_plain.proofs.TableLoop.{still_ready}
-use borrow.Author.Rules.{rules}
 use Rattle.grid_plain.proofs.make.Goals as goal
 
 pub make_sound-requires : goal.make_sound-requires

@@ -12,8 +12,7 @@ use Rattle.records.specs.declared.Kept.{Kept}
 use Rattle.records.proofs.Kepts.{length_kepts}
 use Rattle.records.proofs.Records.{length_of}
 use Rattle.grid_plain.specs.inner.Walking.{RowReady, RowDone}
-use Rattle.grid_plain.proofs.TableLoop.{TableLoop, table_start, table_stop, more, table_body, row_ready, table_row, same_entries}
-use borrow.Author.Rules.{rules}
+use Rattle.grid_plain.proofs.TableLoop.{table_start, table_stop, more, table_body, row_ready, table_row, same_entries}
 use Rattle.grid_plain.proofs.try_plain.Goals as goal
 use Rattle.grid_plain.proofs.try_plain.Goals.{After-kept_at-line, At-loop-line, In-Plain, In-loop-line, Then-line-d}
 
@@ -27,8 +26,8 @@ top-at-In-loop-line c = ap (λ (k : Kept). k.depth) c.kept_at-table.ensures
 
 -- a line that the loop takes is below the table
 deep : (c : In-loop-line) → (get_or (kepts_of c.args.lines.now) c.args.at no_kept).depth < (get_or (kepts_of c.args.lines.now) c.loop-line.i no_kept).depth
-deep c = 
-        let h : c.kept_at-table.result.depth < (get_or (kepts_of c.args.lines.now) c.loop-line.i no_kept).depth = ltb-true _ _ (sym c.below.ensures ∙ c.loop-line-test.true) in
+deep c =
+    let h : c.kept_at-table.result.depth < (get_or (kepts_of c.args.lines.now) c.loop-line.i no_kept).depth = ltb-true _ _ (sym c.below.ensures ∙ c.loop-line-test.true) in
     omega (arith, top-at-In-loop-line c)
 
 within : (c : In-loop-line) → c.loop-line.i < length (kepts_of c.args.lines.now)
@@ -52,8 +51,8 @@ row_line c = omega (arith, line-at-Then-line-d c, top-at-Then-line-d c, c.if-lin
 
 -- a line that the loop takes is below the table
 deep-at-Then-line-d : (c : Then-line-d) → (get_or (kepts_of c.args.lines.now) c.args.at no_kept).depth < (get_or (kepts_of c.args.lines.now) c.loop-line.i no_kept).depth
-deep-at-Then-line-d c = 
-        let h : c.kept_at-table.result.depth < (get_or (kepts_of c.args.lines.now) c.loop-line.i no_kept).depth = ltb-true _ _ (sym c.below.ensures ∙ c.loop-line-test.true) in
+deep-at-Then-line-d c =
+    let h : c.kept_at-table.result.depth < (get_or (kepts_of c.args.lines.now) c.loop-line.i no_kept).depth = ltb-true _ _ (sym c.below.ensures ∙ c.loop-line-test.true) in
     omega (arith, top-at-Then-line-d c)
 
 ready : (c : Then-line-d) → RowReady (kepts_of c.args.lines.now) (get_or (kepts_of c.args.lines.now) c.args.at no_kept).depth (c.loop-line.i + 1) c.loop-line.n (entries_of c.loop-line.entries)
@@ -69,8 +68,8 @@ done c = subst (λ (d : ℕ). RowDone (kepts_of c.args.lines.now) d (c.loop-line
 
 -- a line that the loop takes is below the table
 deep-at-In-Plain : (c : In-Plain) → (get_or (kepts_of c.args.lines.now) c.args.at no_kept).depth < (get_or (kepts_of c.args.lines.now) c.loop-line.i no_kept).depth
-deep-at-In-Plain c = 
-        let h : c.kept_at-table.result.depth < (get_or (kepts_of c.args.lines.now) c.loop-line.i no_kept).depth = ltb-true _ _ (sym c.below.ensures ∙ c.loop-line-test.true) in
+deep-at-In-Plain c =
+    let h : c.kept_at-table.result.depth < (get_or (kepts_of c.args.lines.now) c.loop-line.i no_kept).depth = ltb-true _ _ (sym c.below.ensures ∙ c.loop-line-test.true) in
     omega (arith, top-at-In-Plain c)
 
 -- the line itself
@@ -137,7 +136,7 @@ pub loop-line-smaller-then-line-d : goal.loop-line-smaller-then-line-d
 loop-line-smaller-then-line-d c = omega (arith, within (goal.at.loop-line-smaller-then-line-d c).In-loop-line, (done (goal.at.loop-line-smaller-then-line-d c).In-Plain).after, (done (goal.at.loop-line-smaller-then-line-d c).In-Plain).within)
 
 pub loop-line-preserved-then-line-d : goal.loop-line-preserved-then-line-d
-loop-line-preserved-then-line-d c = 
+loop-line-preserved-then-line-d c =
     let s = c.try_row.auto.entries in (
       rw (c.put_row.ensures, c.longer-columns.ensures)
           (table_row c.requires c.loop-line.invariant.0 (deep (goal.at.loop-line-preserved-then-line-d c).In-loop-line) (row_line (goal.at.loop-line-preserved-then-line-d c).Then-line-d) c.in-Plain.end (entries_of c.try_row.new.entries) (done (goal.at.loop-line-preserved-then-line-d c).In-Plain)
@@ -156,6 +155,6 @@ pub loop-line-preserved : goal.loop-line-preserved
 loop-line-preserved c = (table_body c.requires c.loop-line.invariant.0 (deep (goal.at.loop-line-preserved c).In-loop-line) (λ e. c.if-line-d.false (omega (arith, line (goal.at.loop-line-preserved c).After-kept_at-line, top (goal.at.loop-line-preserved c).At-loop-line, e))), c.loop-line.invariant.1, c.loop-line.invariant.2)
 
 pub returns : goal.returns
-returns c = 
+returns c =
     let h : (get_or (kepts_of c.args.lines.now) c.loop-line.i no_kept).depth ≤ c.kept_at-table.result.depth = ltb-false _ _ (sym c.below.ensures ∙ c.loop-line-test.false) in
     table_stop c.requires c.loop-line.invariant.0 (omega (arith, top (goal.at.returns c).At-loop-line))

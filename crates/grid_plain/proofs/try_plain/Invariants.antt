@@ -1,23 +1,15 @@
 -- `grid_plain::try_plain` meets its contract. The loop's invariant, `TableLoop`: the rows so far are plain, with what the lines still to come hold they are the
 -- table's as they are written, and their entries and records stand in the slices. A line of the table that the loop meets is a row or a body, since
 -- `try_row` passes what is deeper. The measure is the number of lines left. Assumes nothing.
-use mathlib.Core.Path.{◌≡◌, refl, sym, ap, subst, ◌∙◌}
-use Prim.Native.Nat.{ℕ, ◌+◌, ◌-◌, ◌<◌, ◌≤◌}
-use native.Mathlib.Omega.{arith}
-use lib.ListN.{length, get_or}
-use borrow.Author.Tests.{ltb-true, ltb-false}
-use Rattle.lists.specs.Limits.{max_entries}
-use Rattle.records.specs.Kept.{kepts_of, entries_of, rows_of, row_by, no_kept}
-use Rattle.records.specs.declared.Kept.{Kept}
-use Rattle.records.proofs.Kepts.{length_kepts}
-use Rattle.records.proofs.Records.{length_of}
-use Rattle.grid_plain.specs.inner.Walking.{RowReady, RowDone}
-use Rattle.grid_plain.proofs.TableLoop.{TableLoop, table_start, table_stop, more, table_body, row_ready, table_row, same_entries}
-use borrow.Author.Rules.{rules}
+use mathlib.Core.Path.{◌≡◌}
+use Prim.Native.Nat.{◌-◌}
+use lib.ListN.{length}
+use Rattle.records.specs.Kept.{kepts_of, entries_of, rows_of}
+use Rattle.grid_plain.proofs.TableLoop.{TableLoop}
 use Rattle.grid_plain.proofs.try_plain.Given as goal
 
 abbrev pub invariant-loop-line : goal.invariant-loop-line
-invariant-loop-line l = 
+invariant-loop-line l =
     TableLoop (kepts_of l.lines) l.at (entries_of l.initial.entries) (entries_of l.entries) (rows_of l.initial.rows) (rows_of l.rows) l.n l.r l.columns l.i
     × (length l.entries ≡ length l.initial.entries)
     × (length l.rows ≡ length l.initial.rows)

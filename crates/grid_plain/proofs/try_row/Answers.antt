@@ -6,14 +6,13 @@ use Prim.Native.Nat.{ℕ, ◌+◌, ◌-◌, ◌<◌}
 use native.Mathlib.Omega.{arith}
 use lib.ListN.{length, get_or}
 use Rattle.lists.specs.Limits.{max_entries}
-use borrow.Author.Tests.{ltb-true, ltb-false, not-false}
+use borrow.Author.Tests.{ltb-true, ltb-false}
 use Rattle.records.specs.Kept.{kepts_of, entries_of, entry_by, no_kept}
 use Rattle.records.specs.declared.Kept.{Kept}
 use Rattle.records.proofs.Kepts.{length_kepts}
 use Rattle.records.proofs.Records.{length_of}
 use Rattle.cells.proofs.Lines.{inside}
-use Rattle.grid_plain.proofs.RowLoop.{RowLoop, both_one, row_start, row_room, row_cell, row_deeper, row_stop}
-use borrow.Author.Rules.{rules}
+use Rattle.grid_plain.proofs.RowLoop.{both_one, row_start, row_room, row_cell, row_deeper, row_stop}
 use Rattle.grid_plain.proofs.try_row.Goals as goal
 use Rattle.grid_plain.proofs.try_row.Goals.{After-kept_at-line, Else-not-is_plain, In-loop-line, Then-line-d}
 
@@ -41,7 +40,7 @@ room c = row_room c.loop-line.invariant.0 (cell c) c.requires
 
 -- which is plain
 plain : (c : Else-not-is_plain) → ((get_or (kepts_of c.args.lines.now) c.loop-line.i no_kept).cols ≡ 1) × ((get_or (kepts_of c.args.lines.now) c.loop-line.i no_kept).rows ≡ 1)
-plain c =     rw c.kept_at-line.ensures at (both_one c.kept_at-line.result.cols c.kept_at-line.result.rows (sym c.is_plain.ensures ∙ c.if-not-is_plain.false))
+plain c = rw c.kept_at-line.ensures at (both_one c.kept_at-line.result.cols c.kept_at-line.result.rows (sym c.is_plain.ensures ∙ c.if-not-is_plain.false))
 
 pub loop-line-init : goal.loop-line-init
 loop-line-init c = (row_start _ _ _ _ _ c.requires.within, refl)
@@ -83,8 +82,7 @@ pub loop-line-smaller-then-line-d : goal.loop-line-smaller-then-line-d
 loop-line-smaller-then-line-d c = omega (arith, within (goal.at.loop-line-smaller-then-line-d c).In-loop-line)
 
 pub loop-line-preserved-then-line-d : goal.loop-line-preserved-then-line-d
-loop-line-preserved-then-line-d c = 
-    (
+loop-line-preserved-then-line-d c = (
   rw c.put_entry.ensures (row_cell c.loop-line.invariant.0 (cell (goal.at.loop-line-preserved-then-line-d c).Then-line-d) (plain (goal.at.loop-line-preserved-then-line-d c).Else-not-is_plain) (room (goal.at.loop-line-preserved-then-line-d c).Then-line-d).0),
   c.put_entry.auto.entries ∙ c.loop-line.invariant.1,
 )

@@ -9,7 +9,6 @@ use Rattle.records.specs.Kept.{kepts_of, no_kept}
 use Rattle.records.specs.declared.Kept.{Kept}
 use Rattle.records.proofs.Kepts.{length_kepts}
 use Rattle.cells.proofs.Lines.{inside}
-use borrow.Author.Rules.{rules}
 use Rattle.gridding.proofs.end_of.Goals as goal
 use Rattle.gridding.proofs.end_of.Goals.{In-loop-end}
 
@@ -33,7 +32,7 @@ pub loop-end-preserved : goal.loop-end-preserved
 loop-end-preserved c = (omega (arith, c.loop-end.invariant), omega (arith, within (goal.at.loop-end-preserved c).In-loop-end))
 
 pub returns : goal.returns
-returns c = 
+returns c =
     let i = c.loop-end.invariant in
     let h : (get_or (kepts_of c.args.lines.now) c.loop-end.end no_kept).depth ≤ c.kept_at-table.result.depth = ltb-false _ _ (sym c.below.ensures ∙ c.loop-end-test.false) in
     record { after = i.0; within = i.1; stops = omega (arith, ap (λ (k : Kept). k.depth) c.kept_at-table.ensures) }

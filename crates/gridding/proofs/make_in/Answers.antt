@@ -1,10 +1,9 @@
 -- `gridding::make_in` meets its contract: the rows by positions stand in the records, and numbered they are the grid. Assumes nothing.
 use Rattle.gridding.proofs.Making.{room, ready, made}
-use borrow.Author.Rules.{rules}
 use Rattle.gridding.proofs.make_in.Goals as goal
 
 pub place_table-placed-requires : goal.place_table-placed-requires
-place_table-placed-requires c = 
+place_table-placed-requires c =
     let s = c.requires in record {
       at_in_bounds = s.table_ready.within;
       lined = s.table_ready.lined;

@@ -5,7 +5,6 @@ use native.Mathlib.Omega.{arith}
 use lib.Seq.{length-take-le}
 use Rattle.records.proofs.Kepts.{length_kepts, kepts_take}
 use Rattle.gridding.proofs.Ending.{held_front, ready_front}
-use borrow.Author.Rules.{rules}
 use Rattle.gridding.proofs.make_sound.Goals as goal
 
 pub slice_bounds-make_within-end : goal.slice_bounds-make_within-end

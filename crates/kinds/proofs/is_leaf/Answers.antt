@@ -1,6 +1,5 @@
 -- `kinds::is_leaf` meets its contract: each way's tests settle the definition's. Assumes nothing.
 use mathlib.Core.Path.{sym, ◌∙◌}
-use borrow.Author.Rules.{rules}
 use borrow.Author.Tests.{eq-eqb, ne_eqb}
 use Rattle.kinds.proofs.is_leaf.Goals as goal
 

@@ -1,6 +1,5 @@
 -- `line::calc_line` meets its contract: the text's measure is told by `calc::measured`, and each way is the definition's. Assumes nothing.
 use mathlib.Core.Path.{sym, ap, ◌∙◌}
-use borrow.Author.Rules.{rules}
 use Rattle.line.specs.declared.LineRead.TheVariants.{Good}
 use Rattle.line.specs.Reading.{calc_read}
 use Rattle.line.proofs.calc_line.Goals as goal

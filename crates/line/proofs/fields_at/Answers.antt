@@ -2,7 +2,6 @@
 -- that finds nothing ends the reading. Assumes nothing.
 -- from where a field was found to where the one before was
 -- what each reader found: a value, and the place of the next field
-use borrow.Author.Rules.{rules}
 use mathlib.Core.Path.{◌≡◌, sym, ◌∙◌}
 use lib.ListN.{drop}
 use Rattle.lists.specs.Limits.{max_depth}

@@ -3,26 +3,24 @@
 -- is left of the sheet.
 -- Assumes nothing.
 use borrow.Author.Rules.{rules}
-use mathlib.Core.Path.{◌≡◌}
-use Prim.Native.Nat.{◌+◌, ◌-◌, ◌≤◌}
+use Prim.Native.Nat.{◌-◌}
 use native.Mathlib.Omega.{arith}
-use lib.ListN.{length, drop}
-use Rattle.line.proofs.Pieces.{upto, end_out, end_here, end_later, piece_length}
+use Rattle.line.proofs.Pieces.{end_out, end_here, end_later, piece_length}
 use Rattle.line.proofs.line_end.Goals as goal
 
 pub returns-then-bytes-i-eq10 : goal.returns-then-bytes-i-eq10
-returns-then-bytes-i-eq10 c = 
+returns-then-bytes-i-eq10 c =
     let a = c.args in
     let here = end_here a.bytes.now c.loop-i.i (omega arith) c.if-bytes-i-eq10.true in
     omega (arith, here, piece_length a.bytes.now a.at)
 
 pub loop-i-preserved : goal.loop-i-preserved
-loop-i-preserved c = 
+loop-i-preserved c =
     let a = c.args in
     let later = end_later a.bytes.now c.loop-i.i (omega arith) c.if-bytes-i-eq10.false in
     (search rules, omega (arith, later))
 
 pub returns : goal.returns
-returns c = 
+returns c =
     let a = c.args in
     omega (arith, end_out a.bytes.now c.loop-i.i (omega arith), piece_length a.bytes.now a.at)

@@ -2,12 +2,10 @@
 -- end of the line. A byte that is no line feed is one of them; at a line feed or at the sheet's end there are none. The measure is what
 -- is left of the sheet.
 -- Assumes nothing.
-use borrow.Author.Rules.{rules}
 use mathlib.Core.Path.{◌≡◌}
 use Prim.Native.Nat.{◌+◌, ◌-◌, ◌≤◌}
-use native.Mathlib.Omega.{arith}
 use lib.ListN.{length, drop}
-use Rattle.line.proofs.Pieces.{upto, end_out, end_here, end_later, piece_length}
+use Rattle.line.proofs.Pieces.{upto}
 use Rattle.line.proofs.line_end.Given as goal
 
 abbrev pub invariant-loop-i : goal.invariant-loop-i

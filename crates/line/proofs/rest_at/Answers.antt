@@ -22,8 +22,8 @@ told-cols : (c : In-Sound-natural_at) → (let a = c.args in
     let at = c.in-Sound.at_cols in
     number_read (up_to (span_limit a.kind 1000)) magnitude at (drop at a.bytes.now))
     ≡ Sound c.in-Sound-natural_at.cols c.in-Sound-natural_at.at_rows
-told-cols c = 
-        rw (sym c.span_limit-most_cols.ensures)
+told-cols c =
+    rw (sym c.span_limit-most_cols.ensures)
     (sym c.natural_at.ensures ∙ c.in-Sound-natural_at.is)
 
 pub overflow_add-result : goal.overflow_add-result
@@ -39,7 +39,7 @@ returns-in_default c = rw (sym c.n_at.ensures ∙ c.in_default.is)
 
 pub returns-in_default-natural_at : goal.returns-in_default-natural_at
 unfolding rest_read
-returns-in_default-natural_at c = 
+returns-in_default-natural_at c =
     rw (
       told-number (goal.at.returns-in_default-natural_at c).In-Sound,
       sym c.span_limit-most_cols.ensures,
@@ -48,7 +48,7 @@ returns-in_default-natural_at c =
 
 pub returns-in_default-natural_at-2 : goal.returns-in_default-natural_at-2
 unfolding rest_read
-returns-in_default-natural_at-2 c = 
+returns-in_default-natural_at-2 c =
     rw (
       told-number (goal.at.returns-in_default-natural_at-2 c).In-Sound,
       told-cols (goal.at.returns-in_default-natural_at-2 c).In-Sound-natural_at,
@@ -58,7 +58,7 @@ returns-in_default-natural_at-2 c =
 
 pub returns : goal.returns
 unfolding rest_read
-returns c = 
+returns c =
     rw (
       told-number (goal.at.returns c).In-Sound,
       told-cols (goal.at.returns c).In-Sound-natural_at,

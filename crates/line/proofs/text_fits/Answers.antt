@@ -1,6 +1,5 @@
 -- `line::text_fits` meets its contract: an empty text stands anywhere; else the kind decides.
 -- Assumes nothing.
-use borrow.Author.Rules.{rules}
 use borrow.Author.Tests.{eq-eqb, ne_eqb}
 use Rattle.line.proofs.text_fits.Goals as goal
 

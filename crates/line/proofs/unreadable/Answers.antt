@@ -1,7 +1,5 @@
 -- `line::unreadable` meets its contract: the kind decides first; then the line feed is there where the line ends before the sheet does.
 -- Assumes nothing.
-use borrow.Author.Rules.{rules}
-use borrow.Author.Tests.{not-true, not-false}
 use mathlib.Core.Path.{sym, ◌∙◌}
 use native.Mathlib.Omega.{arith}
 use Rattle.line.specs.Reading.{refused_at}
@@ -14,14 +12,14 @@ returns-then-not-has_text c = rw (sym c.has_text.ensures ∙ c.if-not-has_text.t
 
 pub returns-then-line_end-bytes : goal.returns-then-line_end-bytes
 unfolding refused_at
-returns-then-line_end-bytes c = 
+returns-then-line_end-bytes c =
     let a = c.args in
     let there = fed_there a.bytes.now a.at (omega arith) (omega (arith, c.line_end.ensures, piece_length a.bytes.now a.at)) in
     rw (sym c.has_text.ensures ∙ c.if-not-has_text.false, piece_ended a.bytes.now a.at ∙ there)
 
 pub returns : goal.returns
 unfolding refused_at
-returns c = 
+returns c =
     let a = c.args in
     let none = fed_nowhere a.bytes.now a.at (omega arith) (omega (arith, c.line_end.ensures, piece_length a.bytes.now a.at)) in
     rw (sym c.has_text.ensures ∙ c.if-not-has_text.false, piece_ended a.bytes.now a.at ∙ none)

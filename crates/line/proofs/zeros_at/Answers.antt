@@ -1,6 +1,5 @@
 -- `line::zeros_at` meets its contract: the four bytes at the place, and the four two places on, are the three fields (`zeros`). Assumes nothing.
 use borrow.Author.Rules.{rules}
-use borrow.Author.Tests.{not-false}
 use mathlib.Core.Bool.{false≢true}
 use Rattle.line.proofs.Zeros.{zeros}
 use Rattle.line.proofs.zeros_at.Goals as goal

@@ -1,19 +1,18 @@
 -- `lists::copy_out` writes one list, the first n places of src and then zeros, over dst from the front. Both loops keep: the first i places
 -- are those of that list, the others are as they were. Each turn stores the next figure of the list, and the measure is what is left to
 -- write. Assumes nothing.
-use Prim.Native.Nat.{ℕ, ◌+◌, ◌-◌, ◌≤◌, ◌<◌}
+use Prim.Native.Nat.{ℕ, ◌+◌, ◌-◌}
 use mathlib.Core.Path.{◌≡◌, refl, ◌∙◌, sym, ap}
-use mathlib.Core.List.{List, ◌++◌}
+use mathlib.Core.List.{◌++◌}
 use native.Mathlib.Omega.{arith}
-use borrow.Author.Rules.{rules}
-use lib.ListN.{length, take, drop, set, get_or, length-set}
+use lib.ListN.{length, take, drop, length-set}
 use lib.Seq.{length-take-le, get_or-take}
 use Rattle.lists.specs.Lists.{padded}
 use Rattle.lists.proofs.Write.{write_more, write_all, length_padded, padded_front, padded_rest, front_done}
 use Rattle.lists.proofs.copy_out.Goals as goal
 
 pub loop-i-preserved : goal.loop-i-preserved
-loop-i-preserved c = 
+loop-i-preserved c =
     let a = c.args in
     let d = a.dst.now in
     let xs = take a.n a.src.now in
@@ -27,7 +26,7 @@ loop-i-preserved c =
     )
 
 pub loop-i-2-init : goal.loop-i-2-init
-loop-i-2-init c = 
+loop-i-2-init c =
     let a = c.args in
     let d = a.dst.now in
     let xs = take a.n a.src.now in
@@ -43,7 +42,7 @@ loop-i-2-init c =
     )
 
 pub loop-i-2-preserved : goal.loop-i-2-preserved
-loop-i-2-preserved c = 
+loop-i-2-preserved c =
     let a = c.args in
     let d = c.loop-i.dst in
     let xs = take a.n a.src.now in
@@ -58,7 +57,7 @@ loop-i-2-preserved c =
     )
 
 pub returns : goal.returns
-returns c = 
+returns c =
     let a = c.args in
     let d = c.loop-i.dst in
     let xs = take a.n a.src.now in

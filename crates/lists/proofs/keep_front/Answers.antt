@@ -1,10 +1,9 @@
 -- `lists::keep_front` writes one list, the first n places of the buffer and then zeros, over the buffer itself; its first n places stand there
 -- already, so the loop begins after them. It keeps: the first i places are those of that list, the others are as they were. Assumes nothing.
-use Prim.Native.Nat.{ℕ, ◌-◌, ◌≤◌}
+use Prim.Native.Nat.{◌-◌}
 use mathlib.Core.Path.{◌≡◌, refl, ◌∙◌, sym, ap}
 use mathlib.Core.List.{◌++◌}
 use native.Mathlib.Omega.{arith}
-use borrow.Author.Rules.{rules}
 use lib.ListN.{length, take, drop, length-set, take-append-drop}
 use lib.Seq.{length-take-le}
 use Rattle.lists.specs.Lists.{padded}
@@ -12,7 +11,7 @@ use Rattle.lists.proofs.Write.{write_more, write_all, length_padded, padded_kept
 use Rattle.lists.proofs.keep_front.Goals as goal
 
 pub loop-i-init : goal.loop-i-init
-loop-i-init c = 
+loop-i-init c =
     let b = c.args.buffer.now in
     let n = c.args.n in (
       omega arith,
@@ -22,7 +21,7 @@ loop-i-init c =
     )
 
 pub loop-i-preserved : goal.loop-i-preserved
-loop-i-preserved c = 
+loop-i-preserved c =
     let a = c.args in
     let b = a.buffer.now in
     let xs = take a.n b in
@@ -36,7 +35,7 @@ loop-i-preserved c =
     )
 
 pub returns : goal.returns
-returns c = 
+returns c =
     let a = c.args in
     let b = a.buffer.now in
     let xs = take a.n b in

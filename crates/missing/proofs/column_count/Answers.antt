@@ -1,7 +1,6 @@
 -- `missing::column_count` meets its contract: each arm answers what the definition says of its variant. Assumes nothing.
 use mathlib.Core.Path.{sym, ap}
 use Rattle.missing.specs.inner.Found.{column_total}
-use borrow.Author.Rules.{rules}
 use Rattle.missing.proofs.column_count.Goals as goal
 
 pub returns-in-Causes : goal.returns-in-Causes

@@ -1,6 +1,5 @@
 -- `missing::find_missing` meets its contract: refused for the arguments, it has no figures; else what is found in the sheet. Assumes nothing.
 use Rattle.missing.proofs.Calls.{missing_early, missing_late}
-use borrow.Author.Rules.{rules}
 use Rattle.missing.proofs.find_missing.Goals as goal
 
 pub explain_sheet-requires : goal.explain_sheet-requires

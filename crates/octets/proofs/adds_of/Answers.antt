@@ -2,7 +2,6 @@
 use native.Mathlib.Omega.{arith}
 use lib.Bits.{and_le_l}
 use Rattle.octets.proofs.Answers.{adds_answer}
-use borrow.Author.Rules.{rules}
 use Rattle.octets.proofs.adds_of.Goals as goal
 
 pub overflow_add-result : goal.overflow_add-result

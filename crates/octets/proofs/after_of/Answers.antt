@@ -1,6 +1,5 @@
 -- `octets::after_of` meets its contract: the digits of what is no character, one place on. Assumes nothing.
 use Rattle.octets.proofs.Answers.{after_answer}
-use borrow.Author.Rules.{rules}
 use Rattle.octets.proofs.after_of.Goals as goal
 
 pub returns : goal.returns

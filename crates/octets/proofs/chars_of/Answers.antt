@@ -1,6 +1,5 @@
 -- `octets::chars_of` meets its contract: 95 more make 128 of 33. Assumes nothing.
 use Rattle.octets.proofs.Answers.{chars_answer}
-use borrow.Author.Rules.{rules}
 use Rattle.octets.proofs.chars_of.Goals as goal
 
 pub returns : goal.returns

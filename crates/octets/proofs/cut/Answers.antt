@@ -1,8 +1,6 @@
 -- `octets::cut` meets its contract: the zeros of the number are eight for each digit before the first that is not 0, and a power of 256 cuts these off. Assumes nothing.
 use native.Mathlib.Omega.{arith}
-use lib.Pow.{pow_pos}
-use Rattle.octets.proofs.Answers.{power_fits, bits_lt, cut_answer}
-use borrow.Author.Rules.{rules}
+use Rattle.octets.proofs.Answers.{bits_lt, cut_answer}
 use Rattle.octets.proofs.cut.Goals as goal
 
 pub overflow_cast-end : goal.overflow_cast-end

@@ -1,7 +1,6 @@
 -- `octets::eight` meets its contract: the bytes from the place on are the number's digits. Assumes nothing.
 use native.Mathlib.Omega.{arith}
 use Rattle.octets.proofs.Standing.{eight_stands}
-use borrow.Author.Rules.{rules}
 use Rattle.octets.proofs.eight.Goals as goal
 
 pub returns : goal.returns

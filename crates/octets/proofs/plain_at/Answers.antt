@@ -1,13 +1,11 @@
 -- `octets::plain_at` meets its contract: where no byte is 128 or more, the front of the eight is told; else nothing is. Assumes nothing.
-use mathlib.Core.Path.{◌≡◌, refl, sym, ◌∙◌}
-use Prim.Native.Nat.{◌≤◌}
+use mathlib.Core.Path.{refl, sym, ◌∙◌}
 use native.Mathlib.Omega.{arith}
-use lib.ListN.{length, take, drop, length-drop}
+use lib.ListN.{take, drop, length-drop}
 use Rattle.lists.specs.Lists.{All}
 use Rattle.octets.specs.inner.Digits.{Low}
 use Rattle.octets.specs.inner.Plain.{plain_sum, plain_gap}
 use Rattle.octets.proofs.Answers.{low_of, low_le, front_more}
-use borrow.Author.Rules.{rules}
 use Rattle.octets.proofs.plain_at.Goals as goal
 use Rattle.octets.proofs.plain_at.Goals.{Else-tops-ne0}
 
@@ -19,13 +17,13 @@ unfolding All plain_sum plain_gap
 returns-then-tops-ne0 c = record { inside = omega arith; few = omega arith; plain = tt; size = refl; last = refl; small = omega arith; one = c.requires.gap_bound }
 
 pub plain_of-requires : goal.plain_of-requires
-plain_of-requires c = 
+plain_of-requires c =
     record {
       w_le_all_low = omega (arith, low_le _ (low (goal.at.plain_of-requires c).Else-tops-ne0), c.eight-w.ensures.is);
       gap_bound = c.requires.gap_bound;
     }
 
 pub returns : goal.returns
-returns c = 
+returns c =
     let a = c.args in
     front_more _ _ _ (c.plain_of.ensures _ (low (goal.at.returns c).Else-tops-ne0) c.eight-w.ensures.is) (omega (arith, length-drop a.at a.bytes.now, c.requires.at_in_bounds))

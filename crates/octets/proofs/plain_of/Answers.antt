@@ -4,11 +4,10 @@ use mathlib.Core.List.{map}
 use native.Mathlib.Omega.{arith}
 use Rattle.octets.specs.inner.Digits.{char, odd, after_from, adds_of}
 use Rattle.octets.proofs.Fronts.{chars_small, odd_small, after_small, bits_octets, adds_octets, front_cut, front_all}
-use borrow.Author.Rules.{rules}
 use Rattle.octets.proofs.plain_of.Goals as goal
 
 pub returns-then-odd-ne0 : goal.returns-then-odd-ne0
-returns-then-odd-ne0 c ds w e = 
+returns-then-odd-ne0 c ds w e =
     let gap = c.args.gap in
     let one = c.requires.gap_bound in
     let bits = chars_small ds w in
@@ -21,7 +20,7 @@ returns-then-odd-ne0 c ds w e =
     (c.cut.ensures (map odd ds) (adds_of (map char ds) (after_from gap (map char ds))) (after_from gap (map char ds)) (odd_small ds w) (adds_octets _ _ bits after-bits) (bits_octets _ after-bits) odds adds after)
 
 pub returns : goal.returns
-returns c ds w e = 
+returns c ds w e =
     let gap = c.args.gap in
     let one = c.requires.gap_bound in
     let bits = chars_small ds w in

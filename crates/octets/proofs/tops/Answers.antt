@@ -1,6 +1,5 @@
 -- `octets::tops` meets its contract. Assumes nothing.
 use Rattle.octets.proofs.Answers.{tops_answer}
-use borrow.Author.Rules.{rules}
 use Rattle.octets.proofs.tops.Goals as goal
 
 pub returns : goal.returns

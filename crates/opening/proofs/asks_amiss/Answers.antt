@@ -1,6 +1,5 @@
 -- `opening::asks_amiss` meets its contract, by its two cases. Assumes nothing.
 use Rattle.opening.proofs.Answers.{asked_amiss, unasked}
-use borrow.Author.Rules.{rules}
 use Rattle.opening.proofs.asks_amiss.Goals as goal
 
 pub returns-then-asks : goal.returns-then-asks

@@ -2,7 +2,6 @@
 use native.Mathlib.Omega.{arith}
 use Rattle.records.proofs.Kepts.{length_kepts}
 use Rattle.opening.proofs.Answers.{no_line, past_lines, at_line}
-use borrow.Author.Rules.{rules}
 use Rattle.opening.proofs.is_table.Goals as goal
 
 pub returns-then-line-eq0 : goal.returns-then-line-eq0

@@ -3,7 +3,6 @@ use mathlib.Core.Path.{sym}
 use native.Mathlib.Omega.{arith}
 use lib.Seq.{length-take-le}
 use Rattle.records.proofs.Kepts.{kepts_take}
-use borrow.Author.Rules.{rules}
 use Rattle.opening.proofs.open_front.Goals as goal
 
 pub slice_bounds-open_lines-end : goal.slice_bounds-open_lines-end

@@ -2,7 +2,6 @@
 use mathlib.Core.Path.{refl, sym, ap, ◌∙◌}
 use Rattle.records.proofs.Kepts.{length_kepts}
 use Rattle.opening.proofs.Answers.{told_as, opened_amiss, opened_checked}
-use borrow.Author.Rules.{rules}
 use Rattle.opening.proofs.open_lines.Goals as goal
 
 pub returns-then-asks_amiss : goal.returns-then-asks_amiss

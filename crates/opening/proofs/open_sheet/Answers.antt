@@ -2,7 +2,6 @@
 use native.Mathlib.Omega.{arith}
 use Rattle.opening.proofs.Ready.{front_ready}
 use Rattle.opening.proofs.Opens.{opened_refused, opened_read}
-use borrow.Author.Rules.{rules}
 use Rattle.opening.proofs.open_sheet.Goals as goal
 
 pub open_front-requires : goal.open_front-requires

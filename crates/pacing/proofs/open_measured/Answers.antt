@@ -4,11 +4,10 @@ use Rattle.opening.proofs.Passing.{figures_room}
 use Rattle.estimates.specs.inner.Figures.{figure_by}
 use Rattle.records.proofs.Records.{length_of}
 use Rattle.pacing.proofs.Opening.{sheet_opened}
-use borrow.Author.Rules.{rules}
 use Rattle.pacing.proofs.open_measured.Goals as goal
 
 pub measure_sheet-requires : goal.measure_sheet-requires
-measure_sheet-requires c = 
+measure_sheet-requires c =
     let p = c.requires in record {
       bytes_bound = p.sheet_bound;
       bytes_in_bounds = p.sheet_in_bounds;
@@ -16,7 +15,7 @@ measure_sheet-requires c =
     }
 
 pub returns : goal.returns
-returns c = 
+returns c =
     let m = c.measure_sheet in
     sheet_opened c.measure_sheet.ensures (omega (arith, c.requires.sheet_bound, c.measure_sheet.auto.lines))
     (figures_room _ c.measure_sheet.new.figures (omega (arith, c.requires.sheet_in_bounds, length_of 3 figure_by c.args.figures.now, c.measure_sheet.auto.figures)))

@@ -1,10 +1,9 @@
 -- `pacing::walk_lines` meets its contract: the local arrays have the room that every table asks for. Assumes nothing.
 use native.Mathlib.Omega.{arith}
-use borrow.Author.Rules.{rules}
 use Rattle.pacing.proofs.walk_lines.Goals as goal
 
 pub walk-requires : goal.walk-requires
-walk-requires c = 
+walk-requires c =
     record {
       walkable = c.requires.walkable;
       raw_bound = c.requires.raw_bound;

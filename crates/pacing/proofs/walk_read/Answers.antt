@@ -3,7 +3,6 @@ use mathlib.Core.Path.{sym}
 use native.Mathlib.Omega.{arith}
 use lib.Seq.{length-take-le}
 use Rattle.pacing.proofs.Opening.{front_walkable, walk_refused, walk_accepted, walk_narrow}
-use borrow.Author.Rules.{rules}
 use Rattle.pacing.proofs.walk_read.Goals as goal
 
 pub overflow_mul-end : goal.overflow_mul-end
@@ -13,7 +12,7 @@ pub slice_bounds-walk_lines-end : goal.slice_bounds-walk_lines-end
 slice_bounds-walk_lines-end c = sym (length-take-le _ _ (omega (arith, c.requires.read_walkable.front _ c.in-Lines.is)))
 
 pub walk_lines-verdict-requires : goal.walk_lines-verdict-requires
-walk_lines-verdict-requires c = 
+walk_lines-verdict-requires c =
     let w = front_walkable _ c.requires.read_walkable c.in-Lines.is in record {
       walkable = w.0;
       raw_bound = c.requires.raw_bound;

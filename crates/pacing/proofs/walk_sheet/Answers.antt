@@ -4,11 +4,10 @@ use Rattle.estimates.specs.inner.Figures.{figure_by}
 use Rattle.opening.proofs.Passing.{figures_room}
 use Rattle.records.proofs.Records.{length_of}
 use Rattle.pacing.proofs.Opening.{read_walkable, sheet_walked}
-use borrow.Author.Rules.{rules}
 use Rattle.pacing.proofs.walk_sheet.Goals as goal
 
 pub walk_read-requires : goal.walk_read-requires
-walk_read-requires c = 
+walk_read-requires c =
     let o = c.open_measured-read in record {
       read_walkable = read_walkable c.open_measured-read.ensures (omega (arith, c.requires.sheet_bound, c.open_measured-read.auto.lines)) (figures_room _ c.open_measured-read.new.figures (omega (arith, c.requires.sheet_in_bounds, length_of 3 figure_by c.args.figures.now, c.open_measured-read.auto.figures))) c.requires.sheet_in_bounds_2;
       raw_bound = c.requires.raw_bound;

@@ -1,5 +1,5 @@
 -- A sheet opened, measured and walked, by its bytes. These are definitions; nothing is assumed.
-use Rattle.std.specs.Prelude.{◌≡◌, Bool, List, map, ◌++◌, ℕ, ◌-◌, ◌≤◌, ◌<◌, length, get_or, take}
+use Rattle.std.specs.Prelude.{◌≡◌, Bool, List, map, ◌++◌, ℕ, ◌≤◌, ◌<◌, length, get_or, take}
 use Rattle.lists.specs.Limits.{max_size}
 use Rattle.lists.specs.Refusals.{Check, first_answer}
 use Rattle.kinds.specs.Kinds.{table_kind}

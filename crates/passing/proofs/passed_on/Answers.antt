@@ -1,7 +1,6 @@
 -- `passing::passed_on` meets its contract: each way is a law of Off. Assumes nothing.
 use mathlib.Core.Path.{sym, ◌∙◌}
 use Rattle.passing.proofs.Off.{passes_none, passes_rest, passes_all}
-use borrow.Author.Rules.{rules}
 use Rattle.passing.proofs.passed_on.Goals as goal
 
 pub returns-in_default : goal.returns-in_default

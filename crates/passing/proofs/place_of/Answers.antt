@@ -1,6 +1,5 @@
 -- `passing::place_of` meets its contract: each arm answers what the definition says of its variant. Assumes nothing.
 use mathlib.Core.Path.{sym, ap}
-use borrow.Author.Rules.{rules}
 use Rattle.passing.specs.Walk.{given_number, width_number}
 use Rattle.passing.specs.inner.Places.{width_place}
 use Rattle.passing.proofs.place_of.Goals as goal

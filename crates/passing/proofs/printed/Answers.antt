@@ -1,7 +1,6 @@
 -- `passing::printed` meets its contract: the test settles the definition's. Assumes nothing.
 use borrow.Author.Tests.{eq-eqb, ne_eqb}
 use Rattle.passing.specs.Walk.{given_number, width_number}
-use borrow.Author.Rules.{rules}
 use Rattle.passing.proofs.printed.Goals as goal
 
 pub returns-then-w-eq0 : goal.returns-then-w-eq0

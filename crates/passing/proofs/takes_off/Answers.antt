@@ -22,7 +22,7 @@ returns-then-kind-eq-OL c = rw c.if-kind-eq-OL.true
 
 pub returns : goal.returns
 unfolding takes_off
-returns c = 
+returns c =
     rw (
       ne_eqb _ 10 c.if-kind-eq-HEAD.false,
       ne_eqb _ 12 c.if-kind-eq-QUOTE.false,

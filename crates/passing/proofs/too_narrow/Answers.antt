@@ -1,7 +1,6 @@
 -- `passing::too_narrow` meets its contract: each way is a law of Off. Assumes nothing.
 use mathlib.Core.Path.{sym, ◌∙◌}
 use Rattle.passing.proofs.Off.{narrow_none, narrow_rest, narrow_all}
-use borrow.Author.Rules.{rules}
 use Rattle.passing.proofs.too_narrow.Goals as goal
 
 pub returns-in_default : goal.returns-in_default

@@ -1,7 +1,6 @@
 -- `passing::width_of` meets its contract: the test settles the definition's. Assumes nothing.
 use borrow.Author.Tests.{eq-eqb, ne_eqb}
 use Rattle.passing.specs.inner.Places.{width_by}
-use borrow.Author.Rules.{rules}
 use Rattle.passing.proofs.width_of.Goals as goal
 
 pub returns-then-p-eq0 : goal.returns-then-p-eq0

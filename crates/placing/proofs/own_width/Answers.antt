@@ -1,6 +1,5 @@
 -- `placing::own_width` meets its contract: the branch decides as the definition does. Assumes nothing.
 use borrow.Author.Tests.{eq-eqb, ne_eqb}
-use borrow.Author.Rules.{rules}
 use Rattle.placing.proofs.own_width.Goals as goal
 
 pub returns-then-total-eq0 : goal.returns-then-total-eq0

@@ -8,8 +8,7 @@ use lib.ListN.{length, take, drop}
 use Rattle.records.specs.Kept.{entry_by, entries_of, row_by, rows_of}
 use Rattle.records.proofs.Records.{length_of}
 use Rattle.placing.proofs.Parts.{entries_part}
-use Rattle.placing.proofs.RowsLoop.{Rows, rows_start, rows_bounds, rows_row, rows_turn, rows_stop}
-use borrow.Author.Rules.{rules}
+use Rattle.placing.proofs.RowsLoop.{rows_start, rows_bounds, rows_row, rows_turn, rows_stop}
 use Rattle.placing.proofs.place.Goals as goal
 use Rattle.placing.proofs.place.Goals.{After-index-to, In-loop-r}
 
@@ -23,8 +22,8 @@ less-at-After-index-to c = omega (arith, c.loop-r-test.true, length_of 2 row_by 
 
 -- it ends where it should, within the entries
 bounds : (c : After-index-to) → (c.loop-r.from ≤ c.index-to.result) × (c.index-to.result ≤ length c.args.entries.now / 3)
-bounds c = 
-        rw (← length_of 3 entry_by c.args.entries.now)
+bounds c =
+    rw (← length_of 3 entry_by c.args.entries.now)
     (rows_bounds _ _ _ _ _ _ _ c.requires _ _ _ _ c.loop-r.invariant (less-at-After-index-to c) c.row_at-row.result c.row_at-row.ensures _ c.index-to.ensures)
 
 -- its records
@@ -80,7 +79,7 @@ pub slice_bounds-place_row-end-in-loop-r-2 : goal.slice_bounds-place_row-end-in-
 slice_bounds-place_row-end-in-loop-r-2 c = omega (arith, bounds (goal.at.slice_bounds-place_row-end-in-loop-r-2 c).After-index-to, c.loop-r.invariant.wides_length, length_of 3 entry_by c.args.entries.now)
 
 pub place_row-requires : goal.place_row-requires
-place_row-requires c = 
+place_row-requires c =
     rw (part (goal.at.place_row-requires c).After-index-to)
     (rows_row _ _ _ _ _ _ _ c.requires _ _ _ _ c.loop-r.invariant (less (goal.at.place_row-requires c).In-loop-r) c.row_at-row.result c.row_at-row.ensures _ c.index-to.ensures)
 
@@ -88,7 +87,7 @@ pub loop-r-smaller : goal.loop-r-smaller
 loop-r-smaller c = omega (arith, less (goal.at.loop-r-smaller c).In-loop-r)
 
 pub loop-r-preserved : goal.loop-r-preserved
-loop-r-preserved c = 
+loop-r-preserved c =
     rows_turn _ _ _ _ _ _ _ c.requires _ _ _ _ c.loop-r.invariant (less (goal.at.loop-r-preserved c).In-loop-r) c.row_at-row.result c.row_at-row.ensures _ c.index-to.ensures _ _
     (rw (part (goal.at.loop-r-preserved c).After-index-to) at c.place_row.ensures)
 

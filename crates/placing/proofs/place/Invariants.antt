@@ -1,15 +1,10 @@
 -- `placing::place` meets its contract. The loop's invariant, `Rows`: the figures of the rows before r are written up to `from`, and with those of
 -- the rows left they are the figures of all rows. The row ends ascend, so the next row's part lies within the slices; its records are a part of
 -- the records, and it is written as the definition places it. The measure is the number of rows left. Assumes nothing.
-use mathlib.Core.Path.{◌≡◌}
-use Prim.Native.Nat.{◌-◌, ◌*◌, ◌/◌, ◌≤◌, ◌<◌}
-use native.Mathlib.Omega.{arith}
-use lib.ListN.{length, take, drop}
-use Rattle.records.specs.Kept.{entry_by, entries_of, row_by, rows_of}
-use Rattle.records.proofs.Records.{length_of}
-use Rattle.placing.proofs.Parts.{entries_part}
-use Rattle.placing.proofs.RowsLoop.{Rows, rows_start, rows_bounds, rows_row, rows_turn, rows_stop}
-use borrow.Author.Rules.{rules}
+use Prim.Native.Nat.{◌-◌}
+use lib.ListN.{length}
+use Rattle.records.specs.Kept.{entries_of, rows_of}
+use Rattle.placing.proofs.RowsLoop.{Rows}
 use Rattle.placing.proofs.place.Given as goal
 
 abbrev pub invariant-loop-r : goal.invariant-loop-r

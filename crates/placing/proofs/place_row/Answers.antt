@@ -1,7 +1,6 @@
 -- `placing::place_row` meets its contract: the arm tells the way; sideways a row that tiles the columns has what is asked for, and down the two
 -- figures that fill the slices are those of every entry. Assumes nothing.
 use Rattle.placing.proofs.RowLoop.{row_side, placed_side, placed_down}
-use borrow.Author.Rules.{rules}
 use Rattle.placing.proofs.place_row.Goals as goal
 
 pub place_side_row-requires : goal.place_side_row-requires
@@ -11,6 +10,6 @@ pub returns-in-Sideways : goal.returns-in-Sideways
 returns-in-Sideways c = placed_side _ _ _ _ _ _ c.in-Sideways.is c.place_side_row.ensures
 
 pub returns-in-Down : goal.returns-in-Down
-returns-in-Down c = 
+returns-in-Down c =
     let d = c.place_down_row.ensures in
     placed_down _ _ _ _ _ c.requires _ _ _ c.in-Down.is d.x_after d.wide_after

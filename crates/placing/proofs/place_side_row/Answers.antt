@@ -9,8 +9,7 @@ use Rattle.lists.specs.Limits.{max_size}
 use Rattle.lists.specs.Lists.{sum}
 use Rattle.records.specs.Kept.{entry_by, entries_of}
 use Rattle.records.proofs.Records.{length_of}
-use Rattle.placing.proofs.RowLoop.{Sides, side_start, side_columns, side_sum, side_room, side_turn, side_stop, part_sum}
-use borrow.Author.Rules.{rules}
+use Rattle.placing.proofs.RowLoop.{side_start, side_columns, side_sum, side_room, side_turn, side_stop, part_sum}
 use Rattle.placing.proofs.place_side_row.Goals as goal
 use Rattle.placing.proofs.place_side_row.Goals.{After-index, After-spread_of-total, In-loop-i}
 
@@ -24,7 +23,7 @@ less-at-After-index c = omega (arith, c.loop-i-test.true, c.loop-i.invariant.1.x
 
 -- its columns are there
 inside : (c : After-index) → c.index-from.result + c.index.result ≤ length c.args.ws.now
-inside c =     omega (arith, c.index-from.ensures, c.index.ensures, side_columns _ _ _ _ c.requires _ c.entry_at-e.result c.entry_at-e.ensures (less-at-After-index c))
+inside c = omega (arith, c.index-from.ensures, c.index.ensures, side_columns _ _ _ _ c.requires _ c.entry_at-e.result c.entry_at-e.ensures (less-at-After-index c))
 
 -- what `spread_of` answers is their sum
 sum_is : (c : After-spread_of-total) → let e = c.entry_at-e.result in
@@ -37,8 +36,8 @@ less-at-After-spread_of-total c = omega (arith, c.loop-i-test.true, c.loop-i.inv
 
 -- the entry does not reach too far
 room : (c : After-spread_of-total) → c.loop-i.start + (c.spread_of-total.result + c.entry_at-e.result.span) ≤ max_size + 1
-room c = 
-        let l = c.loop-i in
+room c =
+    let l = c.loop-i in
     rw (sum_is c)
     (side_room _ _ _ _ c.requires l.i c.entry_at-e.result c.entry_at-e.ensures l.x l.wide l.start l.invariant.1 (less-at-After-spread_of-total c))
 
@@ -58,7 +57,7 @@ pub slice_bounds-spread_of-end : goal.slice_bounds-spread_of-end
 slice_bounds-spread_of-end c = omega (arith, inside (goal.at.slice_bounds-spread_of-end c).After-index)
 
 pub spread_of-total-requires : goal.spread_of-total-requires
-spread_of-total-requires c = 
+spread_of-total-requires c =
     let a = c.index-from.result in
     side_sum _ _ _ _ c.requires a (a + c.index.result - a)
 
@@ -75,7 +74,7 @@ pub loop-i-smaller : goal.loop-i-smaller
 loop-i-smaller c = omega (arith, less (goal.at.loop-i-smaller c).In-loop-i)
 
 pub loop-i-preserved : goal.loop-i-preserved
-loop-i-preserved c = 
+loop-i-preserved c =
     let l = c.loop-i in (
       omega (arith, less (goal.at.loop-i-preserved c).In-loop-i),
       side_turn _ _ _ _ c.requires l.i c.entry_at-e.result c.entry_at-e.ensures l.x l.wide l.start l.invariant.1 (less (goal.at.loop-i-preserved c).In-loop-i) _ _ _
@@ -83,7 +82,7 @@ loop-i-preserved c =
     )
 
 pub returns : goal.returns
-returns c = 
+returns c =
     let l = c.loop-i in
     side_stop _ _ _ _ c.requires l.x l.wide l.start l.i l.invariant.1
     (omega (arith, c.loop-i-test.false, l.invariant.1.xs_length, c.requires.xs_length))

@@ -1,16 +1,10 @@
 -- `placing::place_side_row` meets its contract. The loop's invariant, `Sides`: the entries before i are written, and those left are placed from
 -- `start` on. An entry's columns lie within the row's, since it tiles them, so its part is there and its sum fits; the entry is written as the
 -- definition places it, and `start` is where the definition goes on. The measure is the number of entries left. Assumes nothing.
-use mathlib.Core.Path.{◌≡◌}
-use Prim.Native.Nat.{◌+◌, ◌-◌, ◌≤◌, ◌<◌}
-use native.Mathlib.Omega.{arith}
-use lib.ListN.{length, take, drop}
-use Rattle.lists.specs.Limits.{max_size}
-use Rattle.lists.specs.Lists.{sum}
-use Rattle.records.specs.Kept.{entry_by, entries_of}
-use Rattle.records.proofs.Records.{length_of}
-use Rattle.placing.proofs.RowLoop.{Sides, side_start, side_columns, side_sum, side_room, side_turn, side_stop, part_sum}
-use borrow.Author.Rules.{rules}
+use Prim.Native.Nat.{◌-◌, ◌≤◌}
+use lib.ListN.{length}
+use Rattle.records.specs.Kept.{entries_of}
+use Rattle.placing.proofs.RowLoop.{Sides}
 use Rattle.placing.proofs.place_side_row.Given as goal
 
 abbrev pub invariant-loop-i : goal.invariant-loop-i

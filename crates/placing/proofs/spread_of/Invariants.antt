@@ -1,14 +1,10 @@
 -- `placing::spread_of` meets its contract. The loop's invariant: the total is the sum of the widths passed; one width more is in the sum of
 -- the front that is one longer, which is no more than the whole sum, so that it fits. The measure is what is left of the slice.
 -- Assumes nothing.
-use mathlib.Core.Path.{◌≡◌, refl, ap, ◌∙◌}
-use Prim.Native.Nat.{◌+◌, ◌-◌, ◌≤◌}
-use native.Mathlib.Omega.{arith}
+use mathlib.Core.Path.{◌≡◌}
+use Prim.Native.Nat.{◌-◌, ◌≤◌}
 use lib.ListN.{length, take}
-use lib.Seq.{take_all}
 use Rattle.lists.specs.Lists.{sum}
-use Rattle.lists.proofs.Sum.{sum_take_more, sum_take_le}
-use borrow.Author.Rules.{rules}
 use Rattle.placing.proofs.spread_of.Given as goal
 
 abbrev pub invariant-loop-i : goal.invariant-loop-i

@@ -3,42 +3,41 @@
 use mathlib.Core.Path.{sym, ◌∙◌}
 use Prim.Native.Nat.{◌-◌}
 use native.Mathlib.Omega.{arith}
-use Rattle.pointing.proofs.PointLoop.{Sofar, sofar_start, sofar_stop, sofar_gap, sofar_skip, sofar_cell, sofar_turn}
-use borrow.Author.Rules.{rules}
+use Rattle.pointing.proofs.PointLoop.{sofar_start, sofar_stop, sofar_gap, sofar_skip, sofar_cell, sofar_turn}
 use Rattle.pointing.proofs.at.Goals as goal
 
 pub loop-i-init : goal.loop-i-init
-loop-i-init c = 
+loop-i-init c =
     let a = c.args in
     sofar_start a.x.now a.wide.now a.first a.end a.column c.requires
 
 pub returns-then-w-ne0 : goal.returns-then-w-ne0
-returns-then-w-ne0 c = 
+returns-then-w-ne0 c =
     let a = c.args in
     let l = c.loop-i in
     sofar_gap a.x.now a.wide.now a.first a.end a.column c.requires l.i (omega arith) l.ended l.invariant c.if-ended.true (omega arith)
 
 pub loop-i-preserved-then-ended : goal.loop-i-preserved-then-ended
-loop-i-preserved-then-ended c = 
+loop-i-preserved-then-ended c =
     let a = c.args in
     let l = c.loop-i in
     sofar_skip a.x.now a.wide.now a.first a.end a.column c.requires l.i (omega arith) l.ended l.invariant c.if-ended.true (omega arith)
 
 pub returns-then-covers_column : goal.returns-then-covers_column
-returns-then-covers_column c = 
+returns-then-covers_column c =
     let a = c.args in
     let l = c.loop-i in
     sofar_cell a.x.now a.wide.now a.first a.end a.column c.requires l.i (omega arith) l.ended l.invariant c.if-ended.false (sym c.covers_column.ensures ∙ c.if-covers_column.true)
 
 pub loop-i-preserved : goal.loop-i-preserved
-loop-i-preserved c = 
+loop-i-preserved c =
     let a = c.args in
     let l = c.loop-i in
     sofar_turn a.x.now a.wide.now a.first a.end a.column c.requires l.i (omega arith) l.ended l.invariant c.if-ended.false
     (sym c.covers_column.ensures ∙ c.if-covers_column.false) _ c.closes_at-ended.ensures
 
 pub returns : goal.returns
-returns c = 
+returns c =
     let a = c.args in
     let l = c.loop-i in
     sofar_stop a.x.now a.wide.now a.first a.end a.column c.requires l.i l.ended l.invariant (omega arith)

@@ -1,10 +1,7 @@
 -- `pointing::at` meets its contract. The loop's invariant, `Sofar`: what lies ahead of entry i, once it is known whether a printed cell has ended
 -- at the column, is what the row has there. The measure is the number of entries left. Assumes nothing.
-use mathlib.Core.Path.{sym, ◌∙◌}
 use Prim.Native.Nat.{◌-◌}
-use native.Mathlib.Omega.{arith}
-use Rattle.pointing.proofs.PointLoop.{Sofar, sofar_start, sofar_stop, sofar_gap, sofar_skip, sofar_cell, sofar_turn}
-use borrow.Author.Rules.{rules}
+use Rattle.pointing.proofs.PointLoop.{Sofar}
 use Rattle.pointing.proofs.at.Given as goal
 
 abbrev pub invariant-loop-i : goal.invariant-loop-i

@@ -7,6 +7,6 @@ pub returns-then-column-x : goal.returns-then-column-x
 returns-then-column-x c = rw (lt-leb _ _ c.if-column-x.true)
 
 pub returns : goal.returns
-returns c = 
+returns c =
     let a = c.args in
     rw (le-leb _ _ c.if-column-x.false) (ltb_less a.x a.column a.wide c.if-column-x.false)

@@ -1,6 +1,5 @@
 -- `pointing::gap_at` meets its contract: what `at` answers is what the row has at the column, whatever the number of its first entry.
 -- Assumes nothing.
-use borrow.Author.Rules.{rules}
 use Rattle.pointing.specs.Point.{is_gap}
 use Rattle.pointing.proofs.Gaps.{gap_told}
 use Rattle.pointing.proofs.gap_at.Goals as goal

@@ -1,6 +1,5 @@
 -- `pointing::joining` meets its contract: the joint of what the row and the next have at the column. Assumes nothing.
 use mathlib.Core.Path.{ap₂, ◌∙◌}
-use borrow.Author.Rules.{rules}
 use Rattle.pointing.specs.Point.{joint_of}
 use Rattle.pointing.proofs.joining.Goals as goal
 

@@ -1,11 +1,8 @@
 -- `pointing::within` meets its contract. The loop's invariant, `Sofar`: the numbers so far, with those of the entries left, are those of the row,
 -- and stand at the front of the lent slice. No more are written than entries passed, so that there is a place for each. The measure is the number
 -- of entries left. Assumes nothing.
-use mathlib.Core.Path.{sym, ◌∙◌}
 use Prim.Native.Nat.{◌-◌}
-use native.Mathlib.Omega.{arith}
-use Rattle.pointing.proofs.ListLoop.{Sofar, list_start, list_stop, list_skip, list_turn}
-use borrow.Author.Rules.{rules}
+use Rattle.pointing.proofs.ListLoop.{Sofar}
 use Rattle.pointing.proofs.within.Given as goal
 
 abbrev pub invariant-loop-i : goal.invariant-loop-i

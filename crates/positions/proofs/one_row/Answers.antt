@@ -2,7 +2,7 @@
 -- the entries are written over from the row's place on. Assumes nothing.
 use mathlib.Core.Path.{◌≡◌, sym, ap, ◌∙◌}
 use mathlib.Core.List.{map}
-use Prim.Native.Nat.{ℕ, ◌+◌, ◌*◌, ◌-◌, ◌≤◌}
+use Prim.Native.Nat.{ℕ, ◌*◌, ◌-◌, ◌≤◌}
 use native.Mathlib.Omega.{arith}
 use lib.ListN.{length, take, drop, length-drop}
 use lib.Seq.{length-take-le}
@@ -16,15 +16,13 @@ use Rattle.rows.specs.inner.Overhangs.{third, lefts_in, ats_in, wides_in}
 use Rattle.rows.specs.Row.{item_line, item_span}
 use Rattle.positions.specs.inner.Slices.{row_at}
 use Rattle.positions.proofs.OverAt.{part_length, rest_figures, figures_over}
-use Rattle.positions.proofs.Thirds.{lefts_long, ats_long, wides_long, lefts_here, ats_here, wides_here}
-use borrow.Author.Rules.{rules}
+use Rattle.positions.proofs.Thirds.{lefts_long, lefts_here, ats_here, wides_here}
 use Rattle.positions.proofs.one_row.Goals as goal
 use Rattle.positions.proofs.one_row.Goals.{Start}
 
 -- the row's cells, what hangs into it and its entries lie within the slices
 within : (c : Start) → (c.args.first ≤ c.args.end) × (3 * c.args.end ≤ length c.args.cells.now) × (c.args.k ≤ third c.args.overhang.now) × (3 * c.args.n ≤ length c.args.entries.now)
-within c = 
-    (
+within c = (
   c.requires.rises,
   omega (arith, c.requires.lines_in_fits, length_figures 3 cell_by held_line c.args.cells.now),
   omega (arith, c.requires.left_in, lefts_long c.args.overhang.now),
@@ -108,7 +106,7 @@ slice_bounds-merge_row-start-4 c = omega (arith, within (goal.at.slice_bounds-me
 
 pub merge_row-requires : goal.merge_row-requires
 unfolding row_at
-merge_row-requires c = 
+merge_row-requires c =
     let a = c.args in
     let q = c.requires in
     let o = a.overhang.now in
@@ -120,18 +118,18 @@ merge_row-requires c =
     let room = rest-count (goal.at.merge_row-requires c).Start in record {
       at_len = (ha ∙ sym hl, hw ∙ sym hl);
       row_room = record {
-          lines = omega (arith, il, hl, room entry_cell, length_figures 3 entry_by entry_cell a.entries.now, q.line_room);
-          spans = omega (arith, il, hl, room entry_span, length_figures 3 entry_by entry_span a.entries.now, q.span_room);
-          lefts = omega (arith, il, hl, q.next_left_room);
-          ats = omega (arith, il, hl, q.next_at_room);
-          wides = omega (arith, il, hl, q.next_wide_room);
-        };
+        lines = omega (arith, il, hl, room entry_cell, length_figures 3 entry_by entry_cell a.entries.now, q.line_room);
+        spans = omega (arith, il, hl, room entry_span, length_figures 3 entry_by entry_span a.entries.now, q.span_room);
+        lefts = omega (arith, il, hl, q.next_left_room);
+        ats = omega (arith, il, hl, q.next_at_room);
+        wides = omega (arith, il, hl, q.next_wide_room);
+      };
       wide_bound = rw (cells_here (goal.at.merge_row-requires c).Start held_line, cells_here (goal.at.merge_row-requires c).Start held_span, cells_here (goal.at.merge_row-requires c).Start held_rows, lefts_here o a.k h, ats_here o a.k h, wides_here o a.k h) q.ends;
     }
 
 pub returns : goal.returns
 unfolding row_at
-returns c = 
+returns c =
     let a = c.args in
     let o = a.overhang.now in
     let h = (within (goal.at.returns c).Start).2 in

@@ -2,17 +2,16 @@
 -- hangs now, are the table's rows, of which none ends past 4,096 and whose entries have places; those of the rows done are written, and the records of
 -- the rows that are left say where their cells end. A turn merges the next row, and the measure is how many rows are left. Assumes nothing.
 use mathlib.Core.Path.{◌≡◌, refl, sym, ap, ◌∙◌}
-use mathlib.Core.List.{List, []}
-use Prim.Native.Nat.{ℕ, ◌-◌, ◌/◌, ◌<◌}
+use mathlib.Core.List.{[]}
+use Prim.Native.Nat.{◌-◌, ◌<◌}
 use native.Mathlib.Omega.{arith}
 use lib.ListN.{length, get_or}
 use Rattle.records.specs.Kept.{entry_by, row_by}
-use Rattle.cells.specs.Held.{lines_of, spans_of, rowspans_of, row_end, row_ends_of, entry_cell, entry_span, entry_cells_of, entry_spans_of}
+use Rattle.cells.specs.Held.{row_end, row_ends_of, entry_cell, entry_span}
 use Rattle.cells.proofs.Figures.{length_figures, figure_at_lem, figures_still}
-use Rattle.rows.specs.inner.Overhangs.{overhang_by, hung_left, hung_at, hung_span, lefts_of, ats_of, wides_of, lefts_in, ats_in, wides_in}
-use Rattle.positions.proofs.RowsLoop.{Bounds, Sofar, Held, end_kept, start_bounds, start, stop, cells_in_lem, few_entries, ready, small, turn, turn_bounds}
+use Rattle.rows.specs.inner.Overhangs.{overhang_by, hung_left, hung_at, hung_span}
+use Rattle.positions.proofs.RowsLoop.{end_kept, start_bounds, start, stop, cells_in_lem, few_entries, ready, small, turn, turn_bounds}
 use Rattle.positions.proofs.Thirds.{lefts_long, lefts_still, ats_still, wides_still}
-use borrow.Author.Rules.{rules}
 use Rattle.positions.proofs.position_rows.Goals as goal
 use Rattle.positions.proofs.position_rows.Goals.{After-row_at-row, In-loop-r}
 
@@ -21,8 +20,8 @@ more c = omega (arith, length_figures 2 row_by row_end c.args.rows.now, c.loop-r
 
 -- where the next row's cells end is still in its record
 end_is : (c : After-row_at-row) → get_or (row_ends_of c.args.rows.now) c.loop-r.r 0 ≡ c.row_at-row.result.end
-end_is c = 
-        let i = c.loop-r.invariant in
+end_is c =
+    let i = c.loop-r.invariant in
     sym (end_kept (i.1 [])) ∙ figure_at_lem 2 row_by row_end c.loop-r.rows c.loop-r.r (omega (arith, i.2.rows_long, c.loop-r-test.true))
     ∙ sym (ap row_end c.row_at-row.ensures)
 
@@ -36,7 +35,7 @@ pub one_row-hangs-requires : goal.one_row-hangs-requires
 one_row-hangs-requires c = ready c.requires c.loop-r.invariant.0 (more (goal.at.one_row-hangs-requires c).In-loop-r) _ (end_is (goal.at.one_row-hangs-requires c).After-row_at-row) [] (c.loop-r.invariant.1 [])
 
 pub carry-requires : goal.carry-requires
-carry-requires c = 
+carry-requires c =
     let q = c.requires in
     let b = c.loop-r.invariant.0 in
     let v = c.loop-r.invariant.2 in
@@ -67,7 +66,7 @@ pub loop-r-smaller : goal.loop-r-smaller
 loop-r-smaller c = omega (arith, c.loop-r-test.true)
 
 pub loop-r-preserved : goal.loop-r-preserved
-loop-r-preserved c = 
+loop-r-preserved c =
     let z = c.loop-r.invariant.1 in
     let h = c.loop-r.invariant.2 in
     let o = c.one_row-hangs in
@@ -90,7 +89,7 @@ loop-r-preserved c =
     )
 
 pub returns : goal.returns
-returns c = 
+returns c =
     let i = c.loop-r.invariant in record {
       made = (λ row_lines. stop c.requires i.0 row_lines (i.1 row_lines) (omega (arith, length_figures 2 row_by row_end c.args.rows.now, c.loop-r-test.false)));
       lined = i.2.lines_same;

@@ -1,22 +1,16 @@
 -- `positions::position_rows` merges the rows. The loop keeps: the rows done, with the rows of what is left of the table and of what
 -- hangs now, are the table's rows, of which none ends past 4,096 and whose entries have places; those of the rows done are written, and the records of
 -- the rows that are left say where their cells end. A turn merges the next row, and the measure is how many rows are left. Assumes nothing.
-use mathlib.Core.Path.{◌≡◌, refl, sym, ap, ◌∙◌}
-use mathlib.Core.List.{List, []}
-use Prim.Native.Nat.{ℕ, ◌-◌, ◌/◌, ◌<◌}
-use native.Mathlib.Omega.{arith}
-use lib.ListN.{length, get_or}
-use Rattle.records.specs.Kept.{entry_by, row_by}
-use Rattle.cells.specs.Held.{lines_of, spans_of, rowspans_of, row_end, row_ends_of, entry_cell, entry_span, entry_cells_of, entry_spans_of}
-use Rattle.cells.proofs.Figures.{length_figures, figure_at_lem, figures_still}
-use Rattle.rows.specs.inner.Overhangs.{overhang_by, hung_left, hung_at, hung_span, lefts_of, ats_of, wides_of, lefts_in, ats_in, wides_in}
-use Rattle.positions.proofs.RowsLoop.{Bounds, Sofar, Held, end_kept, start_bounds, start, stop, cells_in_lem, few_entries, ready, small, turn, turn_bounds}
-use Rattle.positions.proofs.Thirds.{lefts_long, lefts_still, ats_still, wides_still}
-use borrow.Author.Rules.{rules}
+use mathlib.Core.List.{List}
+use Prim.Native.Nat.{ℕ, ◌-◌, ◌/◌}
+use lib.ListN.{length}
+use Rattle.cells.specs.Held.{lines_of, spans_of, rowspans_of, row_ends_of, entry_cells_of, entry_spans_of}
+use Rattle.rows.specs.inner.Overhangs.{lefts_of, ats_of, wides_of, lefts_in, ats_in, wides_in}
+use Rattle.positions.proofs.RowsLoop.{Bounds, Sofar, Held}
 use Rattle.positions.proofs.position_rows.Given as goal
 
 abbrev pub invariant-loop-r : goal.invariant-loop-r
-invariant-loop-r l = 
+invariant-loop-r l =
     Bounds (lines_of l.cells) (row_ends_of l.initial.rows) (entry_cells_of l.initial.entries) (entry_spans_of l.initial.entries) (row_ends_of l.initial.rows) (lefts_in l.initial.overhang) (ats_in l.initial.overhang) (wides_in l.initial.overhang) (lefts_of l.initial.next) (ats_of l.initial.next) (wides_of l.initial.next)
     (entry_cells_of l.entries) (entry_spans_of l.entries) (row_ends_of l.rows) (lefts_in l.overhang) (ats_in l.overhang) (wides_in l.overhang) (lefts_of l.next) (ats_of l.next) (wides_of l.next) l.first l.r l.n l.k
     × ((row_lines : List ℕ) → Sofar (lines_of l.cells) (spans_of l.cells) (rowspans_of l.cells) (row_ends_of l.initial.rows) row_lines (entry_cells_of l.initial.entries) (entry_spans_of l.initial.entries) (row_ends_of l.initial.rows)

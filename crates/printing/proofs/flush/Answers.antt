@@ -1,6 +1,5 @@
 -- `printing::flush` meets its contract: the part before the place is as long as the place says.
 -- Assumes nothing.
-use borrow.Author.Rules.{rules}
 use mathlib.Core.Path.{sym}
 use lib.Seq.{length-take-le}
 use Rattle.printing.proofs.flush.Goals as goal

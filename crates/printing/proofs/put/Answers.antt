@@ -2,11 +2,10 @@
 -- was. A turn stores one byte more. The measure is what is left of the word.
 -- Assumes nothing.
 use borrow.Author.Rules.{rules}
-use mathlib.Core.Path.{◌≡◌}
-use Prim.Native.Nat.{◌-◌, ◌≤◌}
+use Prim.Native.Nat.{◌-◌}
 use native.Mathlib.Omega.{arith}
-use lib.ListN.{length, length-set}
-use lib.Seq.{paste, paste-zero}
+use lib.ListN.{length-set}
+use lib.Seq.{paste-zero}
 use Rattle.printing.proofs.Writing.{copy_more, copy_all}
 use Rattle.printing.proofs.put.Goals as goal
 
@@ -14,7 +13,7 @@ pub loop-i-init : goal.loop-i-init
 loop-i-init c = (search rules, search rules, paste-zero c.args.out.now c.args.at c.args.word.now)
 
 pub loop-i-preserved : goal.loop-i-preserved
-loop-i-preserved c = 
+loop-i-preserved c =
     let l = c.loop-i in
     let a = c.args in (
       omega arith,
@@ -23,7 +22,7 @@ loop-i-preserved c =
     )
 
 pub returns : goal.returns
-returns c = 
+returns c =
     let l = c.loop-i in
     let a = c.args in
     record {

@@ -1,13 +1,10 @@
 -- `printing::put` meets its contract. The invariant: the first i bytes of the word stand in the buffer from the place on, and all else is as it
 -- was. A turn stores one byte more. The measure is what is left of the word.
 -- Assumes nothing.
-use borrow.Author.Rules.{rules}
 use mathlib.Core.Path.{◌≡◌}
 use Prim.Native.Nat.{◌-◌, ◌≤◌}
-use native.Mathlib.Omega.{arith}
-use lib.ListN.{length, length-set}
-use lib.Seq.{paste, paste-zero}
-use Rattle.printing.proofs.Writing.{copy_more, copy_all}
+use lib.ListN.{length}
+use lib.Seq.{paste}
 use Rattle.printing.proofs.put.Given as goal
 
 abbrev pub invariant-loop-i : goal.invariant-loop-i

@@ -1,6 +1,5 @@
 -- `printing::put_ended` meets its contract: the byte is put after the number (`put_after`).
 -- Assumes nothing.
-use borrow.Author.Rules.{rules}
 use native.Mathlib.Omega.{arith}
 use Rattle.printing.proofs.Writing.{put_after}
 use Rattle.printing.proofs.put_ended.Goals as goal

@@ -1,6 +1,5 @@
 -- `printing::put_number` meets its contract: what `io::decimal` spells is the number's digits, at most ten of them, and `put` puts them.
 -- Assumes nothing.
-use borrow.Author.Rules.{rules}
 use native.Mathlib.Omega.{arith}
 use Rattle.printing.proofs.Numbers.{fewest_ten, number_put}
 use Rattle.printing.proofs.put_number.Goals as goal
@@ -9,6 +8,6 @@ pub put-requires : goal.put-requires
 put-requires c = omega (arith, fewest_ten c.args.n (omega arith) _ c.decimal-k.ensures.len)
 
 pub returns : goal.returns
-returns c = 
+returns c =
     let d = c.decimal-k in
     number_put c.args.n (omega arith) c.decimal-k.ensures.len c.decimal-k.ensures.digits c.put.ensures

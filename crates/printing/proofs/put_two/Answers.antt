@@ -1,6 +1,5 @@
 -- `printing::put_two` meets its contract: the second number is put after the first (`put_next`).
 -- Assumes nothing.
-use borrow.Author.Rules.{rules}
 use native.Mathlib.Omega.{arith}
 use Rattle.printing.specs.Printing.{line}
 use Rattle.printing.proofs.Writing.{put_next}

@@ -1,7 +1,6 @@
 -- `records::figure_of` meets its contract: the line is made again from the figure of its kind. Assumes nothing.
 use mathlib.Core.Path.{sym, ◌∙◌}
 use Rattle.records.proofs.Figures.{by_text, by_number, by_spans}
-use borrow.Author.Rules.{rules}
 use Rattle.records.proofs.figure_of.Goals as goal
 
 pub returns-then-has_text : goal.returns-then-has_text

@@ -13,7 +13,7 @@ pub bounds-lines-at-2 : goal.bounds-lines-at-2
 bounds-lines-at-2 c = simp length-set (search rules)
 
 pub returns : goal.returns
-returns c = 
+returns c =
     let a = c.args in
     of_set 2 kept_by a.lines.now a.i ((a.depth + 64 * a.kind) ∷ a.figure ∷ []) refl (search rules)
     ∙ ap (set (kepts_of a.lines.now) a.i) (by_both a.depth a.kind a.figure c.requires.depth_le_max_depth.0)

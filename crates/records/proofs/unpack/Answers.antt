@@ -2,9 +2,9 @@
 -- `place_in`. Assumes nothing.
 use mathlib.Core.Path.{◌≡◌, refl, sym, ap, ◌∙◌}
 use mathlib.Core.List.{List}
-use Prim.Native.Nat.{ℕ, ◌+◌, ◌*◌, ◌-◌, ◌≤◌}
+use Prim.Native.Nat.{ℕ, ◌+◌, ◌*◌, ◌-◌}
 use native.Mathlib.Omega.{arith}
-use lib.ListN.{length, get_or, take, length-set}
+use lib.ListN.{get_or, length-set}
 use lib.Seq.{take_all}
 use Rattle.lists.specs.Lists.{over}
 use Rattle.lists.proofs.Over.{over_none, over_step}
@@ -17,27 +17,27 @@ pub loop-i-init : goal.loop-i-init
 loop-i-init c = (search rules, refl, sym (over_none _))
 
 pub overflow_mul-buffer : goal.overflow_mul-buffer
-overflow_mul-buffer c = 
+overflow_mul-buffer c =
     let a = c.args in
     omega (arith, place_in a.w a.f a.n a.records.now c.loop-i.i (search rules) (search rules) (search rules))
 
 pub overflow_add-buffer : goal.overflow_add-buffer
-overflow_add-buffer c = 
+overflow_add-buffer c =
     let a = c.args in
     omega (arith, place_in a.w a.f a.n a.records.now c.loop-i.i (search rules) (search rules) (search rules))
 
 pub offset_bounds-records-w : goal.offset_bounds-records-w
-offset_bounds-records-w c = 
+offset_bounds-records-w c =
     let a = c.args in
     omega (arith, place_in a.w a.f a.n a.records.now c.loop-i.i (search rules) (search rules) (search rules))
 
 pub bounds-records-w : goal.bounds-records-w
-bounds-records-w c = 
+bounds-records-w c =
     let a = c.args in
     omega (arith, place_in a.w a.f a.n a.records.now c.loop-i.i (search rules) (search rules) (search rules))
 
 pub loop-i-preserved : goal.loop-i-preserved
-loop-i-preserved c = 
+loop-i-preserved c =
     let a = c.args in
     let v = c.loop-i in
     let l = length_numbers a.w a.f a.n a.records.now in
@@ -48,7 +48,7 @@ loop-i-preserved c =
     )
 
 pub returns : goal.returns
-returns c = 
+returns c =
     let a = c.args in
     let v = c.loop-i in
     let g = numbers_of a.w a.f a.n a.records.now in

@@ -1,12 +1,11 @@
 -- `rows::carry` meets its contract. The loop's invariant: the first i are carried into the thirds. The measure is how many are left. Assumes nothing.
 use mathlib.Core.Path.{◌≡◌, refl, sym, ap, ◌∙◌}
-use Prim.Native.Nat.{ℕ, ◌-◌, ◌/◌, ◌≤◌, ◌<◌}
+use Prim.Native.Nat.{ℕ, ◌-◌, ◌/◌, ◌<◌}
 use native.Mathlib.Omega.{arith}
 use lib.ListN.{length, length-set}
 use Rattle.cells.proofs.Figures.{length_figures, figure_at_lem}
-use Rattle.rows.specs.inner.Overhangs.{overhang_by, hung_left, hung_at, hung_span, lefts_of, ats_of, wides_of, third}
-use Rattle.rows.proofs.Hung.{Upto, none, one_more, carried}
-use borrow.Author.Rules.{rules}
+use Rattle.rows.specs.inner.Overhangs.{overhang_by, hung_left, hung_at, hung_span}
+use Rattle.rows.proofs.Hung.{none, one_more, carried}
 use Rattle.rows.proofs.carry.Goals as goal
 
 pub loop-i-init : goal.loop-i-init
@@ -31,7 +30,7 @@ pub loop-i-smaller : goal.loop-i-smaller
 loop-i-smaller c = omega (arith, c.loop-i-test.true)
 
 pub loop-i-preserved : goal.loop-i-preserved
-loop-i-preserved c = 
+loop-i-preserved c =
     let l = c.loop-i in
     let v = c.args.next.now in
     let n : l.i < length v / 3 = omega (arith, c.requires.0, c.loop-i-test.true) in
@@ -44,7 +43,7 @@ loop-i-preserved c =
     )
 
 pub returns : goal.returns
-returns c = 
+returns c =
     let l = c.loop-i in
     let v = c.args.next.now in
     let e : l.i ≡ c.args.k = omega (arith, l.invariant.0, c.loop-i-test.false) in

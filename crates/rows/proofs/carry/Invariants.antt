@@ -1,12 +1,9 @@
 -- `rows::carry` meets its contract. The loop's invariant: the first i are carried into the thirds. The measure is how many are left. Assumes nothing.
-use mathlib.Core.Path.{◌≡◌, refl, sym, ap, ◌∙◌}
-use Prim.Native.Nat.{ℕ, ◌-◌, ◌/◌, ◌≤◌, ◌<◌}
-use native.Mathlib.Omega.{arith}
-use lib.ListN.{length, length-set}
-use Rattle.cells.proofs.Figures.{length_figures, figure_at_lem}
-use Rattle.rows.specs.inner.Overhangs.{overhang_by, hung_left, hung_at, hung_span, lefts_of, ats_of, wides_of, third}
-use Rattle.rows.proofs.Hung.{Upto, none, one_more, carried}
-use borrow.Author.Rules.{rules}
+use mathlib.Core.Path.{◌≡◌}
+use Prim.Native.Nat.{◌-◌, ◌/◌, ◌≤◌}
+use lib.ListN.{length}
+use Rattle.rows.specs.inner.Overhangs.{lefts_of, ats_of, wides_of, third}
+use Rattle.rows.proofs.Hung.{Upto}
 use Rattle.rows.proofs.carry.Given as goal
 
 abbrev pub invariant-loop-i : goal.invariant-loop-i

@@ -16,10 +16,9 @@ use Rattle.cells.proofs.Figures.{length_figures, figure_at_lem}
 use Rattle.rows.specs.Row.{Item, item, hangs, cells_of, hanging, row_from, row_of, nexts, due_at, RowRoom}
 use Rattle.rows.specs.inner.Overhangs.{overhang_by, hung_left, hung_at, hung_span, lefts_of, ats_of, wides_of}
 use Rattle.rows.proofs.Steps.{cells_length, hanging_length, put_rows, put_filler}
-use Rattle.rows.proofs.MergeLoop.{Sofar, start, turn, within, stop, hang_there, hang_next, cell_there, cell_next}
-use borrow.Author.Rules.{rules}
+use Rattle.rows.proofs.MergeLoop.{start, turn, within, stop, hang_there, hang_next, cell_there, cell_next}
 use Rattle.rows.proofs.merge_row.Goals as goal
-use Rattle.rows.proofs.merge_row.Goals.{After-cell_at-c, After-due, After-overhang_in-o, At-loop-n, Else-due, In-loop-n, Start, Then-due}
+use Rattle.rows.proofs.merge_row.Goals.{After-cell_at-c, After-overhang_in-o, Else-due, In-loop-n, Start, Then-due}
 
 -- the row's cells, and what hangs into it
 abbrev C : (c : Start) → List Item
@@ -30,9 +29,6 @@ H c = hanging c.args.left.now c.args.at.now c.args.wide.now
 
 many-lines : (c : Start) → length (lines_of c.args.cells.now) ≡ length c.args.cells.now / 3
 many-lines c = length_figures 3 cell_by held_line c.args.cells.now
-
-same-many : (c : Start) → length c.args.at.now ≡ length c.args.left.now
-same-many c = c.requires.at_len.0
 
 cells-many : (c : Start) → length (C c) ≡ length (lines_of c.args.cells.now)
 cells-many c = cells_length (lines_of c.args.cells.now) (spans_of c.args.cells.now) (rowspans_of c.args.cells.now)
@@ -75,33 +71,11 @@ count-hanging-at-In-loop-n : (c : In-loop-n) → length (H-at-In-loop-n c) ≡ l
 count-hanging-at-In-loop-n c = hanging-many-at-In-loop-n c
 
 room-here : (c : In-loop-n) → (c.loop-n.n < length c.loop-n.entries / 3) × (c.loop-n.k < length c.loop-n.next / 3)
-room-here c = 
-        let r = roomy-at-In-loop-n c in
+room-here c =
+    let r = roomy-at-In-loop-n c in
     let z = c.loop-n.invariant in
     let n : c.loop-n.n < length (C-at-In-loop-n c) + length (H-at-In-loop-n c) = omega (arith, c.loop-n-test.true, count-cells-at-In-loop-n c, count-hanging-at-In-loop-n c) in
     (omega (arith, r.lines, length_figures 3 entry_by entry_cell c.args.entries.now, z.1), omega (arith, r.lefts, z.0.few, length_figures 3 overhang_by hung_left c.args.next.now, z.2))
-
--- the row's cells, and what hangs into it
-abbrev C-at-At-loop-n : (c : At-loop-n) → List Item
-C-at-At-loop-n c = cells_of (lines_of c.args.cells.now) (spans_of c.args.cells.now) (rowspans_of c.args.cells.now)
-
-cells-many-at-At-loop-n : (c : At-loop-n) → length (C-at-At-loop-n c) ≡ length (lines_of c.args.cells.now)
-cells-many-at-At-loop-n c = cells_length (lines_of c.args.cells.now) (spans_of c.args.cells.now) (rowspans_of c.args.cells.now)
-
-in_lines : (c : At-loop-n) → c.loop-n.i ≤ length (lines_of c.args.cells.now)
-in_lines c = omega (arith, c.loop-n.invariant.0.in_cells, cells-many-at-At-loop-n c)
-
-abbrev dueHere : (c : At-loop-n) → Bool
-dueHere c = due_at (drop c.loop-n.h c.args.at.now) c.loop-n.pos (eqb c.loop-n.i (length (lines_of c.args.cells.now)))
-
-abbrev dueHere-at-After-due : (c : After-due) → Bool
-dueHere-at-After-due c = due_at (drop c.loop-n.h c.args.at.now) c.loop-n.pos (eqb c.loop-n.i (length (lines_of c.args.cells.now)))
-
-many-lines-at-After-due : (c : After-due) → length (lines_of c.args.cells.now) ≡ length c.args.cells.now / 3
-many-lines-at-After-due c = length_figures 3 cell_by held_line c.args.cells.now
-
-due-is : (c : After-due) → c.due.result ≡ dueHere-at-After-due c
-due-is c =     c.due.ensures ∙ ap (λ (m : ℕ). due_at (drop c.loop-n.h c.args.at.now) c.loop-n.pos (eqb c.loop-n.i m)) (sym (many-lines-at-After-due c))
 
 abbrev dueHere-at-Then-due : (c : Then-due) → Bool
 dueHere-at-Then-due c = due_at (drop c.loop-n.h c.args.at.now) c.loop-n.pos (eqb c.loop-n.i (length (lines_of c.args.cells.now)))
@@ -110,7 +84,7 @@ many-lines-at-Then-due : (c : Then-due) → length (lines_of c.args.cells.now) �
 many-lines-at-Then-due c = length_figures 3 cell_by held_line c.args.cells.now
 
 due-is-at-Then-due : (c : Then-due) → c.due.result ≡ dueHere-at-Then-due c
-due-is-at-Then-due c =     c.due.ensures ∙ ap (λ (m : ℕ). due_at (drop c.loop-n.h c.args.at.now) c.loop-n.pos (eqb c.loop-n.i m)) (sym (many-lines-at-Then-due c))
+due-is-at-Then-due c = c.due.ensures ∙ ap (λ (m : ℕ). due_at (drop c.loop-n.h c.args.at.now) c.loop-n.pos (eqb c.loop-n.i m)) (sym (many-lines-at-Then-due c))
 
 -- a hanging one is due: it is there, and the row goes on with it
 due-now : (c : Then-due) → dueHere-at-Then-due c ≡ true
@@ -130,7 +104,7 @@ in_lines-at-Then-due : (c : Then-due) → c.loop-n.i ≤ length (lines_of c.args
 in_lines-at-Then-due c = omega (arith, c.loop-n.invariant.0.in_cells, cells-many-at-Then-due c)
 
 hang-in : (c : Then-due) → c.loop-n.h < length c.args.left.now
-hang-in c =     omega (arith, hang_there (lines_of c.args.cells.now) (spans_of c.args.cells.now) (rowspans_of c.args.cells.now) c.args.left.now c.args.at.now c.args.wide.now (same-many-at-Then-due c) c.loop-n.pos c.loop-n.i c.loop-n.h (in_lines-at-Then-due c) (due-now c))
+hang-in c = omega (arith, hang_there (lines_of c.args.cells.now) (spans_of c.args.cells.now) (rowspans_of c.args.cells.now) c.args.left.now c.args.at.now c.args.wide.now (same-many-at-Then-due c) c.loop-n.pos c.loop-n.i c.loop-n.h (in_lines-at-Then-due c) (due-now c))
 
 abbrev hang : (c : After-overhang_in-o) → Item
 hang c = item 0 true c.overhang_in-o.result.left c.overhang_in-o.result.at c.overhang_in-o.result.span
@@ -158,7 +132,7 @@ many-lines-at-After-overhang_in-o : (c : After-overhang_in-o) → length (lines_
 many-lines-at-After-overhang_in-o c = length_figures 3 cell_by held_line c.args.cells.now
 
 due-is-at-After-overhang_in-o : (c : After-overhang_in-o) → c.due.result ≡ dueHere-at-After-overhang_in-o c
-due-is-at-After-overhang_in-o c =     c.due.ensures ∙ ap (λ (m : ℕ). due_at (drop c.loop-n.h c.args.at.now) c.loop-n.pos (eqb c.loop-n.i m)) (sym (many-lines-at-After-overhang_in-o c))
+due-is-at-After-overhang_in-o c = c.due.ensures ∙ ap (λ (m : ℕ). due_at (drop c.loop-n.h c.args.at.now) c.loop-n.pos (eqb c.loop-n.i m)) (sym (many-lines-at-After-overhang_in-o c))
 
 -- a hanging one is due: it is there, and the row goes on with it
 due-now-at-After-overhang_in-o : (c : After-overhang_in-o) → dueHere-at-After-overhang_in-o c ≡ true
@@ -166,8 +140,8 @@ due-now-at-After-overhang_in-o c = sym (due-is-at-After-overhang_in-o c) ∙ c.i
 
 hang-is : (c : After-overhang_in-o) → row_from c.loop-n.pos (drop c.loop-n.h (H-at-After-overhang_in-o c)) (drop c.loop-n.i (C-at-After-overhang_in-o c))
     ≡ hang c ∷ row_from (c.loop-n.pos + (hang c).span) (drop (c.loop-n.h + 1) (H-at-After-overhang_in-o c)) (drop c.loop-n.i (C-at-After-overhang_in-o c))
-hang-is c = 
-        let e = c.overhang_in-o.ensures in
+hang-is c =
+    let e = c.overhang_in-o.ensures in
     let l : get_or c.args.left.now c.loop-n.h 0 ≡ c.overhang_in-o.result.left = sym (ap hung_left e) in
     let p : get_or c.args.at.now c.loop-n.h 0 ≡ c.overhang_in-o.result.at = sym (ap hung_at e) in
     let w : get_or c.args.wide.now c.loop-n.h 0 ≡ c.overhang_in-o.result.span = sym (ap hung_span e) in
@@ -192,14 +166,11 @@ many-lines-at-Else-due : (c : Else-due) → length (lines_of c.args.cells.now) �
 many-lines-at-Else-due c = length_figures 3 cell_by held_line c.args.cells.now
 
 due-is-at-Else-due : (c : Else-due) → c.due.result ≡ dueHere-at-Else-due c
-due-is-at-Else-due c =     c.due.ensures ∙ ap (λ (m : ℕ). due_at (drop c.loop-n.h c.args.at.now) c.loop-n.pos (eqb c.loop-n.i m)) (sym (many-lines-at-Else-due c))
+due-is-at-Else-due c = c.due.ensures ∙ ap (λ (m : ℕ). due_at (drop c.loop-n.h c.args.at.now) c.loop-n.pos (eqb c.loop-n.i m)) (sym (many-lines-at-Else-due c))
 
 -- none is due: a cell is there, and the row goes on with it
 not-now : (c : Else-due) → dueHere-at-Else-due c ≡ false
 not-now c = sym (due-is-at-Else-due c) ∙ c.if-due.false
-
-more : (c : In-loop-n) → c.loop-n.i + c.loop-n.h < length (lines_of c.args.cells.now) + length c.args.left.now
-more c = omega (arith, c.loop-n.invariant.0.both, c.loop-n-test.true, many-lines-at-In-loop-n c)
 
 same-many-at-Else-due : (c : Else-due) → length c.args.at.now ≡ length c.args.left.now
 same-many-at-Else-due c = c.requires.at_len.0
@@ -218,7 +189,7 @@ more-at-Else-due : (c : Else-due) → c.loop-n.i + c.loop-n.h < length (lines_of
 more-at-Else-due c = omega (arith, c.loop-n.invariant.0.both, c.loop-n-test.true, many-lines-at-Else-due c)
 
 cell_in_fits : (c : Else-due) → c.loop-n.i < length c.args.cells.now / 3
-cell_in_fits c =     omega (arith, cell_there (lines_of c.args.cells.now) (spans_of c.args.cells.now) (rowspans_of c.args.cells.now) c.args.left.now c.args.at.now c.args.wide.now (same-many-at-Else-due c) c.loop-n.pos c.loop-n.i c.loop-n.h (in_lines-at-Else-due c) (more-at-Else-due c) (not-now c), many-lines-at-Else-due c)
+cell_in_fits c = omega (arith, cell_there (lines_of c.args.cells.now) (spans_of c.args.cells.now) (rowspans_of c.args.cells.now) c.args.left.now c.args.at.now c.args.wide.now (same-many-at-Else-due c) c.loop-n.pos c.loop-n.i c.loop-n.h (in_lines-at-Else-due c) (more-at-Else-due c) (not-now c), many-lines-at-Else-due c)
 
 abbrev cell : (c : After-cell_at-c) → Item
 cell c = item c.cell_at-c.result.line false (suc (hangs c.cell_at-c.result.rows)) c.loop-n.pos c.cell_at-c.result.span
@@ -249,19 +220,19 @@ abbrev dueHere-at-After-cell_at-c : (c : After-cell_at-c) → Bool
 dueHere-at-After-cell_at-c c = due_at (drop c.loop-n.h c.args.at.now) c.loop-n.pos (eqb c.loop-n.i (length (lines_of c.args.cells.now)))
 
 due-is-at-After-cell_at-c : (c : After-cell_at-c) → c.due.result ≡ dueHere-at-After-cell_at-c c
-due-is-at-After-cell_at-c c =     c.due.ensures ∙ ap (λ (m : ℕ). due_at (drop c.loop-n.h c.args.at.now) c.loop-n.pos (eqb c.loop-n.i m)) (sym (many-lines-at-After-cell_at-c c))
+due-is-at-After-cell_at-c c = c.due.ensures ∙ ap (λ (m : ℕ). due_at (drop c.loop-n.h c.args.at.now) c.loop-n.pos (eqb c.loop-n.i m)) (sym (many-lines-at-After-cell_at-c c))
 
 -- none is due: a cell is there, and the row goes on with it
 not-now-at-After-cell_at-c : (c : After-cell_at-c) → dueHere-at-After-cell_at-c c ≡ false
 not-now-at-After-cell_at-c c = sym (due-is-at-After-cell_at-c c) ∙ c.if-due.false
 
 cell_in_fits-at-After-cell_at-c : (c : After-cell_at-c) → c.loop-n.i < length c.args.cells.now / 3
-cell_in_fits-at-After-cell_at-c c =     omega (arith, cell_there (lines_of c.args.cells.now) (spans_of c.args.cells.now) (rowspans_of c.args.cells.now) c.args.left.now c.args.at.now c.args.wide.now (same-many-at-After-cell_at-c c) c.loop-n.pos c.loop-n.i c.loop-n.h (in_lines-at-After-cell_at-c c) (more-at-After-cell_at-c c) (not-now-at-After-cell_at-c c), many-lines-at-After-cell_at-c c)
+cell_in_fits-at-After-cell_at-c c = omega (arith, cell_there (lines_of c.args.cells.now) (spans_of c.args.cells.now) (rowspans_of c.args.cells.now) c.args.left.now c.args.at.now c.args.wide.now (same-many-at-After-cell_at-c c) c.loop-n.pos c.loop-n.i c.loop-n.h (in_lines-at-After-cell_at-c c) (more-at-After-cell_at-c c) (not-now-at-After-cell_at-c c), many-lines-at-After-cell_at-c c)
 
 cell_is : (c : After-cell_at-c) → row_from c.loop-n.pos (drop c.loop-n.h (H-at-After-cell_at-c c)) (drop c.loop-n.i (C-at-After-cell_at-c c))
     ≡ cell c ∷ row_from (c.loop-n.pos + (cell c).span) (drop c.loop-n.h (H-at-After-cell_at-c c)) (drop (c.loop-n.i + 1) (C-at-After-cell_at-c c))
-cell_is c = 
-        let v = c.args.cells.now in
+cell_is c =
+    let v = c.args.cells.now in
     let n = cell_in_fits-at-After-cell_at-c c in
     let e = c.cell_at-c.ensures in
     let l : get_or (lines_of v) c.loop-n.i 0 ≡ c.cell_at-c.result.line = figure_at_lem 3 cell_by held_line v c.loop-n.i n ∙ sym (ap held_line e) in
@@ -303,7 +274,7 @@ pub loop-n-smaller-then-due : goal.loop-n-smaller-then-due
 loop-n-smaller-then-due c = omega (arith, c.loop-n-test.true)
 
 pub loop-n-preserved-then-due : goal.loop-n-preserved-then-due
-loop-n-preserved-then-due c = 
+loop-n-preserved-then-due c =
     let z = c.loop-n.invariant.0 in
     let p = c.put-k in (
       turn (H (goal.at.loop-n-preserved-then-due c).Start) (C (goal.at.loop-n-preserved-then-due c).Start) _ _ _ _ _ (roomy (goal.at.loop-n-preserved-then-due c).Start) z (hang (goal.at.loop-n-preserved-then-due c).After-overhang_in-o) c.loop-n.i (c.loop-n.h + 1)
@@ -334,7 +305,7 @@ pub loop-n-smaller : goal.loop-n-smaller
 loop-n-smaller c = omega (arith, c.loop-n-test.true)
 
 pub loop-n-preserved : goal.loop-n-preserved
-loop-n-preserved c = 
+loop-n-preserved c =
     let z = c.loop-n.invariant.0 in
     let p = c.put-k-else-due in (
       turn (H (goal.at.loop-n-preserved c).Start) (C (goal.at.loop-n-preserved c).Start) _ _ _ _ _ (roomy (goal.at.loop-n-preserved c).Start) z (cell (goal.at.loop-n-preserved c).After-cell_at-c) (c.loop-n.i + 1) c.loop-n.h
@@ -345,7 +316,7 @@ loop-n-preserved c =
 
 pub returns : goal.returns
 unfolding row_of
-returns c = 
+returns c =
     let z = c.loop-n.invariant.0 in
     let e : z.done ≡ row_from 0 (H (goal.at.returns c).Start) (C (goal.at.returns c).Start) = stop (H (goal.at.returns c).Start) (C (goal.at.returns c).Start) _ _ _ _ _ (roomy (goal.at.returns c).Start) z (omega (arith, c.loop-n-test.false, count-cells (goal.at.returns c).Start, count-hanging (goal.at.returns c).Start)) in
     record { hangs = z.hanging_on ∙ ap (λ (xs : List Item). length (nexts xs)) e; written = rw e at z.written }

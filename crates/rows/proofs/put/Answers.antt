@@ -5,16 +5,15 @@ use Rattle.cells.specs.Held.{entry_cell, entry_span}
 use Rattle.cells.proofs.Figures.{figure_set}
 use Rattle.rows.specs.inner.Overhangs.{overhang_by, hung_left, hung_at, hung_span}
 use Rattle.rows.proofs.Steps.{put_more, put_none}
-use borrow.Author.Rules.{rules}
 use Rattle.rows.proofs.put.Goals as goal
 
 pub returns-then-rows-le1 : goal.returns-then-rows-le1
-returns-then-rows-le1 c = 
+returns-then-rows-le1 c =
     let e = c.put_entry.ensures in
     rw (figure_set 3 entry_by entry_cell _ _ _ _ e, figure_set 3 entry_by entry_span _ _ _ _ e) (put_none _ _ _ _ _ _ _ _ (omega (arith, c.if-rows-le1.true)))
 
 pub returns : goal.returns
-returns c = 
+returns c =
     let e = c.put_entry.ensures in
     let o = c.put_overhang.ensures in
     rw (figure_set 3 entry_by entry_cell _ _ _ _ e, figure_set 3 entry_by entry_span _ _ _ _ e, figure_set 3 overhang_by hung_left _ _ _ _ o, figure_set 3 overhang_by hung_at _ _ _ _ o, figure_set 3 overhang_by hung_span _ _ _ _ o)

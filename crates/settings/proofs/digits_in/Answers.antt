@@ -3,12 +3,11 @@
 -- The measure is what is left of the field.
 -- Assumes nothing.
 use borrow.Author.Rules.{rules}
-use borrow.Author.Tests.{not-true, not-false}
 use mathlib.Core.Path.{◌≡◌, refl, sym, ap, ◌∙◌}
 use mathlib.Core.Bool.{true}
-use Prim.Native.Nat.{ℕ, ◌+◌, ◌-◌, ◌≤◌}
+use Prim.Native.Nat.{ℕ, ◌+◌, ◌-◌}
 use native.Mathlib.Omega.{arith}
-use lib.ListN.{length, get_or, drop}
+use lib.ListN.{get_or, drop}
 use Rattle.fields.specs.Numbers.{is_digit}
 use Rattle.fields.proofs.Digits.{digit_from}
 use Rattle.settings.specs.Reading.{digits_in}
@@ -23,26 +22,26 @@ pub loop-i-init : goal.loop-i-init
 loop-i-init c = (search rules, refl)
 
 pub returns-then-not-is_digit : goal.returns-then-not-is_digit
-returns-then-not-is_digit c = 
+returns-then-not-is_digit c =
     let l = c.loop-i in
     sym
     (l.invariant.1
     ∙ digits_other _ l.value l.i _ c.loop-i-test.true (sym c.is_digit.ensures ∙ c.if-not-is_digit.true))
 
 pub grown-value-requires : goal.grown-value-requires
-grown-value-requires c = 
+grown-value-requires c =
     record {
       value_bound = omega arith;
       le_digit = digit_from _ (digit (goal.at.grown-value-requires c).Else-not-is_digit);
     }
 
 pub returns-then-value-most : goal.returns-then-value-most
-returns-then-value-most c = 
+returns-then-value-most c =
     let l = c.loop-i in
     sym (l.invariant.1 ∙ digits_past _ l.value l.i _ c.loop-i-test.true (digit (goal.at.returns-then-value-most c).Else-not-is_digit) (omega arith))
 
 pub loop-i-preserved : goal.loop-i-preserved
-loop-i-preserved c = 
+loop-i-preserved c =
     let l = c.loop-i in
     let a = c.args in (
       omega arith,

@@ -2,17 +2,10 @@
 -- value, is what is read from the start. Each way out of a turn, and the turn itself, is a law on the bytes from the place on.
 -- The measure is what is left of the field.
 -- Assumes nothing.
-use borrow.Author.Rules.{rules}
-use borrow.Author.Tests.{not-true, not-false}
-use mathlib.Core.Path.{◌≡◌, refl, sym, ap, ◌∙◌}
-use mathlib.Core.Bool.{true}
-use Prim.Native.Nat.{ℕ, ◌+◌, ◌-◌, ◌≤◌}
-use native.Mathlib.Omega.{arith}
-use lib.ListN.{length, get_or, drop}
-use Rattle.fields.specs.Numbers.{is_digit}
-use Rattle.fields.proofs.Digits.{digit_from}
+use mathlib.Core.Path.{◌≡◌}
+use Prim.Native.Nat.{◌-◌, ◌≤◌}
+use lib.ListN.{length, drop}
 use Rattle.settings.specs.Reading.{digits_in}
-use Rattle.settings.proofs.Digits.{digits_end, digits_other, digits_past, digits_more}
 use Rattle.settings.proofs.digits_in.Given as goal
 
 abbrev pub invariant-loop-i : goal.invariant-loop-i

@@ -3,8 +3,6 @@
 -- Assumes nothing.
 -- from where a setting was found to what was known before
 -- what each test found
-use borrow.Author.Rules.{rules}
-use borrow.Author.Tests.{not-true, not-false}
 use mathlib.Core.Path.{◌≡◌, sym, ◌∙◌}
 use mathlib.Core.Bool.{true}
 use lib.ListN.{drop}
@@ -37,13 +35,13 @@ pub returns-in_default-setting_at : goal.returns-in_default-setting_at
 returns-in_default-setting_at c = sym (no_raw _ (headed (goal.at.returns-in_default-setting_at c).Else-not-starts_with) (told-wrap (goal.at.returns-in_default-setting_at c).In-Sound) (sym c.setting_at-2.ensures ∙ c.in_default-setting_at.is))
 
 pub returns-in_default-setting_at-2 : goal.returns-in_default-setting_at-2
-returns-in_default-setting_at-2 c = 
+returns-in_default-setting_at-2 c =
     sym
     (no_width _ (headed (goal.at.returns-in_default-setting_at-2 c).Else-not-starts_with) (told-wrap (goal.at.returns-in_default-setting_at-2 c).In-Sound) (told-raw (goal.at.returns-in_default-setting_at-2 c).In-Sound-setting_at)
     (sym c.setting_at-3.ensures ∙ c.in_default-setting_at-2.is))
 
 pub returns : goal.returns
-returns c = 
+returns c =
     sym
     (all_set _ (headed (goal.at.returns c).Else-not-starts_with) (told-wrap (goal.at.returns c).In-Sound) (told-raw (goal.at.returns c).In-Sound-setting_at)
     (sym c.setting_at-3.ensures ∙ c.in-Sound-setting_at-2.is))

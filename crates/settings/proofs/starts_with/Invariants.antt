@@ -1,12 +1,10 @@
 -- `settings::starts_with` meets its contract. The invariant: the bytes begin with the word if what is left of them begins with what is left of
 -- the word. A turn compares one byte. The measure is what is left of the word.
 -- Assumes nothing.
-use borrow.Author.Rules.{rules}
-use mathlib.Core.Path.{◌≡◌, refl, sym, ◌∙◌}
+use mathlib.Core.Path.{◌≡◌}
 use Prim.Native.Nat.{◌-◌}
 use lib.ListN.{length, drop}
 use Rattle.settings.specs.Reading.{starts_with}
-use Rattle.settings.proofs.Words.{starts_all, starts_short, starts_not, starts_more}
 use Rattle.settings.proofs.starts_with.Given as goal
 
 abbrev pub invariant-loop-i : goal.invariant-loop-i

@@ -1,13 +1,10 @@
 -- `settings::stop_at` meets its contract. The invariant: the place reached, and the bytes before the stop from there on, come to the place of
 -- the stop. Another byte is one of them; at the stop or at the end there are none. The measure is what is left of the bytes.
 -- Assumes nothing.
-use borrow.Author.Rules.{rules}
-use mathlib.Core.Path.{◌≡◌, refl}
+use mathlib.Core.Path.{◌≡◌}
 use Prim.Native.Nat.{◌+◌, ◌-◌}
-use native.Mathlib.Omega.{arith}
 use lib.ListN.{length, drop}
 use Rattle.settings.specs.Reading.{count_before}
-use Rattle.settings.proofs.Stops.{count_out, count_here, count_later}
 use Rattle.settings.proofs.stop_at.Given as goal
 
 abbrev pub invariant-loop-i : goal.invariant-loop-i

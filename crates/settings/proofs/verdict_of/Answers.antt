@@ -1,7 +1,6 @@
 -- `settings::verdict_of` meets its contract: each arm answers what the definition says of its variant. Assumes nothing.
 use mathlib.Core.Path.{sym, ap}
 use Rattle.settings.specs.Settings.{settled_verdict}
-use borrow.Author.Rules.{rules}
 use Rattle.settings.proofs.verdict_of.Goals as goal
 
 pub returns-in-Set : goal.returns-in-Set

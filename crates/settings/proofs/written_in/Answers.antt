@@ -1,6 +1,5 @@
 -- `settings::written_in` meets its contract: by its first byte a field is empty, all digits, a lone 0, or digits after a 0, which write nothing.
 -- Assumes nothing.
-use borrow.Author.Rules.{rules}
 use mathlib.Core.Path.{sym, ◌∙◌}
 use native.Mathlib.Omega.{arith}
 use Rattle.settings.proofs.Digits.{written_none, written_digits, written_led, written_zero}

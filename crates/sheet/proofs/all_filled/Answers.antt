@@ -6,14 +6,13 @@ use native.Mathlib.Omega.{arith}
 use borrow.Author.Tests.{eqb-true}
 use Rattle.records.specs.Kept.{kepts_of, kept_count}
 use Rattle.sheet.proofs.Filling.{filled_last}
-use borrow.Author.Rules.{rules}
 use Rattle.sheet.proofs.all_filled.Goals as goal
 
 pub returns-then-needs_child : goal.returns-then-needs_child
 returns-then-needs_child c = λ e. absurd (false≢true e)
 
 pub returns : goal.returns
-returns c = 
+returns c =
     λ e.
     let a = c.args in
     let ks = kepts_of a.lines.now in

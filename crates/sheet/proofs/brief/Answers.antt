@@ -1,7 +1,5 @@
 -- `sheet::brief` meets its contract: the figure makes the line's figures again. Assumes nothing.
-use mathlib.Core.Path.{refl, ◌∙◌}
-use Rattle.records.specs.Kept.{OfItsKind, kept_with}
-use borrow.Author.Rules.{rules}
+use mathlib.Core.Path.{refl}
 use Rattle.sheet.proofs.brief.Goals as goal
 
 pub figure_of-requires : goal.figure_of-requires

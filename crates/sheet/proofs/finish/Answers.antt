@@ -3,12 +3,10 @@
 use mathlib.Core.Path.{sym, ap, ◌∙◌}
 use Prim.Native.Nat.{ℕ, ◌-◌}
 use native.Mathlib.Omega.{arith}
-use borrow.Author.Rules.{rules}
 use Rattle.records.specs.Kept.{kepts_of}
 use Rattle.records.proofs.Kepts.{length_kepts}
-use Rattle.sheet.specs.Steps.{bare}
 use Rattle.sheet.specs.declared.Reading.TheVariants.{Lines}
-use Rattle.sheet.proofs.Ending.{EndsFrom, bare_length, bare_empty, ends_none, ends_start, ends_more, ends_at, ends_all}
+use Rattle.sheet.proofs.Ending.{bare_length, bare_empty, ends_none, ends_start, ends_more, ends_at, ends_all}
 use Rattle.sheet.proofs.Filling.{filled_ends}
 use Rattle.sheet.proofs.finish.Goals as goal
 
@@ -16,7 +14,7 @@ pub returns-then-n-eq0 : goal.returns-then-n-eq0
 returns-then-n-eq0 c = ends_none _ (bare_length _ ∙ sym c.count-n.ensures ∙ c.if-n-eq0.true)
 
 pub returns-then-all_filled : goal.returns-then-all_filled
-returns-then-all_filled c = 
+returns-then-all_filled c =
     let ls = c.args.lines.now in
     let all = length_kepts ls in
     let n = c.count-n.ensures in
@@ -26,16 +24,16 @@ pub loop-i-init : goal.loop-i-init
 loop-i-init c = ends_start _ (omega (arith, bare_length c.args.lines.now))
 
 pub returns-then-left_empty_at : goal.returns-then-left_empty_at
-returns-then-left_empty_at c = 
+returns-then-left_empty_at c =
     let ls = c.args.lines.now in
     ends_at _ c.loop-i.i (omega (arith, bare_length ls)) c.loop-i.invariant (sym (bare_empty (kepts_of ls) c.loop-i.i) ∙ sym c.left_empty_at.ensures ∙ c.if-left_empty_at.true)
 
 pub loop-i-preserved : goal.loop-i-preserved
-loop-i-preserved c = 
+loop-i-preserved c =
     let ls = c.args.lines.now in
     ends_more _ c.loop-i.i (omega (arith, bare_length ls)) c.loop-i.invariant (sym (bare_empty (kepts_of ls) c.loop-i.i) ∙ sym c.left_empty_at.ensures ∙ c.if-left_empty_at.false)
 
 pub returns : goal.returns
-returns c = 
+returns c =
     let ls = c.args.lines.now in
     ap (λ (m : ℕ). Lines m) (c.count-n.ensures ∙ sym (bare_length ls)) ∙ ends_all _ c.loop-i.i (omega (arith, bare_length ls)) c.loop-i.invariant

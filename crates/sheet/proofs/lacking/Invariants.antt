@@ -1,14 +1,9 @@
 -- `sheet::lacking` meets its contract. The invariant: no more are found than were looked at, and where none is, none of these is left empty. The measure is what is
 -- left up to the end. Assumes nothing.
-use mathlib.Core.Path.{◌≡◌, ◌∙◌}
-use Prim.Native.Nat.{◌+◌, ◌-◌, ◌≤◌}
-use native.Mathlib.Omega.{arith}
-use lib.ListN.{length}
+use mathlib.Core.Path.{◌≡◌}
+use Prim.Native.Nat.{◌-◌, ◌≤◌}
 use Rattle.records.specs.Kept.{kepts_of}
-use Rattle.records.proofs.Kepts.{length_kepts}
 use Rattle.sheet.specs.Steps.{FilledTo}
-use Rattle.sheet.proofs.Filling.{filled_more}
-use borrow.Author.Rules.{rules}
 use Rattle.sheet.proofs.lacking.Given as goal
 
 abbrev pub invariant-loop-i : goal.invariant-loop-i

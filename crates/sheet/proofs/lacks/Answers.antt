@@ -1,9 +1,7 @@
 -- `sheet::lacks` meets its contract: each way's tests settle the definition's. Assumes nothing.
-use mathlib.Core.Path.{refl}
-use mathlib.Core.Bool.{Bool, and-false}
+use mathlib.Core.Bool.{and-false}
 use native.Mathlib.Omega.{arith}
 use borrow.Author.Tests.{ne_eqb, lt-leb}
-use borrow.Author.Rules.{rules}
 use Rattle.sheet.proofs.lacks.Goals as goal
 
 pub returns-then-here-lt-TABLE : goal.returns-then-here-lt-TABLE

@@ -3,8 +3,7 @@ use mathlib.Core.Path.{sym, ◌∙◌}
 use Prim.Native.Nat.{◌+◌, ◌≤◌, ◌<◌}
 use native.Mathlib.Omega.{arith}
 use lib.ListN.{length}
-use borrow.Author.Rules.{rules}
-use borrow.Author.Tests.{le-leb, lt-leb, not-true, not-false}
+use borrow.Author.Tests.{le-leb, lt-leb}
 use Rattle.records.specs.Kept.{kepts_of}
 use Rattle.records.proofs.Kepts.{length_kepts}
 use Rattle.sheet.specs.Steps.{empty_at}
@@ -16,14 +15,14 @@ returns-then-not-needs_child c = rw (← c.kept_at-here.ensures, sym c.needs_chi
 
 pub returns-then-next-count : goal.returns-then-next-count
 unfolding empty_at
-returns-then-next-count c = 
+returns-then-next-count c =
     let ls = c.args.lines.now in
     let h : length (kepts_of ls) ≤ c.args.i + 1 = omega (arith, length_kepts ls) in
     rw (← c.kept_at-here.ensures, sym c.needs_child.ensures ∙ c.if-not-needs_child.false, le-leb _ _ h)
 
 pub returns : goal.returns
 unfolding empty_at
-returns c = 
+returns c =
     let ls = c.args.lines.now in
     let h : c.args.i + 1 < length (kepts_of ls) = omega (arith, length_kepts ls) in
     rw (← c.kept_at-here.ensures, ← c.kept_at-below.ensures, sym c.needs_child.ensures ∙ c.if-not-needs_child.false, lt-leb _ _ h)

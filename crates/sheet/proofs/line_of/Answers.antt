@@ -3,12 +3,11 @@ use mathlib.Core.Path.{sym, ap, ◌∙◌}
 use Rattle.sheet.specs.Steps.{read_of}
 use Rattle.sheet.proofs.Ranges.{good_kinded}
 use Rattle.sheet.proofs.Briefs.{sound_answers, faulty_answers}
-use borrow.Author.Rules.{rules}
 use Rattle.sheet.proofs.line_of.Goals as goal
 
 pub returns-in-Line : goal.returns-in-Line
 unfolding read_of
-returns-in-Line c = 
+returns-in-Line c =
     let w = c.common_line.ensures c.in-Line.b c.in-Line.is in
     sound_answers c.in-Line.b w.node (ap read_of w.read) (record { kept = w.kept; next = w.next })
 

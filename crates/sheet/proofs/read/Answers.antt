@@ -1,8 +1,6 @@
 -- `sheet::read` meets its contract: 8 and 1 are asked here, and the lines of a sheet that begins as it should are read by `read_lines`.
 -- Assumes nothing.
 use mathlib.Core.Path.{sym, ◌∙◌}
-use borrow.Author.Rules.{rules}
-use borrow.Author.Tests.{not-true, not-false}
 use Rattle.sheet.proofs.Heading.{too_long_refused, unheaded_refused, begun, refused_reads}
 use Rattle.sheet.proofs.read.Goals as goal
 
@@ -13,7 +11,7 @@ pub returns-then-not-is_headed : goal.returns-then-not-is_headed
 returns-then-not-is_headed c = refused_reads (unheaded_refused _ (sym c.too_long.ensures ∙ c.if-too_long.false) (sym c.is_headed.ensures ∙ c.if-not-is_headed.true))
 
 pub read_lines-requires : goal.read_lines-requires
-read_lines-requires c = 
+read_lines-requires c =
     let p = c.requires in record {
       classes = p.classes;
       begun = begun _ (sym c.too_long.ensures ∙ c.if-too_long.false) (sym c.is_headed.ensures ∙ c.if-not-is_headed.false);

@@ -7,7 +7,6 @@ use mathlib.Core.Path.{◌≡◌, sym, ap, ◌∙◌}
 use mathlib.Core.List.{List}
 use Prim.Native.Nat.{◌-◌, ◌*◌, ◌≤◌}
 use native.Mathlib.Omega.{arith}
-use lib.ListN.{length}
 use lib.Seq.{length-take-le}
 use borrow.Author.Rules.{rules}
 use Rattle.lists.specs.Limits.{max_depth}
@@ -18,7 +17,7 @@ use Rattle.line.specs.declared.Node.{Node}
 use Rattle.sheet.specs.Steps.{sound, judgement_of, BriefOf, line_end, bare}
 use Rattle.sheet.proofs.Heading.{refused_reads}
 use Rattle.sheet.proofs.Accepted.{accepted_passed}
-use Rattle.sheet.proofs.Turns.{ReadingLoop, NextLine, turns_start, turns_refuse, turns_next, turns_more, turns_end, turns_stored}
+use Rattle.sheet.proofs.Turns.{NextLine, turns_start, turns_refuse, turns_next, turns_more, turns_end, turns_stored}
 use Rattle.sheet.proofs.read_lines.Goals as goal
 use Rattle.sheet.proofs.read_lines.Goals.{In-Sound}
 
@@ -35,12 +34,12 @@ pub returns-in-Faulty : goal.returns-in-Faulty
 returns-in-Faulty c = refused_reads (turns_refuse c.loop-at.invariant c.loop-at-test.true _ (c.judge.ensures.refused _ c.in-Faulty.is))
 
 pub bounds-chain-here : goal.bounds-chain-here
-bounds-chain-here c = 
+bounds-chain-here c =
     let h : c.in-Sound.b.depth ≤ max_depth = (next-line (goal.at.bounds-chain-here c).In-Sound).deep in
     omega arith
 
 pub keep_at-requires : goal.keep_at-requires
-keep_at-requires c = 
+keep_at-requires c =
     let l = next-line (goal.at.keep_at-requires c).In-Sound in record {
       i_bound = omega (arith, l.few);
       depth_le_max_depth = (l.deep, l.known);
@@ -50,12 +49,12 @@ pub overflow_add-n : goal.overflow_add-n
 overflow_add-n c = record { fits = omega (arith, c.loop-at.invariant.few, c.requires.begun.few) }
 
 pub loop-at-smaller : goal.loop-at-smaller
-loop-at-smaller c = 
+loop-at-smaller c =
     let l = next-line (goal.at.loop-at-smaller c).In-Sound in
     omega (arith, l.ahead, l.ends)
 
 pub loop-at-preserved : goal.loop-at-preserved
-loop-at-preserved c = 
+loop-at-preserved c =
     turns_more c.loop-at.invariant c.loop-at-test.true _ (known (goal.at.loop-at-preserved c).In-Sound) _ (omega (arith, (next-line (goal.at.loop-at-preserved c).In-Sound).few, c.requires.begun.few, c.requires.bytes_bound)) c.keep_at.auto.lines
     c.keep_at.ensures
 
@@ -63,12 +62,12 @@ pub slice_bounds-finish-end-2 : goal.slice_bounds-finish-end-2
 slice_bounds-finish-end-2 c = sym (length-take-le _ _ (search rules))
 
 pub finish-requires : goal.finish-requires
-finish-requires c = 
+finish-requires c =
     let v = c.loop-at in
     omega (arith, length-take-le (2 * v.n) v.lines (search rules))
 
 pub returns : goal.returns
-returns c = 
+returns c =
     let v = c.loop-at in
     let h = c.loop-at-test.false in
     let answer = c.finish.ensures ∙ ap (λ (ks : List Kept). line_end (bare ks)) (kepts_take v.lines v.n (search rules)) ∙ turns_end v.invariant h in

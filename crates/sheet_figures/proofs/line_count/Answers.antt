@@ -1,7 +1,6 @@
 -- `sheet_figures::line_count` meets its contract: each arm answers what the definition says of its variant. Assumes nothing.
 use mathlib.Core.Path.{sym, ap}
 use Rattle.sheet_figures.specs.inner.Opened.{lines_in}
-use borrow.Author.Rules.{rules}
 use Rattle.sheet_figures.proofs.line_count.Goals as goal
 
 pub returns-in-Lines : goal.returns-in-Lines

@@ -4,7 +4,6 @@ use Prim.Native.Nat.{ℕ}
 use native.Mathlib.Omega.{arith}
 use lib.ListN.{get_or}
 use borrow.Author.Tests.{eq-eqb, ne_eqb}
-use borrow.Author.Rules.{rules}
 use Rattle.estimates.specs.Estimates.{none}
 use Rattle.estimates.specs.inner.Figures.{figures_of}
 use Rattle.estimates.proofs.Packing.{length_figures}
@@ -17,6 +16,6 @@ pub estimate_at-requires : goal.estimate_at-requires
 estimate_at-requires c = omega (arith, c.requires, length_figures c.args.figures.now, c.index-at.ensures, c.if-cell-eq0.false)
 
 pub returns : goal.returns
-returns c = 
+returns c =
     c.estimate_at.ensures
     ∙ rw (ne_eqb c.args.cell 0 c.if-cell-eq0.false) (ap (λ (k : ℕ). get_or (figures_of c.args.figures.now) k none) c.index-at.ensures)

@@ -1,7 +1,6 @@
 -- `sizing::lay_front` meets its contract: the fronts of the room have the lengths that are asked for. Assumes nothing.
 use mathlib.Core.Path.{sym}
 use lib.Seq.{length-take-le}
-use borrow.Author.Rules.{rules}
 use Rattle.sizing.proofs.lay_front.Goals as goal
 
 pub slice_bounds-lay_in-end : goal.slice_bounds-lay_in-end
@@ -17,7 +16,7 @@ pub slice_bounds-lay_in-end-4 : goal.slice_bounds-lay_in-end-4
 slice_bounds-lay_in-end-4 c = sym (length-take-le _ _ c.requires.column_in_bounds_2)
 
 pub lay_in-requires : goal.lay_in-requires
-lay_in-requires c = 
+lay_in-requires c =
     record {
       entered = c.requires.entered;
       column_len_bound = c.requires.column_len_bound;

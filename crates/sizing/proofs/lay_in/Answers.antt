@@ -2,7 +2,6 @@
 -- out. Each fact follows from the answers before it by a law of Columns. Assumes nothing.
 use mathlib.Core.Path.{refl}
 use Rattle.sizing.proofs.Columns.{raisable, layable, laid_columns}
-use borrow.Author.Rules.{rules}
 use Rattle.sizing.proofs.lay_in.Goals as goal
 
 pub raise_columns-requires : goal.raise_columns-requires

@@ -7,9 +7,8 @@ use lib.ListN.{length}
 use Rattle.records.specs.Kept.{entry_by, entries_of}
 use Rattle.records.proofs.Records.{length_of}
 use Rattle.columns.specs.Boxes.{box}
-use Rattle.estimates.specs.inner.Figures.{figures_of}
 use Rattle.sizing.specs.inner.Room.{Whole}
-use Rattle.sizing.proofs.Raises.{Sofar, raise_start, sizes_count, leasts_count, entry_whole, raise_skip, raise_turn, raise_stop}
+use Rattle.sizing.proofs.Raises.{raise_start, sizes_count, leasts_count, entry_whole, raise_skip, raise_turn, raise_stop}
 use borrow.Author.Rules.{rules}
 use Rattle.sizing.proofs.raise_columns.Goals as goal
 use Rattle.sizing.proofs.raise_columns.Goals.{After-index, Else-f-eq0, In-loop-i}
@@ -97,7 +96,7 @@ pub loop-i-smaller : goal.loop-i-smaller
 loop-i-smaller c = omega (arith, less (goal.at.loop-i-smaller c).In-loop-i)
 
 pub loop-i-preserved : goal.loop-i-preserved
-loop-i-preserved c = 
+loop-i-preserved c =
     let a = c.index-from.result in
     raise_turn c.requires c.copy_out.auto.dst c.loop-i.invariant (less (goal.at.loop-i-preserved c).In-loop-i) c.entry_at-e.ensures c.figures_of-f.ensures
     a (a + c.index.result - a) c.index-from.ensures (omega arith) c.raise.ensures c.raise-else-f-eq0.ensures

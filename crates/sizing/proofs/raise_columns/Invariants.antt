@@ -1,16 +1,11 @@
 -- `sizing::raise_columns` meets its contract. The loop's invariant, `Sofar`: what stands in the columns is the largest that the first i entries
 -- give. A turn passes an entry without a size, or raises its columns by its two quotients; the parts that are lent lie within the columns,
 -- as the entry ends there. The measure is the number of entries left. Assumes nothing.
-use Prim.Native.Nat.{◌+◌, ◌-◌, ◌≤◌, ◌<◌}
-use native.Mathlib.Omega.{arith}
+use Prim.Native.Nat.{◌-◌}
 use lib.ListN.{length}
-use Rattle.records.specs.Kept.{entry_by, entries_of}
-use Rattle.records.proofs.Records.{length_of}
-use Rattle.columns.specs.Boxes.{box}
+use Rattle.records.specs.Kept.{entries_of}
 use Rattle.estimates.specs.inner.Figures.{figures_of}
-use Rattle.sizing.specs.inner.Room.{Whole}
-use Rattle.sizing.proofs.Raises.{Sofar, raise_start, sizes_count, leasts_count, entry_whole, raise_skip, raise_turn, raise_stop}
-use borrow.Author.Rules.{rules}
+use Rattle.sizing.proofs.Raises.{Sofar}
 use Rattle.sizing.proofs.raise_columns.Given as goal
 
 abbrev pub invariant-loop-i : goal.invariant-loop-i

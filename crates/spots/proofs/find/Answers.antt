@@ -1,10 +1,9 @@
 -- `spots::find` meets its contract: refused for the arguments, it finds no row; else what is found in the sheet. Assumes nothing.
 use Rattle.spots.proofs.Early.{found_early, found_late}
-use borrow.Author.Rules.{rules}
 use Rattle.spots.proofs.find.Goals as goal
 
 pub find_sheet-requires : goal.find_sheet-requires
-find_sheet-requires c = 
+find_sheet-requires c =
     record {
       width_le_max_size = c.requires.width_le_max_size c.in-Accepted.is;
       places_room = c.requires.places_room;

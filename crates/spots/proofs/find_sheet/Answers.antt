@@ -1,15 +1,13 @@
 -- `spots::find_sheet` meets its contract: no sheet has more lines, and no table more entries, than the arrays have room for. Assumes nothing.
-use mathlib.Core.Path.{refl}
 use native.Mathlib.Omega.{arith}
 use Rattle.opening.proofs.Passing.{figures_room}
 use Rattle.sheet_figures.proofs.Openings.{asked_in}
 use Rattle.sheet_figures.proofs.Tables.{lines_of, measured_in}
 use Rattle.spots.proofs.Read.{spot_found}
-use borrow.Author.Rules.{rules}
 use Rattle.spots.proofs.find_sheet.Goals as goal
 
 pub measure_table-read-requires : goal.measure_table-read-requires
-measure_table-read-requires c = 
+measure_table-read-requires c =
     record {
       bytes_bound = omega arith;
       bytes_in_bounds = figures_room _ _ (omega arith);
@@ -17,7 +15,7 @@ measure_table-read-requires c =
     }
 
 pub find_read-requires : goal.find_read-requires
-find_read-requires c = 
+find_read-requires c =
     let p = c.requires in
     let w = lines_of c.measure_table-read.ensures in record {
       asked_in = asked_in w.opened (omega arith);

@@ -1,5 +1,4 @@
 -- `sums::added` meets its contract. The sum of two signed sizes, by their signs. Assumes nothing.
-use borrow.Author.Rules.{rules}
 use mathlib.Core.Path.{sym, ap, ◌∙◌}
 use Rattle.sums.specs.Tree.{within}
 use Rattle.sums.proofs.Signs.{plus_same, plus_less, plus_more}

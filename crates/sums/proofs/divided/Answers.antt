@@ -1,5 +1,4 @@
 -- `sums::divided` meets its contract. No divisor, or the quotient of the sizes. Assumes nothing.
-use borrow.Author.Rules.{rules}
 use mathlib.Core.Path.{sym, ◌∙◌}
 use Rattle.sums.proofs.Signs.{no_divisor, divisor}
 use Rattle.sums.proofs.divided.Goals as goal

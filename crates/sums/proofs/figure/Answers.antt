@@ -1,5 +1,4 @@
 -- `sums::figure` meets its contract. Outside, zero, or a number with its sign. Assumes nothing.
-use borrow.Author.Rules.{rules}
 use mathlib.Core.Path.{refl}
 use Rattle.sums.proofs.Signs.{zero_answer, number_answer}
 use Rattle.sums.specs.Answers.{answer_by}

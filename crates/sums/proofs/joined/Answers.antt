@@ -1,5 +1,4 @@
 -- `sums::joined` meets its contract. By the two results and the operator. Assumes nothing.
-use borrow.Author.Rules.{rules}
 use mathlib.Core.Path.{sym, ap, ◌∙◌}
 use Rattle.sums.specs.Tree.{within, both, result_of}
 use lib.IntN.{ℤ, ◌+ℤ◌}

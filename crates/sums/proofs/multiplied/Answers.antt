@@ -1,5 +1,4 @@
 -- `sums::multiplied` meets its contract. The product fits where the division says so. Assumes nothing.
-use borrow.Author.Rules.{rules}
 use mathlib.Core.Path.{sym, ap, ◌∙◌}
 use native.Mathlib.Omega.{arith}
 use Rattle.sums.specs.Tree.{within}

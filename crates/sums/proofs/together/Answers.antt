@@ -1,5 +1,4 @@
 -- `sums::together` meets its contract. Both tests bound the sum. Assumes nothing.
-use borrow.Author.Rules.{rules}
 use native.Mathlib.Omega.{arith}
 use Prim.Native.Nat.{◌+◌}
 use Rattle.sums.proofs.Signs.{inside, outside}

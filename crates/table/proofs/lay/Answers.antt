@@ -1,11 +1,10 @@
 -- `table::lay` meets its contract. The rows' boxes tile the columns, so the columns can be laid out, and in the widths that come of it every entry has
 -- its place. Each fact follows from the answers before it by a law of Steps. Assumes nothing.
 use Rattle.table.proofs.Steps.{entered, places, laid_table}
-use borrow.Author.Rules.{rules}
 use Rattle.table.proofs.lay.Goals as goal
 
 pub lay_columns-laid-requires : goal.lay_columns-laid-requires
-lay_columns-laid-requires c = 
+lay_columns-laid-requires c =
     record {
       entered = entered c.requires;
       column_len_bound = c.requires.columns;

@@ -3,7 +3,6 @@
 use mathlib.Core.Path.{sym, ◌∙◌}
 use native.Mathlib.Omega.{arith}
 use borrow.Author.Tests.{lt-ltb, le-ltb}
-use borrow.Author.Rules.{rules}
 use Rattle.lists.specs.Refusals.{first_answer}
 use Rattle.text.specs.Text.{measure_of}
 use Rattle.text.proofs.Sizes.{scan_size, scan_unreadable, scan_le}
@@ -26,7 +25,7 @@ with_img-size-requires c = omega (arith, scan_le _ _ (sym c.scan.ensures ∙ c.i
 
 pub returns : goal.returns
 unfolding measure_of first_answer
-returns c = 
+returns c =
     let told = scan_size _ _ (sym c.scan.ensures ∙ c.in-Size.is) in
     rw (le-ltb _ _ c.if-wrap-gt-MAX_WRAP.false, le-ltb _ _ c.if-text-gt-MAX_BYTES.false, told.0)
     (rw (c.smaller.ensures, c.with_img-size.ensures, told.1))

@@ -2,9 +2,7 @@
 -- only after eight of them; the measure is what is left of the length. Assumes nothing.
 use Prim.Native.Nat.{◌-◌}
 use native.Mathlib.Omega.{arith}
-use lib.ListN.{length}
-use Rattle.text.proofs.Runs.{Running, run_start, run_small, run_turn, run_end}
-use borrow.Author.Rules.{rules}
+use Rattle.text.proofs.Runs.{run_start, run_small, run_turn, run_end}
 use Rattle.text.proofs.plain_run.Goals as goal
 
 pub loop-i-init : goal.loop-i-init

@@ -1,10 +1,8 @@
 -- `text::plain_run` meets its contract. The invariant (`Running`): what was walked holds characters and spaces alone, and the sum and the gap are theirs. The loop goes on
 -- only after eight of them; the measure is what is left of the length. Assumes nothing.
 use Prim.Native.Nat.{◌-◌}
-use native.Mathlib.Omega.{arith}
 use lib.ListN.{length}
-use Rattle.text.proofs.Runs.{Running, run_start, run_small, run_turn, run_end}
-use borrow.Author.Rules.{rules}
+use Rattle.text.proofs.Runs.{Running}
 use Rattle.text.proofs.plain_run.Given as goal
 
 abbrev pub invariant-loop-i : goal.invariant-loop-i

@@ -2,7 +2,6 @@
 -- the text. Assumes nothing.
 use mathlib.Core.Path.{◌≡◌, refl, sym, ap, ◌∙◌}
 use native.Mathlib.Omega.{arith}
-use borrow.Author.Rules.{rules}
 use Rattle.text.specs.Bytes.{class_of, refused}
 use Rattle.text.specs.declared.Scanned.TheVariants.{Size}
 use Rattle.text.proofs.Sizes.{scan_whole, scan_short}
@@ -16,6 +15,6 @@ pub returns-then-front-text : goal.returns-then-front-text
 returns-then-front-text c = sym (scan_short 255 stop-refused _ (omega (arith, c.scan_front-front.ensures.end)))
 
 pub returns : goal.returns
-returns c = 
+returns c =
     let front = c.scan_front-front.ensures in
     ap Size front.size ∙ sym (scan_whole 255 _ (omega (arith, front.end)))

@@ -5,10 +5,9 @@
 use mathlib.Core.Path.{◌∙◌, sym}
 use Prim.Native.Nat.{◌+◌, ◌≤◌, ◌-◌}
 use native.Mathlib.Omega.{arith}
-use lib.ListN.{length, get_or}
-use borrow.Author.Rules.{rules}
+use lib.ListN.{get_or}
 use Rattle.text.specs.Bytes.{class_of}
-use Rattle.text.proofs.Scanning.{turn_small, Summing, sum_refused, sum_stop, sum_turn, sum_end}
+use Rattle.text.proofs.Scanning.{turn_small, sum_refused, sum_stop, sum_turn, sum_end}
 use Rattle.text.proofs.Runs.{run_summing, is_plain}
 use Rattle.text.proofs.scan_rest.Goals as goal
 
@@ -25,19 +24,19 @@ pub overflow_add-sum : goal.overflow_add-sum
 overflow_add-sum c = omega (arith, c.loop-i.invariant.one, c.class-class.ensures.upper_bound, c.wide.ensures)
 
 pub overflow_mul-sum : goal.overflow_mul-sum
-overflow_mul-sum c = 
+overflow_mul-sum c =
     let few = c.class-class.ensures.upper_bound in
     let small = turn_small c.space_bit-space.result (c.wide.result + c.loop-i.gap) in
     omega (arith, small, few, c.wide.ensures, c.loop-i.invariant.one, c.loop-i.invariant.small)
 
 pub overflow_add-sum-in-loop-i : goal.overflow_add-sum-in-loop-i
-overflow_add-sum-in-loop-i c = 
+overflow_add-sum-in-loop-i c =
     let few = c.class-class.ensures.upper_bound in
     let small = turn_small c.space_bit-space.result (c.wide.result + c.loop-i.gap) in
     omega (arith, small, few, c.wide.ensures, c.loop-i.invariant.one, c.loop-i.invariant.small, c.loop-i.invariant.inside)
 
 pub loop-i-preserved : goal.loop-i-preserved
-loop-i-preserved c = 
+loop-i-preserved c =
     let text = c.args.text.now in
     let class = c.class-class.ensures in
     let few : class_of (get_or text c.loop-i.i 0) ≤ 3 = omega (arith, class.value, class.upper_bound, c.if-class-eq-REFUSED.false) in

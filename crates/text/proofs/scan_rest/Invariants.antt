@@ -2,14 +2,9 @@
 -- whole front: at the start by the run of characters and spaces that was walked. At a refused byte, at the stop and at the end the front from i on is empty, and the sum is all. Of the other bytes a space (class 3,
 -- and 3 / 3 = 1) adds nothing and sets the gap, a character adds its width and the gap, at most 5, and clears it. The measure is what is left
 -- of the length. Assumes nothing.
-use mathlib.Core.Path.{◌∙◌, sym}
-use Prim.Native.Nat.{◌+◌, ◌≤◌, ◌-◌}
-use native.Mathlib.Omega.{arith}
-use lib.ListN.{length, get_or}
-use borrow.Author.Rules.{rules}
-use Rattle.text.specs.Bytes.{class_of}
-use Rattle.text.proofs.Scanning.{turn_small, Summing, sum_refused, sum_stop, sum_turn, sum_end}
-use Rattle.text.proofs.Runs.{run_summing, is_plain}
+use Prim.Native.Nat.{◌-◌}
+use lib.ListN.{length}
+use Rattle.text.proofs.Scanning.{Summing}
 use Rattle.text.proofs.scan_rest.Given as goal
 
 abbrev pub invariant-loop-i : goal.invariant-loop-i

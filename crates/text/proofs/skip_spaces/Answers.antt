@@ -4,9 +4,7 @@
 use mathlib.Core.Path.{◌∙◌, sym}
 use Prim.Native.Nat.{◌-◌}
 use native.Mathlib.Omega.{arith}
-use lib.ListN.{length}
-use borrow.Author.Rules.{rules}
-use Rattle.text.proofs.Scanning.{Skipping, skip_start, skip_stop, skip_other, skip_turn, skip_end}
+use Rattle.text.proofs.Scanning.{skip_start, skip_stop, skip_other, skip_turn, skip_end}
 use Rattle.text.proofs.skip_spaces.Goals as goal
 
 pub loop-i-init : goal.loop-i-init

@@ -1,12 +1,9 @@
 -- `text::skip_spaces` meets its contract. The invariant: from i on stands a front that trims to what the whole front trims to. A space at i
 -- leaves that so at i + 1; at the stop, at another byte, or at the end, nothing is left to trim. The measure is what is left of the length.
 -- Assumes nothing.
-use mathlib.Core.Path.{◌∙◌, sym}
 use Prim.Native.Nat.{◌-◌}
-use native.Mathlib.Omega.{arith}
 use lib.ListN.{length}
-use borrow.Author.Rules.{rules}
-use Rattle.text.proofs.Scanning.{Skipping, skip_start, skip_stop, skip_other, skip_turn, skip_end}
+use Rattle.text.proofs.Scanning.{Skipping}
 use Rattle.text.proofs.skip_spaces.Given as goal
 
 abbrev pub invariant-loop-i : goal.invariant-loop-i

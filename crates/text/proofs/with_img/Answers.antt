@@ -1,7 +1,6 @@
 -- `text::with_img` meets its contract: each arm is the definition's at that value of `img`.
 -- Assumes nothing.
 use native.Mathlib.Nat.{add-zero}
-use borrow.Author.Rules.{rules}
 use Rattle.text.proofs.with_img.Goals as goal
 
 pub returns-then-img : goal.returns-then-img

@@ -1,7 +1,6 @@
 -- `text::with_lead` meets its contract: on each way the branches say what the definition's two tests are.
 -- Assumes nothing.
 use native.Mathlib.Nat.{add-zero}
-use borrow.Author.Rules.{rules}
 use borrow.Author.Tests.{lt-ltb, le-ltb}
 use Rattle.text.proofs.with_lead.Goals as goal
 

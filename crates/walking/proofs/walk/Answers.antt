@@ -1,10 +1,9 @@
 -- `walking::walk` meets its contract: the slice that is cleared holds no width, and the rest is `walk_lines`. Assumes nothing.
 use Rattle.walking.proofs.Clear.{cleared}
-use borrow.Author.Rules.{rules}
 use Rattle.walking.proofs.walk.Goals as goal
 
 pub walk_lines-requires : goal.walk_lines-requires
-walk_lines-requires c = 
+walk_lines-requires c =
     let k = c.keep_front in record {
       walkable = c.requires.walkable;
       raw_bound = c.requires.raw_bound;

@@ -1,5 +1,5 @@
 -- A step of the walk, and what is asked for and left in slices. These are definitions; nothing is assumed.
-use Rattle.std.specs.Prelude.{◌≡◌, cond, List, [], ◌∷◌, map, ℕ, ◌+◌, ◌-◌, ◌/◌, ◌≤◌, ◌<◌, eqb, length, get_or, set, take}
+use Rattle.std.specs.Prelude.{◌≡◌, cond, List, [], ◌∷◌, map, ℕ, ◌-◌, ◌/◌, ◌≤◌, ◌<◌, eqb, length, get_or, set, take}
 use Prim.{Unit}
 use Rattle.lists.specs.Limits.{max_lines, max_entries, max_position, max_size}
 use Rattle.lists.specs.Refusals.{verdict_of}
@@ -7,7 +7,7 @@ use Rattle.lists.specs.declared.Verdict.{Verdict}
 use Rattle.lists.specs.declared.Verdict.TheVariants.{Accepted}
 use Rattle.text.specs.declared.Estimate.{Estimate}
 use Rattle.kinds.specs.Kinds.{table_kind, cell_kind}
-use Rattle.records.specs.Kept.{no_kept, no_entry, no_place, kept_count, kepts_of, places_of}
+use Rattle.records.specs.Kept.{no_kept, no_entry, no_place, kept_count, kepts_of}
 use Rattle.records.specs.declared.Kept.{Kept}
 use Rattle.records.specs.declared.Entry.{Entry}
 use Rattle.records.specs.declared.Place.{Place}

@@ -4,7 +4,6 @@ use mathlib.Core.Path.{ap₂}
 use Prim.Native.Nat.{ℕ, ◌+◌}
 use native.Mathlib.Omega.{arith}
 use lib.Dec.{ltb}
-use borrow.Author.Rules.{rules}
 use Rattle.widths.proofs.exceeds.Goals as goal
 
 pub overflow_add-result : goal.overflow_add-result

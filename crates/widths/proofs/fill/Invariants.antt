@@ -1,13 +1,9 @@
 -- `widths::fill` meets its contract. The loop's invariant: the first i places have the value, and the rest stands as it did. A turn stores the
 -- value at i. The measure is the number of places left. Assumes nothing.
-use mathlib.Core.Path.{◌≡◌, ◌∙◌}
-use mathlib.Core.List.{◌++◌, append-nil}
+use mathlib.Core.Path.{◌≡◌}
+use mathlib.Core.List.{◌++◌}
 use Prim.Native.Nat.{◌≤◌, ◌-◌}
-use native.Mathlib.Omega.{arith}
-use lib.ListN.{length, drop, replicate, length-set}
-use lib.Seq.{drop-length}
-use borrow.Author.Fill.{fill_more}
-use borrow.Author.Rules.{rules}
+use lib.ListN.{length, drop, replicate}
 use Rattle.widths.proofs.fill.Given as goal
 
 abbrev pub invariant-loop-i : goal.invariant-loop-i

@@ -2,11 +2,9 @@
 -- A turn stores the share of column i, whose size is at most the total. At the end all shares are written. The measure is the number of
 -- columns left. Assumes nothing.
 use mathlib.Core.Path.{◌≡◌, sym, ap, ◌∙◌}
-use mathlib.Core.List.{◌++◌}
-use Prim.Native.Nat.{◌-◌, ◌≤◌}
+use Prim.Native.Nat.{◌-◌}
 use native.Mathlib.Omega.{arith}
-use lib.ListN.{length, take, drop, length-set}
-use borrow.Author.Rules.{rules}
+use lib.ListN.{length, length-set}
 use Rattle.lists.specs.Lists.{sum}
 use Rattle.lists.proofs.Write.{write_more, write_all}
 use Rattle.widths.specs.Share.{share, shares}
@@ -24,7 +22,7 @@ pub share_of-requires : goal.share_of-requires
 share_of-requires c = omega (arith, at_le_sum c.args.sizes.now c.loop-i.i, c.total-all.ensures.is)
 
 pub loop-i-preserved : goal.loop-i-preserved
-loop-i-preserved c = 
+loop-i-preserved c =
     let l = c.loop-i in
     let zs = c.args.sizes.now in
     let ls = c.args.leasts.now in
@@ -37,7 +35,7 @@ loop-i-preserved c =
     )
 
 pub returns : goal.returns
-returns c = 
+returns c =
     let l = c.loop-i in
     write_all (shares c.args.sizes.now c.args.leasts.now c.args.width) c.args.wide.now (as_many (goal.at.returns c).Start) l.wide l.i
     (omega (arith, c.requires.wide_length)) l.invariant.2

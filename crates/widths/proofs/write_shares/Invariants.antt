@@ -1,18 +1,11 @@
 -- `widths::write_shares` meets its contract. The loop's invariant: the first i places have the first i shares, and the rest stands as it did.
 -- A turn stores the share of column i, whose size is at most the total. At the end all shares are written. The measure is the number of
 -- columns left. Assumes nothing.
-use mathlib.Core.Path.{◌≡◌, sym, ap, ◌∙◌}
+use mathlib.Core.Path.{◌≡◌}
 use mathlib.Core.List.{◌++◌}
 use Prim.Native.Nat.{◌-◌, ◌≤◌}
-use native.Mathlib.Omega.{arith}
-use lib.ListN.{length, take, drop, length-set}
-use borrow.Author.Rules.{rules}
-use Rattle.lists.specs.Lists.{sum}
-use Rattle.lists.proofs.Write.{write_more, write_all}
-use Rattle.widths.specs.Share.{share, shares}
-use Rattle.cutting.specs.Cut.{at}
-use Rattle.cutting.proofs.Sums.{at_le_sum}
-use Rattle.widths.proofs.Share.{length_shares, at_shares}
+use lib.ListN.{length, take, drop}
+use Rattle.widths.specs.Share.{shares}
 use Rattle.widths.proofs.write_shares.Given as goal
 
 abbrev pub invariant-loop-i : goal.invariant-loop-i

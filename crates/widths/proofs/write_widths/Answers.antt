@@ -4,7 +4,6 @@ use mathlib.Core.Path.{sym, ap, ◌∙◌}
 use mathlib.Core.List.{List}
 use Prim.Native.Nat.{ℕ}
 use lib.ListN.{replicate}
-use borrow.Author.Rules.{rules}
 use Rattle.cutting.specs.Cut.{cut}
 use Rattle.widths.proofs.Laying.{final_down, final_side, cuttable}
 use Rattle.widths.proofs.write_widths.Goals as goal
@@ -13,14 +12,14 @@ pub cut_widths-requires : goal.cut_widths-requires
 cut_widths-requires c = cuttable c.requires c.in-Sideways.is c.write_shares.ensures
 
 pub returns-in-Down : goal.returns-in-Down
-returns-in-Down c = 
+returns-in-Down c =
     let a = c.args in
     c.fill.ensures
     ∙ ap (λ (n : ℕ). replicate n a.width) c.requires.columns.wide_length
     ∙ sym (final_down a.way a.sizes.now a.leasts.now a.width c.in-Down.is)
 
 pub returns-in-Sideways : goal.returns-in-Sideways
-returns-in-Sideways c = 
+returns-in-Sideways c =
     let a = c.args in
     c.cut_widths.ensures
     ∙ ap (λ (ws : List ℕ). cut a.leasts.now ws a.width) c.write_shares.ensures

@@ -1,10 +1,9 @@
 -- `call_estimates::arrays::check_large` meets its contract: a sheet has no more lines than the arrays have room for. Assumes nothing.
 use native.Mathlib.Omega.{arith}
-use borrow.Author.Rules.{rules}
 use Rattle.call_estimates.proofs.arrays.check_large.Goals as goal
 
 pub open_sheet-requires : goal.open_sheet-requires
-open_sheet-requires c = 
+open_sheet-requires c =
     record {
       bytes_bound = omega arith;
       bytes_in_bounds = omega arith;

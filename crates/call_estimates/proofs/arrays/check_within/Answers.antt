@@ -1,5 +1,4 @@
 -- `call_estimates::arrays::check_within` meets its contract: short arrays do for a small sheet. Assumes nothing.
-use borrow.Author.Rules.{rules}
 use Rattle.call_estimates.proofs.arrays.check_within.Goals as goal
 
 pub check_small-requires : goal.check_small-requires

@@ -2,12 +2,10 @@
 -- found. Assumes nothing.
 use mathlib.Core.Path.{refl, ◌∙◌}
 use native.Mathlib.Omega.{arith}
-use borrow.Author.Tests.{not-false}
 use Rattle.opening.proofs.Passing.{figures_room}
 use Rattle.opening.proofs.Measurable.{lent_few, sheet_in, sheet_measured}
 use Rattle.sheet_figures.proofs.Openings.{lines_in_fits, suffice_room}
 use Rattle.call_estimates.proofs.Found.{lines_still, figures_fit, estimates_found, estimates_tried, estimates_larger}
-use borrow.Author.Rules.{rules}
 use Rattle.call_estimates.proofs.arrays.estimates_small.Goals as goal
 
 pub suffices-requires : goal.suffices-requires
@@ -17,7 +15,7 @@ pub returns-then-not-suffices : goal.returns-then-not-suffices
 returns-then-not-suffices c = estimates_larger
 
 pub measure_read-requires : goal.measure_read-requires
-measure_read-requires c = 
+measure_read-requires c =
     let o = c.open_sheet-read in
     let p = c.requires in
     let z = c.suffices.ensures c.if-not-suffices.false in
@@ -25,7 +23,7 @@ measure_read-requires c =
     (omega (arith, p.lines_room.size_room, c.open_sheet-read.auto.scratch)) (suffice_room _ _ z (omega arith) (omega arith))
 
 pub write_figures-requires : goal.write_figures-requires
-write_figures-requires c = 
+write_figures-requires c =
     let o = c.open_sheet-read in
     let m = c.measure_read in
     let p = c.requires in

@@ -1,6 +1,5 @@
 -- `call_estimates::arrays::write_figures` meets its contract: each figure is a number of the records. Assumes nothing.
 use Rattle.call_estimates.proofs.Found.{figures_told}
-use borrow.Author.Rules.{rules}
 use Rattle.call_estimates.proofs.arrays.write_figures.Goals as goal
 
 pub returns : goal.returns

@@ -5,7 +5,6 @@ use lib.Seq.{length-take-le}
 use Rattle.table.proofs.Rooms.{table_ready}
 use Rattle.sheet_figures.proofs.Openings.{front_asked, front_most}
 use Rattle.call_grid.proofs.Found.{grid_refused, grid_read, counts_few}
-use borrow.Author.Rules.{rules}
 use Rattle.call_grid.proofs.made.make_read.Goals as goal
 
 pub overflow_mul-end : goal.overflow_mul-end
@@ -18,7 +17,7 @@ pub slice_bounds-make-end : goal.slice_bounds-make-end
 slice_bounds-make-end c = sym (length-take-le _ _ (omega (arith, c.requires.asked_in.front _ c.in-Lines.is)))
 
 pub make-counts-requires : goal.make-counts-requires
-make-counts-requires c = 
+make-counts-requires c =
     let p = c.requires in
     let e = c.in-Lines.is in
     table_ready (front_asked p.asked_in e) (front_most p.asked_in p.most_in e) _ _ (omega arith) (omega arith)
@@ -30,6 +29,6 @@ pub returns-in-Refused : goal.returns-in-Refused
 returns-in-Refused c = grid_refused c.in-Refused.is
 
 pub returns-in-Lines : goal.returns-in-Lines
-returns-in-Lines c = 
+returns-in-Lines c =
     let e = c.in-Lines.is in
     grid_read e (c.requires.asked_in.front _ e) c.make-counts.ensures c.answer_of.ensures

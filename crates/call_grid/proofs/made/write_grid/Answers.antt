@@ -1,6 +1,5 @@
 -- `call_grid::made::write_grid` meets its contract: each figure is a number of the records. Assumes nothing.
 use Rattle.call_grid.proofs.Told.{grid_told}
-use borrow.Author.Rules.{rules}
 use Rattle.call_grid.proofs.made.write_grid.Goals as goal
 
 pub returns : goal.returns

@@ -1,15 +1,14 @@
 -- `call_layout::arrays::layout_large` meets its contract: no sheet has more lines, and no table more entries, than the arrays have room for. Assumes nothing.
-use mathlib.Core.Path.{refl, ◌∙◌}
+use mathlib.Core.Path.{refl}
 use native.Mathlib.Omega.{arith}
 use Rattle.opening.proofs.Passing.{figures_room}
 use Rattle.sheet_figures.proofs.Openings.{asked_in, most_any, most_room}
 use Rattle.sheet_figures.proofs.Tables.{lines_of, measured_in}
 use Rattle.call_layout.proofs.Found.{out_still, layout_found}
-use borrow.Author.Rules.{rules}
 use Rattle.call_layout.proofs.arrays.layout_large.Goals as goal
 
 pub measure_table-read-requires : goal.measure_table-read-requires
-measure_table-read-requires c = 
+measure_table-read-requires c =
     record {
       bytes_bound = omega arith;
       bytes_in_bounds = figures_room _ _ (omega arith);
@@ -17,7 +16,7 @@ measure_table-read-requires c =
     }
 
 pub layout_read-requires : goal.layout_read-requires
-layout_read-requires c = 
+layout_read-requires c =
     let m = c.measure_table-read in
     let p = c.requires in
     let w = lines_of c.measure_table-read.ensures in

@@ -2,13 +2,11 @@
 -- Assumes nothing.
 use mathlib.Core.Path.{refl, ◌∙◌}
 use native.Mathlib.Omega.{arith}
-use borrow.Author.Tests.{not-false}
 use Rattle.opening.proofs.Passing.{figures_room}
 use Rattle.opening.proofs.Measurable.{lent_few, front_table, table_measured}
 use Rattle.sheet_figures.proofs.Openings.{opened_at, asked_in, most_few, most_room, suffice_room}
 use Rattle.sheet_figures.proofs.Tables.{lines_of, measured_in}
 use Rattle.call_layout.proofs.Found.{out_still, layout_found, layout_tried, layout_larger}
-use borrow.Author.Rules.{rules}
 use Rattle.call_layout.proofs.arrays.layout_small.Goals as goal
 
 pub suffices-requires : goal.suffices-requires
@@ -18,7 +16,7 @@ pub returns-then-not-suffices : goal.returns-then-not-suffices
 returns-then-not-suffices c = layout_larger
 
 pub measure_read-requires : goal.measure_read-requires
-measure_read-requires c = 
+measure_read-requires c =
     let o = c.open_sheet-read in
     let p = c.requires in
     let z = c.suffices.ensures c.if-not-suffices.false in
@@ -26,7 +24,7 @@ measure_read-requires c =
     (omega (arith, p.in_range.1.column_room, c.open_sheet-read.auto.scratch)) (suffice_room _ _ z (omega arith) (omega arith))
 
 pub layout_read-found-requires : goal.layout_read-found-requires
-layout_read-found-requires c = 
+layout_read-found-requires c =
     let o = c.open_sheet-read in
     let m = c.measure_read in
     let p = c.requires in

@@ -7,7 +7,6 @@ use Rattle.table.proofs.LayoutFitted.{layout_room}
 use Rattle.sheet_figures.proofs.Openings.{front_asked, front_most}
 use Rattle.sheet_figures.proofs.Tables.{front_measured}
 use Rattle.call_layout.proofs.Found.{layout_made, layout_refused, layout_read, table_few}
-use borrow.Author.Rules.{rules}
 use Rattle.call_layout.proofs.read.layout_read.Goals as goal
 
 pub overflow_mul-end : goal.overflow_mul-end
@@ -20,7 +19,7 @@ pub slice_bounds-arrange-end : goal.slice_bounds-arrange-end
 slice_bounds-arrange-end c = sym (length-take-le _ _ (omega (arith, c.requires.asked_in.front _ c.in-Lines.is)))
 
 pub arrange-a-requires : goal.arrange-a-requires
-arrange-a-requires c = 
+arrange-a-requires c =
     let p = c.requires in
     let e = c.in-Lines.is in
     let a = front_asked p.asked_in e in record {
@@ -36,7 +35,7 @@ pub returns-in-Refused : goal.returns-in-Refused
 returns-in-Refused c = layout_refused c.in-Refused.is
 
 pub returns-in-Lines : goal.returns-in-Lines
-returns-in-Lines c = 
+returns-in-Lines c =
     let p = c.requires in
     let e = c.in-Lines.is in
     layout_read e (p.asked_in.front _ e) (layout_made (front_asked p.asked_in e) c.arrange-a.ensures) c.answer_of.ensures

@@ -1,6 +1,5 @@
 -- `causes::fronts::causes_by` meets its contract: the causes follow from the figures that are told. Assumes nothing.
 use Rattle.causes.proofs.Columns.{causes_told}
-use borrow.Author.Rules.{rules}
 use Rattle.causes.proofs.fronts.causes_by.Goals as goal
 
 pub returns : goal.returns

@@ -2,7 +2,6 @@
 use mathlib.Core.Path.{sym}
 use lib.Seq.{length-take-le}
 use Rattle.causes.proofs.Columns.{room_tellable}
-use borrow.Author.Rules.{rules}
 use Rattle.causes.proofs.fronts.causes_front.Goals as goal
 
 pub slice_bounds-causes_by-end-2 : goal.slice_bounds-causes_by-end-2

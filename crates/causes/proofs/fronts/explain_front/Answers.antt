@@ -4,7 +4,6 @@ use mathlib.Core.Path.{sym}
 use lib.ListN.{drop}
 use lib.Seq.{length-take-le}
 use Rattle.causes.proofs.Told.{records_in, causes_ready, front_in, list_ready, list_told}
-use borrow.Author.Rules.{rules}
 use Rattle.causes.proofs.fronts.explain_front.Goals as goal
 
 pub slice_bounds-tell_causes-end : goal.slice_bounds-tell_causes-end

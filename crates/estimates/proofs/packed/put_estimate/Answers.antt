@@ -14,6 +14,6 @@ pub bounds-figures-at-3 : goal.bounds-figures-at-3
 bounds-figures-at-3 c = simp length-set (search rules)
 
 pub returns : goal.returns
-returns c = 
+returns c =
     let e = c.args.e in
     of_set 3 figure_by c.args.figures.now c.args.i (e.size ∷ e.least ∷ e.prefix ∷ []) refl (search rules)

@@ -1,6 +1,5 @@
 -- `estimates::single::holder` meets its contract: a prefix is at most 13, so that the sums fit. Assumes nothing.
 use native.Mathlib.Omega.{arith}
-use borrow.Author.Rules.{rules}
 use borrow.Author.Tests.{eq-eqb, ne_eqb}
 use Rattle.estimates.specs.Estimates.{holder_of}
 use Rattle.estimates.proofs.Ranges.{prefix_small}
@@ -11,12 +10,12 @@ unfolding holder_of
 returns-then-line-eq-LINK c = rw (eq-eqb _ 4 c.if-line-eq-LINK.true, c.larger.ensures)
 
 pub overflow_add-result-2 : goal.overflow_add-result-2
-overflow_add-result-2 c = 
+overflow_add-result-2 c =
     let p = c.requires in
     omega (arith, c.prefix_of-prefix.ensures, prefix_small _ _ p.numbered, p.fitting.size)
 
 pub overflow_add-result-3 : goal.overflow_add-result-3
-overflow_add-result-3 c = 
+overflow_add-result-3 c =
     let p = c.requires in
     omega (arith, c.prefix_of-prefix.ensures, prefix_small _ _ p.numbered, p.fitting.size, p.fitting.least_size)
 

@@ -1,5 +1,4 @@
 -- `estimates::single::leaf` meets its contract: the definition asks the same tests in the same order. Assumes nothing.
-use borrow.Author.Rules.{rules}
 use mathlib.Core.Path.{sym, ◌∙◌}
 use borrow.Author.Tests.{eq-eqb, ne_eqb}
 use Rattle.estimates.specs.Estimates.{leaf_of}

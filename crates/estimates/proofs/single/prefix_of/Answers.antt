@@ -16,7 +16,7 @@ unfolding prefix_of
 returns-then-line-eq-HEAD c = rw (c.if-line-eq-HEAD.true, c.head_prefix.ensures)
 
 pub ol_prefix-requires : goal.ol_prefix-requires
-ol_prefix-requires c = 
+ol_prefix-requires c =
     record {
       first_bound = c.requires.start c.if-line-eq-OL.true;
       children_bound = c.requires.few;
@@ -40,7 +40,7 @@ returns-then-line-eq-DD c = rw c.if-line-eq-DD.true
 
 pub returns : goal.returns
 unfolding prefix_of
-returns c = 
+returns c =
     rw (
       ne_eqb _ 10 c.if-line-eq-HEAD.false,
       ne_eqb _ 12 c.if-line-eq-QUOTE.false,

@@ -14,7 +14,6 @@ use Rattle.records.proofs.Records.{length_of}
 use Rattle.estimates.specs.inner.Figures.{figures_of, figure_by}
 use Rattle.estimates.specs.inner.Spread.{Spreads, entry_boxes, EntryFits}
 use Rattle.estimates.proofs.Spreading.{SpreadLoop, spread_start, spread_stop, spread_filler, sum_fits, spread_cell}
-use borrow.Author.Rules.{rules}
 use Rattle.estimates.proofs.spread.spread_entries.Goals as goal
 use Rattle.estimates.proofs.spread.spread_entries.Goals.{After-entry_at-entry, After-estimate_at-e, After-index, At-loop-i, In-loop-i, Then-entry-ne0}
 
@@ -44,7 +43,7 @@ abbrev xs-at-After-entry_at-entry : (c : After-entry_at-entry) → List Entry
 xs-at-After-entry_at-entry c = take c.args.n (entries_of c.args.entries.now)
 
 is-entry : (c : After-entry_at-entry) → c.entry_at-entry.result ≡ get_or (xs-at-After-entry_at-entry c) c.loop-i.i no_entry
-is-entry c =     c.entry_at-entry.ensures ∙ sym (get_or-take c.args.n (entries_of c.args.entries.now) c.loop-i.i no_entry c.loop-i-test.true)
+is-entry c = c.entry_at-entry.ensures ∙ sym (get_or-take c.args.n (entries_of c.args.entries.now) c.loop-i.i no_entry c.loop-i-test.true)
 
 abbrev es-at-Then-entry-ne0 : (c : Then-entry-ne0) → List Estimate
 es-at-Then-entry-ne0 c = figures_of c.args.figures.now
@@ -54,8 +53,8 @@ same-at-Then-entry-ne0 : (c : Then-entry-ne0) → length c.copy_out.new.dst ≡ 
 same-at-Then-entry-ne0 c = c.copy_out.auto.dst
 
 fit : (c : Then-entry-ne0) → EntryFits (es-at-Then-entry-ne0 c) (length c.copy_out.new.dst) c.entry_at-entry.result
-fit c = 
-        let f = c.requires.fit c.loop-i.i c.loop-i-test.true in
+fit c =
+    let f = c.requires.fit c.loop-i.i c.loop-i-test.true in
     let g = subst (EntryFits (es-at-Then-entry-ne0 c) (length c.args.columns.now)) (sym c.entry_at-entry.ensures) f in
     subst (λ (m : ℕ). EntryFits (es-at-Then-entry-ne0 c) m c.entry_at-entry.result) (sym (same-at-Then-entry-ne0 c)) g
 
@@ -67,13 +66,13 @@ same-at-After-index : (c : After-index) → length c.copy_out.new.dst ≡ length
 same-at-After-index c = c.copy_out.auto.dst
 
 fit-at-After-index : (c : After-index) → EntryFits (es-at-After-index c) (length c.copy_out.new.dst) c.entry_at-entry.result
-fit-at-After-index c = 
-        let f = c.requires.fit c.loop-i.i c.loop-i-test.true in
+fit-at-After-index c =
+    let f = c.requires.fit c.loop-i.i c.loop-i-test.true in
     let g = subst (EntryFits (es-at-After-index c) (length c.args.columns.now)) (sym c.entry_at-entry.ensures) f in
     subst (λ (m : ℕ). EntryFits (es-at-After-index c) m c.entry_at-entry.result) (sym (same-at-After-index c)) g
 
 ends : (c : After-index) → c.index-from.result + c.index.result ≤ length c.copy_out.new.dst
-ends c =     omega (arith, (fit-at-After-index c).ends c.if-entry-ne0.true, c.index-from.ensures, c.index.ensures)
+ends c = omega (arith, (fit-at-After-index c).ends c.if-entry-ne0.true, c.index-from.ensures, c.index.ensures)
 
 abbrev xs-at-After-estimate_at-e : (c : After-estimate_at-e) → List Entry
 xs-at-After-estimate_at-e c = take c.args.n (entries_of c.args.entries.now)
@@ -85,7 +84,7 @@ here-at-After-estimate_at-e : (c : After-estimate_at-e) → c.loop-i.i < length 
 here-at-After-estimate_at-e c = omega (arith, long-at-After-estimate_at-e c, c.loop-i-test.true)
 
 is-entry-at-After-estimate_at-e : (c : After-estimate_at-e) → c.entry_at-entry.result ≡ get_or (xs-at-After-estimate_at-e c) c.loop-i.i no_entry
-is-entry-at-After-estimate_at-e c =     c.entry_at-entry.ensures ∙ sym (get_or-take c.args.n (entries_of c.args.entries.now) c.loop-i.i no_entry c.loop-i-test.true)
+is-entry-at-After-estimate_at-e c = c.entry_at-entry.ensures ∙ sym (get_or-take c.args.n (entries_of c.args.entries.now) c.loop-i.i no_entry c.loop-i-test.true)
 
 abbrev es-at-After-estimate_at-e : (c : After-estimate_at-e) → List Estimate
 es-at-After-estimate_at-e c = figures_of c.args.figures.now
@@ -95,13 +94,13 @@ same-at-After-estimate_at-e : (c : After-estimate_at-e) → length c.copy_out.ne
 same-at-After-estimate_at-e c = c.copy_out.auto.dst
 
 fit-at-After-estimate_at-e : (c : After-estimate_at-e) → EntryFits (es-at-After-estimate_at-e c) (length c.copy_out.new.dst) c.entry_at-entry.result
-fit-at-After-estimate_at-e c = 
-        let f = c.requires.fit c.loop-i.i c.loop-i-test.true in
+fit-at-After-estimate_at-e c =
+    let f = c.requires.fit c.loop-i.i c.loop-i-test.true in
     let g = subst (EntryFits (es-at-After-estimate_at-e c) (length c.args.columns.now)) (sym c.entry_at-entry.ensures) f in
     subst (λ (m : ℕ). EntryFits (es-at-After-estimate_at-e c) m c.entry_at-entry.result) (sym (same-at-After-estimate_at-e c)) g
 
 sum_small : (c : After-estimate_at-e) → c.loop-i.sum + c.entry_at-entry.result.span * (c.estimate_at-e.result.size / c.entry_at-entry.result.span) + max_position ≤ 2 ^ 32
-sum_small c =     sum_fits c.loop-i.invariant (here-at-After-estimate_at-e c) _ (is-entry-at-After-estimate_at-e c) c.if-entry-ne0.true (fit-at-After-estimate_at-e c) c.estimate_at-e.ensures c.requires.room
+sum_small c = sum_fits c.loop-i.invariant (here-at-After-estimate_at-e c) _ (is-entry-at-After-estimate_at-e c) c.if-entry-ne0.true (fit-at-After-estimate_at-e c) c.estimate_at-e.ensures c.requires.room
 
 pub loop-i-init : goal.loop-i-init
 loop-i-init c = subst (λ (m : ℕ). SpreadLoop (figures_of c.args.figures.now) (take c.args.n (entries_of c.args.entries.now)) m 0 0 c.copy_out.new.dst) (sym c.copy_out.auto.dst) (spread_start _ _ _ _ c.copy_out.ensures)
@@ -140,7 +139,7 @@ pub loop-i-smaller-then-entry-ne0 : goal.loop-i-smaller-then-entry-ne0
 loop-i-smaller-then-entry-ne0 c = omega (arith, c.loop-i-test.true)
 
 pub loop-i-preserved-then-entry-ne0 : goal.loop-i-preserved-then-entry-ne0
-loop-i-preserved-then-entry-ne0 c = 
+loop-i-preserved-then-entry-ne0 c =
     let from = c.index-from.result in
     let wide = c.index.result in
     spread_cell c.loop-i.invariant (here (goal.at.loop-i-preserved-then-entry-ne0 c).In-loop-i) _ (is-entry (goal.at.loop-i-preserved-then-entry-ne0 c).After-entry_at-entry) c.if-entry-ne0.true (fit (goal.at.loop-i-preserved-then-entry-ne0 c).Then-entry-ne0) c.estimate_at-e.ensures _ from (from + wide - from) c.index-from.ensures (omega (arith, c.index.ensures)) c.raise.ensures

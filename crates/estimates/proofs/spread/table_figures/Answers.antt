@@ -1,11 +1,10 @@
 -- `estimates::spread::table_figures` meets its contract: the records are those of the grid, which fit. Assumes nothing.
 use native.Mathlib.Omega.{arith}
 use Rattle.estimates.proofs.Made.{taken, columns_few, tabulate_ready}
-use borrow.Author.Rules.{rules}
 use Rattle.estimates.proofs.spread.table_figures.Goals as goal
 
 pub make-counts-requires : goal.make-counts-requires
-make-counts-requires c = 
+make-counts-requires c =
     let p = c.requires in
     record { within = p.within; lined = p.lined; sound = p.sound; entry_room = p.entry_room; row_room = p.row_room }
 

@@ -11,30 +11,29 @@ use Rattle.records.specs.Kept.{entries_of}
 use Rattle.estimates.specs.inner.Figures.{figures_of}
 use Rattle.estimates.specs.inner.Spread.{Spreads, entry_boxes, SpreadReady}
 use Rattle.estimates.proofs.Tabling.{table_none, lent_length, lent, leasts_fit, table_some}
-use borrow.Author.Rules.{rules}
 use Rattle.estimates.proofs.spread.tabulate.Goals as goal
 use Rattle.estimates.proofs.spread.tabulate.Goals.{After-index-c, After-spread_entries-all, After-total-wide}
 
 part : (c : After-index-c) → length (take c.index-c.result c.args.leasts.now) ≡ c.index-c.result
-part c =     length-take-le _ _ (omega (arith, c.index-c.ensures, c.requires.few, c.requires.room))
+part c = length-take-le _ _ (omega (arith, c.index-c.ensures, c.requires.few, c.requires.room))
 
 part-at-After-spread_entries-all : (c : After-spread_entries-all) → length (take c.index-c.result c.args.leasts.now) ≡ c.index-c.result
-part-at-After-spread_entries-all c =     length-take-le _ _ (omega (arith, c.index-c.ensures, c.requires.few, c.requires.room))
+part-at-After-spread_entries-all c = length-take-le _ _ (omega (arith, c.index-c.ensures, c.requires.few, c.requires.room))
 
 spreads : (c : After-spread_entries-all) → Spreads (entry_boxes (figures_of c.args.figures.now) (take c.args.n (entries_of c.args.entries.now))) c.index-c.result c.spread_entries-all.result c.spread_entries-all.new.columns
 spreads c = rw (part-at-After-spread_entries-all c) at c.spread_entries-all.ensures
 
 ready : (c : After-index-c) → SpreadReady c.args.entries.now c.args.n c.args.figures.now c.index-c.result
-ready c =     rw c.index-c.ensures c.requires.spread
+ready c = rw c.index-c.ensures c.requires.spread
 
 ready-at-After-spread_entries-all : (c : After-spread_entries-all) → SpreadReady c.args.entries.now c.args.n c.args.figures.now c.index-c.result
-ready-at-After-spread_entries-all c =     rw c.index-c.ensures c.requires.spread
+ready-at-After-spread_entries-all c = rw c.index-c.ensures c.requires.spread
 
 leasts_le : (c : After-spread_entries-all) → sum c.spread_entries-all.new.columns ≤ c.spread_entries-all.result
 leasts_le c = leasts_fit (ready-at-After-spread_entries-all c) (spreads c)
 
 part-at-After-total-wide : (c : After-total-wide) → length (take c.index-c.result c.args.leasts.now) ≡ c.index-c.result
-part-at-After-total-wide c =     length-take-le _ _ (omega (arith, c.index-c.ensures, c.requires.few, c.requires.room))
+part-at-After-total-wide c = length-take-le _ _ (omega (arith, c.index-c.ensures, c.requires.few, c.requires.room))
 
 spreads-at-After-total-wide : (c : After-total-wide) → Spreads (entry_boxes (figures_of c.args.figures.now) (take c.args.n (entries_of c.args.entries.now))) c.index-c.result c.spread_entries-all.result c.spread_entries-all.new.columns
 spreads-at-After-total-wide c = rw (part-at-After-total-wide c) at c.spread_entries-all.ensures

@@ -1,11 +1,9 @@
 -- `estimates::spread::total` meets its contract. The loop's invariant: what is added up, with the sum from place i on, is the whole sum; a
 -- turn takes the first figure of that rest. So nothing passes the whole sum, which fits. The measure is what is left of the length.
 -- Assumes nothing.
-use mathlib.Core.Path.{◌≡◌}
-use Prim.Native.Nat.{◌+◌, ◌-◌, ◌≤◌}
+use Prim.Native.Nat.{◌-◌}
 use native.Mathlib.Omega.{arith}
-use lib.ListN.{length, drop, drop_of_length-le}
-use borrow.Author.Rules.{rules}
+use lib.ListN.{drop_of_length-le}
 use Rattle.lists.specs.Lists.{sum}
 use Rattle.estimates.proofs.Spreading.{sum_from}
 use Rattle.estimates.proofs.spread.total.Goals as goal

@@ -3,11 +3,8 @@
 -- Assumes nothing.
 use mathlib.Core.Path.{◌≡◌}
 use Prim.Native.Nat.{◌+◌, ◌-◌, ◌≤◌}
-use native.Mathlib.Omega.{arith}
-use lib.ListN.{length, drop, drop_of_length-le}
-use borrow.Author.Rules.{rules}
+use lib.ListN.{length, drop}
 use Rattle.lists.specs.Lists.{sum}
-use Rattle.estimates.proofs.Spreading.{sum_from}
 use Rattle.estimates.proofs.spread.total.Given as goal
 
 abbrev pub invariant-loop-i : goal.invariant-loop-i

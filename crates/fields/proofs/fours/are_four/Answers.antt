@@ -1,5 +1,4 @@
 -- `fields::fours::are_four` meets its contract: a number below 256 ^ 4 has one way to be four bytes. Assumes nothing.
-use borrow.Author.Rules.{rules}
 use borrow.Author.Tests.{eqb-true}
 use native.Mathlib.Omega.{arith}
 use Rattle.fields.proofs.Names.{four_bytes}

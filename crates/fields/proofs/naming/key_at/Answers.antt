@@ -3,12 +3,11 @@
 -- the sheet.
 -- Assumes nothing.
 use borrow.Author.Rules.{rules}
-use borrow.Author.Tests.{not-true, not-false}
 use mathlib.Core.Path.{◌≡◌, refl, sym, ap, ◌∙◌}
 use mathlib.Core.Bool.{true}
 use Prim.Native.Nat.{ℕ, ◌+◌, ◌-◌}
 use native.Mathlib.Omega.{arith}
-use lib.ListN.{length, get_or, drop}
+use lib.ListN.{get_or, drop}
 use Rattle.fields.specs.Reading.{is_letter, key_from}
 use Rattle.fields.proofs.Keys.{letter_from, key_out, key_end, key_other, key_long, key_more}
 use Rattle.fields.proofs.naming.key_at.Goals as goal
@@ -21,33 +20,33 @@ pub loop-i-init : goal.loop-i-init
 loop-i-init c = refl
 
 pub returns-then-b-eq32 : goal.returns-then-b-eq32
-returns-then-b-eq32 c = 
+returns-then-b-eq32 c =
     let l = c.loop-i in
     sym (sym l.invariant ∙ key_end l.key l.i _ (omega arith) c.if-b-eq32.true)
 
 pub returns-then-not-between : goal.returns-then-not-between
-returns-then-not-between c = 
+returns-then-not-between c =
     let l = c.loop-i in
     sym
     (sym l.invariant
     ∙ key_other l.key l.i _ (omega arith) c.if-b-eq32.false (sym c.between.ensures ∙ c.if-not-between.true))
 
 pub returns-then-key-ge-NINE_LETTERS : goal.returns-then-key-ge-NINE_LETTERS
-returns-then-key-ge-NINE_LETTERS c = 
+returns-then-key-ge-NINE_LETTERS c =
     let l = c.loop-i in
     sym
     (sym l.invariant
     ∙ key_long l.key l.i _ (omega arith) c.if-b-eq32.false (letter (goal.at.returns-then-key-ge-NINE_LETTERS c).Else-not-between) c.if-key-ge-NINE_LETTERS.true)
 
 pub longer-key-requires : goal.longer-key-requires
-longer-key-requires c = 
+longer-key-requires c =
     record {
       key_lt_nine_letters = search rules;
       le_letter = letter_from _ (letter (goal.at.longer-key-requires c).Else-not-between);
     }
 
 pub loop-i-preserved : goal.loop-i-preserved
-loop-i-preserved c = 
+loop-i-preserved c =
     let l = c.loop-i in
     let a = c.args in
     ap (λ (k : ℕ). key_from k (l.i + 1) (drop (l.i + 1) a.bytes.now)) c.longer-key.ensures
@@ -55,6 +54,6 @@ loop-i-preserved c =
     ∙ l.invariant
 
 pub returns : goal.returns
-returns c = 
+returns c =
     let l = c.loop-i in
     sym (sym l.invariant ∙ key_out l.key l.i _ (omega arith))

@@ -2,15 +2,10 @@
 -- from the start. Each way out of a turn, and the turn itself, is a law on the bytes from the place on. The measure is what is left of
 -- the sheet.
 -- Assumes nothing.
-use borrow.Author.Rules.{rules}
-use borrow.Author.Tests.{not-true, not-false}
-use mathlib.Core.Path.{◌≡◌, refl, sym, ap, ◌∙◌}
-use mathlib.Core.Bool.{true}
-use Prim.Native.Nat.{ℕ, ◌+◌, ◌-◌}
-use native.Mathlib.Omega.{arith}
-use lib.ListN.{length, get_or, drop}
-use Rattle.fields.specs.Reading.{is_letter, key_from}
-use Rattle.fields.proofs.Keys.{letter_from, key_out, key_end, key_other, key_long, key_more}
+use mathlib.Core.Path.{◌≡◌}
+use Prim.Native.Nat.{◌-◌}
+use lib.ListN.{length, drop}
+use Rattle.fields.specs.Reading.{key_from}
 use Rattle.fields.proofs.naming.key_at.Given as goal
 
 abbrev pub invariant-loop-i : goal.invariant-loop-i

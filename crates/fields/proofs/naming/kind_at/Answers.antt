@@ -38,14 +38,14 @@ pub returns-then-table_at : goal.returns-then-table_at
 returns-then-table_at c = sym (c.table_at.ensures c.if-table_at.true).is
 
 pub returns-then-kind-ge-KINDS : goal.returns-then-kind-ge-KINDS
-returns-then-kind-ge-KINDS c = 
+returns-then-kind-ge-KINDS c =
     sym
     (kind_key _ _
     ∙ ap kind_with (sym c.key_at-k.ensures)
     ∙ rw (sym c.kind_of-kind.ensures, le-ltb _ _ c.if-kind-ge-KINDS.true))
 
 pub returns : goal.returns
-returns c = 
+returns c =
     sym
     (kind_key _ _
     ∙ ap kind_with (sym c.key_at-k.ensures)

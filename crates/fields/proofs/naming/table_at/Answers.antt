@@ -1,7 +1,6 @@
 -- `fields::naming::table_at` meets its contract: the four bytes at the place, and the four two places on, are the name and its space
 -- (`table_name`). Assumes nothing.
 use borrow.Author.Rules.{rules}
-use borrow.Author.Tests.{not-false}
 use mathlib.Core.Bool.{false≢true}
 use Rattle.fields.proofs.Names.{table_name}
 use Rattle.fields.proofs.naming.table_at.Goals as goal

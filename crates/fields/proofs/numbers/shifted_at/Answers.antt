@@ -1,7 +1,6 @@
 -- `fields::numbers::shifted_at` meets its contract: what is kept of a number from 0 to the most is shifted up, and a number below the least is
 -- left out, by one law (`raised_read`). The sum fits, since a number that was read is at most the most.
 -- Assumes nothing.
-use borrow.Author.Rules.{rules}
 use borrow.Author.Tests.{lt-ltb, le-ltb}
 use mathlib.Core.Path.{sym, ap, ◌∙◌}
 use native.Mathlib.Omega.{arith}
@@ -12,19 +11,19 @@ pub returns-in_default : goal.returns-in_default
 returns-in_default c = sym (raised_read _ _ _ _ ∙ ap (raised _) (sym c.natural_at.ensures ∙ c.in_default.is))
 
 pub returns-then-value-least : goal.returns-then-value-least
-returns-then-value-least c = 
+returns-then-value-least c =
     sym
     (raised_read _ _ _ _
     ∙ ap (raised _) (sym c.natural_at.ensures ∙ c.in-Sound.is)
     ∙ rw (lt-ltb _ _ c.if-value-least.true))
 
 pub overflow_add-result : goal.overflow_add-result
-overflow_add-result c = 
+overflow_add-result c =
     let told = sym c.natural_at.ensures ∙ c.in-Sound.is in
     omega (arith, natural_most _ _ _ _ _ told, c.requires)
 
 pub returns : goal.returns
-returns c = 
+returns c =
     sym
     (raised_read _ _ _ _
     ∙ ap (raised _) (sym c.natural_at.ensures ∙ c.in-Sound.is)

@@ -1,7 +1,6 @@
 -- `fields::numbers::signed_at` meets its contract. Without a minus the number is one from 0 on; after a minus it is what `natural_at` reads
 -- there, counted down, and no zero (`signed_plain`, `signed_minus`). The difference does not go below 0, since the number is at most the shift.
 -- Assumes nothing.
-use borrow.Author.Rules.{rules}
 use borrow.Author.Tests.{eq-eqb, ne_eqb}
 use mathlib.Core.Path.{sym, ap, ◌∙◌}
 use native.Mathlib.Omega.{arith}
@@ -15,25 +14,25 @@ pub returns-then-bytes-at-ne45 : goal.returns-then-bytes-at-ne45
 returns-then-bytes-at-ne45 c = c.shifted_at.ensures ∙ sym (signed_plain _ _ c.if-at-bytes.false c.if-bytes-at-ne45.true)
 
 pub returns-in_default : goal.returns-in_default
-returns-in_default c = 
+returns-in_default c =
     sym
     (signed_minus _ _ c.if-at-bytes.false c.if-bytes-at-ne45.false
     ∙ ap lowered (sym c.natural_at.ensures ∙ c.in_default.is))
 
 pub returns-then-value-eq0 : goal.returns-then-value-eq0
-returns-then-value-eq0 c = 
+returns-then-value-eq0 c =
     sym
     (signed_minus _ _ c.if-at-bytes.false c.if-bytes-at-ne45.false
     ∙ ap lowered (sym c.natural_at.ensures ∙ c.in-Sound.is)
     ∙ rw (eq-eqb _ _ c.if-value-eq0.true))
 
 pub overflow_sub-result : goal.overflow_sub-result
-overflow_sub-result c = 
+overflow_sub-result c =
     let told = sym c.natural_at.ensures ∙ c.in-Sound.is in
     omega (arith, natural_most _ _ _ _ _ told)
 
 pub returns : goal.returns
-returns c = 
+returns c =
     sym
     (signed_minus _ _ c.if-at-bytes.false c.if-bytes-at-ne45.false
     ∙ ap lowered (sym c.natural_at.ensures ∙ c.in-Sound.is)

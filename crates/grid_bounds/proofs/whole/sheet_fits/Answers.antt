@@ -4,12 +4,10 @@ use mathlib.Core.Path.{◌≡◌}
 use Prim.Native.Nat.{ℕ, ◌-◌, ◌<◌}
 use native.Mathlib.Omega.{arith}
 use lib.ListN.{length}
-use borrow.Author.Tests.{not-false}
 use Rattle.records.specs.Kept.{kepts_of}
 use Rattle.records.proofs.Kepts.{length_kepts}
 use Rattle.grid_bounds.specs.Bound.{Room}
-use Rattle.grid_bounds.proofs.SheetLoop.{SheetLoop, sheet_start, sheet_stop, sheet_other, sheet_cell}
-use borrow.Author.Rules.{rules}
+use Rattle.grid_bounds.proofs.SheetLoop.{sheet_start, sheet_stop, sheet_other, sheet_cell}
 use Rattle.grid_bounds.proofs.whole.sheet_fits.Goals as goal
 use Rattle.grid_bounds.proofs.whole.sheet_fits.Goals.{Else-not-has_room, In-loop-i}
 

@@ -1,15 +1,8 @@
 -- `grid_bounds::whole::sheet_fits` meets its contract. The loop's invariant is `SheetLoop`. The measure is how many
 -- lines are left. Assumes nothing.
-use mathlib.Core.Path.{◌≡◌}
-use Prim.Native.Nat.{ℕ, ◌-◌, ◌<◌}
-use native.Mathlib.Omega.{arith}
-use lib.ListN.{length}
-use borrow.Author.Tests.{not-false}
+use Prim.Native.Nat.{◌-◌}
 use Rattle.records.specs.Kept.{kepts_of}
-use Rattle.records.proofs.Kepts.{length_kepts}
-use Rattle.grid_bounds.specs.Bound.{Room}
-use Rattle.grid_bounds.proofs.SheetLoop.{SheetLoop, sheet_start, sheet_stop, sheet_other, sheet_cell}
-use borrow.Author.Rules.{rules}
+use Rattle.grid_bounds.proofs.SheetLoop.{SheetLoop}
 use Rattle.grid_bounds.proofs.whole.sheet_fits.Given as goal
 
 abbrev pub invariant-loop-i : goal.invariant-loop-i

@@ -1,6 +1,5 @@
 -- `line::ranges::n_at` meets its contract: for each kind the numbers that are allowed are those of the reader that it calls.
 -- Assumes nothing.
-use borrow.Author.Rules.{rules}
 use mathlib.Core.Path.{sym, ◌∙◌}
 use Rattle.line.proofs.Numbering.{n_head, n_ol, n_else}
 use Rattle.line.proofs.ranges.n_at.Goals as goal

@@ -5,7 +5,6 @@ use lib.Seq.{length-take-le}
 use Rattle.sheet_figures.proofs.Openings.{front_asked}
 use Rattle.sheet_figures.proofs.Tables.{front_measured}
 use Rattle.missing.proofs.Read.{read_refused, read_made}
-use borrow.Author.Rules.{rules}
 use Rattle.missing.proofs.sheets.explain_read.Goals as goal
 
 pub overflow_mul-end : goal.overflow_mul-end
@@ -15,7 +14,7 @@ pub slice_bounds-explain-end : goal.slice_bounds-explain-end
 slice_bounds-explain-end c = sym (length-take-le _ _ (omega (arith, c.requires.asked_in.front _ c.in-Lines.is)))
 
 pub explain-requires : goal.explain-requires
-explain-requires c = 
+explain-requires c =
     let p = c.requires in let e = c.in-Lines.is in record {
       asked = front_asked p.asked_in e;
       max_entries_in_bounds = p.max_entries_in_bounds;

@@ -5,11 +5,10 @@ use Rattle.opening.proofs.Passing.{figures_room}
 use Rattle.sheet_figures.proofs.Openings.{asked_in}
 use Rattle.sheet_figures.proofs.Tables.{lines_of, measured_in}
 use Rattle.missing.proofs.Read.{room_still, missing_found}
-use borrow.Author.Rules.{rules}
 use Rattle.missing.proofs.sheets.explain_sheet.Goals as goal
 
 pub measure_table-read-requires : goal.measure_table-read-requires
-measure_table-read-requires c = 
+measure_table-read-requires c =
     record {
       bytes_bound = omega arith;
       bytes_in_bounds = figures_room _ _ (omega arith);
@@ -17,7 +16,7 @@ measure_table-read-requires c =
     }
 
 pub explain_read-requires : goal.explain_read-requires
-explain_read-requires c = 
+explain_read-requires c =
     let m = c.measure_table-read in
     let p = c.requires in
     let w = lines_of c.measure_table-read.ensures in record {

@@ -3,11 +3,10 @@ use mathlib.Core.Path.{◌≡◌, sym, ◌∙◌}
 use Prim.Native.Nat.{ℕ}
 use native.Mathlib.Omega.{arith}
 use Rattle.opening.proofs.Measurable.{measured_in}
-use borrow.Author.Rules.{rules}
 use Rattle.opening.proofs.measuring.measure_read.Goals as goal
 
 pub measure_front-requires : goal.measure_front-requires
-measure_front-requires c = 
+measure_front-requires c =
     let e = c.in-Lines.is in let p = c.requires in record {
       n_bound = p.front _ e;
       lent = p.lent _ e;

@@ -1,11 +1,10 @@
 -- `opening::measuring::measure_sheet` meets its contract: an opened sheet can be measured, in slices that are as long as they were. Assumes nothing.
 use native.Mathlib.Omega.{arith}
 use Rattle.opening.proofs.Measurable.{any_still, lent_any, sheet_in, sheet_measured}
-use borrow.Author.Rules.{rules}
 use Rattle.opening.proofs.measuring.measure_sheet.Goals as goal
 
 pub measure_read-requires : goal.measure_read-requires
-measure_read-requires c = 
+measure_read-requires c =
     let o = c.open_sheet-read in
     let p = c.requires in
     lent_any c.open_sheet-read.ensures (omega (arith, p.bytes_bound, c.open_sheet-read.auto.lines)) p.bytes_in_bounds (λ n e. sheet_in _) _ _ _ (any_still c.open_sheet-read.auto.scratch p.scratch_for_any)

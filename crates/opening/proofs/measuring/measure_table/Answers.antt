@@ -3,11 +3,10 @@
 use mathlib.Core.Path.{refl}
 use native.Mathlib.Omega.{arith}
 use Rattle.opening.proofs.Measurable.{any_still, lent_any, front_table, table_measured}
-use borrow.Author.Rules.{rules}
 use Rattle.opening.proofs.measuring.measure_table.Goals as goal
 
 pub measure_read-requires : goal.measure_read-requires
-measure_read-requires c = 
+measure_read-requires c =
     let o = c.open_sheet-read in
     let p = c.requires in
     lent_any c.open_sheet-read.ensures (omega (arith, p.bytes_bound, c.open_sheet-read.auto.lines)) p.bytes_in_bounds (front_table c.open_sheet-read.ensures refl) _ _ _ (any_still c.open_sheet-read.auto.scratch p.scratch_for_any)

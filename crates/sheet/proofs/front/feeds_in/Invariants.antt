@@ -1,13 +1,9 @@
 -- `sheet::front::feeds_in` meets its contract. The loop's invariant: the line feeds counted, with those from the place on, are those of the whole.
 -- A turn passes one byte, a line feed or another. The measure is what is left of the block. Assumes nothing.
 use mathlib.Core.Path.{◌≡◌}
-use mathlib.Core.Logic.{⊎_elim}
-use Prim.Native.Nat.{◌+◌, ◌-◌, ◌≤◌, ◌<◌}
-use native.Mathlib.Omega.{arith}
+use Prim.Native.Nat.{◌+◌, ◌-◌, ◌≤◌}
 use lib.ListN.{length, drop}
-use borrow.Author.Rules.{rules}
 use Rattle.fields.specs.Lines.{feeds}
-use Rattle.sheet.proofs.Heading.{feeds_here, feeds_past, feeds_end}
 use Rattle.sheet.proofs.front.feeds_in.Given as goal
 
 abbrev pub invariant-loop-i : goal.invariant-loop-i

@@ -2,11 +2,8 @@
 -- A turn passes one block. The measure is what is left of the sheet. Assumes nothing.
 use mathlib.Core.Path.{◌≡◌}
 use Prim.Native.Nat.{◌+◌, ◌-◌, ◌≤◌}
-use native.Mathlib.Omega.{arith}
-use lib.ListN.{length, drop, length-take}
-use borrow.Author.Rules.{rules}
+use lib.ListN.{length, drop}
 use Rattle.fields.specs.Lines.{feeds}
-use Rattle.sheet.proofs.Heading.{feeds_block, feeds_few, feeds_end}
 use Rattle.sheet.proofs.front.feeds_of.Given as goal
 
 abbrev pub invariant-loop-i : goal.invariant-loop-i

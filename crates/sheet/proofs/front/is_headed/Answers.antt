@@ -2,9 +2,7 @@
 -- A turn compares one byte. The measure is what is left of the heading. Assumes nothing.
 use mathlib.Core.Path.{sym}
 use Prim.Native.Nat.{◌-◌}
-use borrow.Author.Rules.{rules}
-use Rattle.fields.specs.Lines.{heading_bytes}
-use Rattle.sheet.proofs.Heading.{HeadedFrom, heading_short, headed_start, headed_more, headed_not, headed_all}
+use Rattle.sheet.proofs.Heading.{heading_short, headed_start, headed_more, headed_not, headed_all}
 use Rattle.sheet.proofs.front.is_headed.Goals as goal
 
 pub returns-then-bytes-lt-HEADING_BYTES : goal.returns-then-bytes-lt-HEADING_BYTES

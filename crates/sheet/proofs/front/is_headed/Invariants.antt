@@ -1,10 +1,8 @@
 -- `sheet::front::is_headed` meets its contract. The loop's invariant: the heading stands at the front if what is left of it stands from the place on.
 -- A turn compares one byte. The measure is what is left of the heading. Assumes nothing.
-use mathlib.Core.Path.{sym}
 use Prim.Native.Nat.{◌-◌}
-use borrow.Author.Rules.{rules}
 use Rattle.fields.specs.Lines.{heading_bytes}
-use Rattle.sheet.proofs.Heading.{HeadedFrom, heading_short, headed_start, headed_more, headed_not, headed_all}
+use Rattle.sheet.proofs.Heading.{HeadedFrom}
 use Rattle.sheet.proofs.front.is_headed.Given as goal
 
 abbrev pub invariant-loop-i : goal.invariant-loop-i

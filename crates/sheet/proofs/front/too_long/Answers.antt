@@ -1,5 +1,4 @@
 -- `sheet::front::too_long` meets its contract: each way's tests settle the definition's. Assumes nothing.
-use borrow.Author.Rules.{rules}
 use borrow.Author.Tests.{lt-ltb, le-ltb}
 use Rattle.sheet.proofs.front.too_long.Goals as goal
 

@@ -1,7 +1,6 @@
 -- `sheet::nesting::may_hold` meets its contract: asked by the child first, the answer is the definition's (Holding). Assumes nothing.
 use mathlib.Core.Path.{sym, ◌∙◌}
 use native.Mathlib.Omega.{arith}
-use borrow.Author.Rules.{rules}
 use Rattle.kinds.specs.Kinds.{may_hold}
 use Rattle.sheet.proofs.Holding.{frame_between, frame_held, held_before, held_after}
 use Rattle.sheet.proofs.nesting.may_hold.Goals as goal

@@ -1,7 +1,6 @@
 -- `sheet::nesting::misplaced` meets its contract: each way's tests settle the definition's. Assumes nothing.
 use mathlib.Core.Path.{◌≡◌, refl, sym, ap}
 use mathlib.Core.Bool.{Bool, true, false, not}
-use borrow.Author.Rules.{rules}
 use borrow.Author.Tests.{eq-eqb, ne_eqb, le-leb, lt-leb}
 use Rattle.sheet.specs.Steps.{breaks_nesting}
 use Rattle.sheet.proofs.nesting.misplaced.Goals as goal

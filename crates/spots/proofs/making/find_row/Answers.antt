@@ -4,11 +4,10 @@ use native.Mathlib.Omega.{arith}
 use Rattle.table.proofs.Rooms.{any_most, table_ready}
 use Rattle.spots.proofs.Made.{arrange_room, rows_enough, spot_made}
 use Rattle.spots.proofs.Read.{room_still}
-use borrow.Author.Rules.{rules}
 use Rattle.spots.proofs.making.find_row.Goals as goal
 
 pub arrange-a-requires : goal.arrange-a-requires
-arrange-a-requires c = 
+arrange-a-requires c =
     let p = c.requires in record {
       table_ready = table_ready p.asked (any_most p.asked) _ _ p.max_entries_in_bounds.0 p.max_entries_in_bounds.1;
       table_measured = p.table_measured;

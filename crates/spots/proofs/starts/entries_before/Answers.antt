@@ -2,7 +2,6 @@
 -- Assumes nothing.
 use native.Mathlib.Omega.{arith}
 use Rattle.spots.proofs.RowStarts.{before_none, before_row, before_past, before_empty}
-use borrow.Author.Rules.{rules}
 use Rattle.spots.proofs.starts.entries_before.Goals as goal
 
 pub returns-then-k-eq0 : goal.returns-then-k-eq0

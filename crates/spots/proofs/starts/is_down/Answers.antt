@@ -1,7 +1,6 @@
 -- `spots::starts::is_down` meets its contract: each arm answers what the definition says of its variant. Assumes nothing.
 use mathlib.Core.Path.{sym, ap}
 use Rattle.spots.specs.Rows.{goes_down}
-use borrow.Author.Rules.{rules}
 use Rattle.spots.proofs.starts.is_down.Goals as goal
 
 pub returns-in-Sideways : goal.returns-in-Sideways

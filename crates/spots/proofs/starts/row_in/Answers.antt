@@ -3,7 +3,6 @@
 use mathlib.Core.Path.{sym, ◌∙◌}
 use native.Mathlib.Omega.{arith}
 use Rattle.spots.proofs.RowStarts.{row_total, spot_down, spot_past, spot_there}
-use borrow.Author.Rules.{rules}
 use Rattle.spots.proofs.starts.row_in.Goals as goal
 
 pub returns-then-is_down : goal.returns-then-is_down

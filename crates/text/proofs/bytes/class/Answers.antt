@@ -4,7 +4,7 @@ use borrow.Author.Rules.{rules}
 use Rattle.text.proofs.bytes.class.Goals as goal
 
 pub returns : goal.returns
-returns c = 
+returns c =
     let table = c.requires in record {
       value = table.each _ (search rules);
       upper_bound = table.small _ (search rules);

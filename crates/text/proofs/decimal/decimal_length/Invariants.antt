@@ -3,9 +3,7 @@
 -- the count is no overflow. The measure is what is left. Assumes nothing.
 use mathlib.Core.Path.{◌≡◌}
 use Prim.Native.Nat.{◌+◌}
-use native.Mathlib.Omega.{arith}
 use Rattle.text.specs.Decimal.{digits}
-use Rattle.text.proofs.Digits.{digits_less, digits_more, digits_le}
 use Rattle.text.proofs.decimal.decimal_length.Given as goal
 
 abbrev pub invariant-loop-m : goal.invariant-loop-m

@@ -3,13 +3,12 @@
 use mathlib.Core.Path.{◌∙◌, ap}
 use Prim.Native.Nat.{ℕ, ◌+◌, ◌-◌}
 use native.Mathlib.Omega.{arith}
-use borrow.Author.Rules.{rules}
 use Rattle.text.proofs.Digits.{digits_le}
 use Rattle.text.proofs.Prefixes.{from_above, from_below}
 use Rattle.text.proofs.decimal.written.Goals as goal
 
 pub overflow_add-result : goal.overflow_add-result
-overflow_add-result c = 
+overflow_add-result c =
     let a = c.args in
     omega (arith, digits_le 9 (a.base - a.v) (omega arith))
 

@@ -6,7 +6,6 @@ use Rattle.records.specs.declared.Kept.{Kept}
 use Rattle.records.proofs.Kepts.{length_kepts}
 use Rattle.walking.proofs.HandOut.{table_ready, layout_room, small_here, cells_fit, cells_room, wides_room, handed, handed_at, handed_other, handed_none}
 use Rattle.table.proofs.Grids.{all_table}
-use borrow.Author.Rules.{rules}
 use Rattle.walking.proofs.giving.hand_out.Goals as goal
 
 pub kept_at-here-requires : goal.kept_at-here-requires
@@ -19,7 +18,7 @@ pub returns-in_default : goal.returns-in_default
 returns-in_default c = handed_none c.in_default.is
 
 pub arrange-arranged-requires : goal.arrange-arranged-requires
-arrange-arranged-requires c = 
+arrange-arranged-requires c =
     let kind = sym (ap (λ (k : Kept). k.kind) c.kept_at-here.ensures) ∙ c.if-here-ne-TABLE.false in
     let within = c.requires.hand_ready.within in
     let rooms = c.requires.rooms in record {
@@ -29,14 +28,14 @@ arrange-arranged-requires c =
     }
 
 pub print_cells-requires : goal.print_cells-requires
-print_cells-requires c = 
+print_cells-requires c =
     let kind = sym (ap (λ (k : Kept). k.kind) c.kept_at-here.ensures) ∙ c.if-here-ne-TABLE.false in
     let a = c.arrange-arranged in
     cells_fit c.requires.walkable c.requires.hand_ready.within c.arrange-arranged.ensures _ _ refl (cells_room c.requires.walkable c.requires.hand_ready.within kind _ _ c.requires.rooms c.arrange-arranged.auto.entries)
     (wides_room c.requires.walkable c.requires.hand_ready.within kind _ c.arrange-arranged.new.wide c.requires.rooms c.arrange-arranged.auto.wide) c.requires.lines_in_bounds
 
 pub returns : goal.returns
-returns c = 
+returns c =
     let kind = sym (ap (λ (k : Kept). k.kind) c.kept_at-here.ensures) ∙ c.if-here-ne-TABLE.false in
     let a = c.arrange-arranged in
     handed_at c.in-Wide.is

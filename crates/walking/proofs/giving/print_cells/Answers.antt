@@ -1,12 +1,10 @@
 -- `walking::giving::print_cells` meets its contract. The loop's invariant (`Sofar`): what stands in the slice is what the entries from place i on give.
 -- The measure is how many entries are left. Assumes nothing.
-use mathlib.Core.Path.{◌≡◌, refl, ◌∙◌}
+use mathlib.Core.Path.{refl, ◌∙◌}
 use native.Mathlib.Omega.{arith}
-use lib.ListN.{length}
-use Rattle.records.specs.Kept.{entry_by, entries_of, place_by, places_of}
+use Rattle.records.specs.Kept.{entry_by, place_by}
 use Rattle.records.proofs.Records.{length_of}
-use Rattle.walking.proofs.CellLoop.{Sofar, start, stop, turn_cell, turn_filler, cell_place}
-use borrow.Author.Rules.{rules}
+use Rattle.walking.proofs.CellLoop.{start, stop, turn_cell, turn_filler, cell_place}
 use Rattle.walking.proofs.giving.print_cells.Goals as goal
 
 pub loop-i-init : goal.loop-i-init
@@ -16,7 +14,7 @@ pub entry_at-e-requires : goal.entry_at-e-requires
 entry_at-e-requires c = omega (arith, c.loop-i.invariant.0.at, c.loop-i-test.true, c.requires.entries_in_fits, length_of 3 entry_by c.args.entries.now)
 
 pub put_place-requires : goal.put_place-requires
-put_place-requires c = 
+put_place-requires c =
     omega (
       arith,
       cell_place c.requires c.loop-i.invariant.0 c.loop-i-test.true _ c.entry_at-e.ensures c.if-e-ne0.true,

@@ -1,12 +1,9 @@
 -- `walking::giving::print_cells` meets its contract. The loop's invariant (`Sofar`): what stands in the slice is what the entries from place i on give.
 -- The measure is how many entries are left. Assumes nothing.
-use mathlib.Core.Path.{◌≡◌, refl, ◌∙◌}
-use native.Mathlib.Omega.{arith}
+use mathlib.Core.Path.{◌≡◌}
 use lib.ListN.{length}
-use Rattle.records.specs.Kept.{entry_by, entries_of, place_by, places_of}
-use Rattle.records.proofs.Records.{length_of}
-use Rattle.walking.proofs.CellLoop.{Sofar, start, stop, turn_cell, turn_filler, cell_place}
-use borrow.Author.Rules.{rules}
+use Rattle.records.specs.Kept.{entries_of, places_of}
+use Rattle.walking.proofs.CellLoop.{Sofar}
 use Rattle.walking.proofs.giving.print_cells.Given as goal
 
 abbrev pub invariant-loop-i : goal.invariant-loop-i

@@ -2,7 +2,6 @@
 use mathlib.Core.Path.{◌∙◌}
 use borrow.Author.Tests.{eq-eqb, ne_eqb}
 use Rattle.passing.specs.Walk.{too_narrow}
-use borrow.Author.Rules.{rules}
 use Rattle.walking.proofs.steps.ends.Goals as goal
 
 pub returns-then-overflow-ne0 : goal.returns-then-overflow-ne0

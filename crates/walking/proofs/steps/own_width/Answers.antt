@@ -5,7 +5,6 @@ use lib.ListN.{get_or}
 use borrow.Author.Tests.{eq-eqb, ne_eqb}
 use Rattle.records.specs.Kept.{no_place, places_of}
 use Rattle.passing.specs.inner.Places.{width_by}
-use borrow.Author.Rules.{rules}
 use Rattle.walking.proofs.steps.own_width.Goals as goal
 
 pub returns-then-i-eq0 : goal.returns-then-i-eq0
@@ -18,6 +17,6 @@ pub returns-then-k-eq-CELL : goal.returns-then-k-eq-CELL
 returns-then-k-eq-CELL c = rw (ne_eqb _ 0 c.if-i-eq0.false, eq-eqb _ 22 c.if-k-eq-CELL.true) (c.width_of.ensures ∙ ap width_by c.place_at.ensures)
 
 pub returns : goal.returns
-returns c = 
+returns c =
     rw (ne_eqb _ 0 c.if-i-eq0.false, ne_eqb _ 22 c.if-k-eq-CELL.false)
     (c.width_of-2.ensures ∙ ap width_by (c.place_at-2.ensures ∙ ap (λ (d : ℕ). get_or (places_of c.args.passed.now) d no_place) c.less-above.ensures))

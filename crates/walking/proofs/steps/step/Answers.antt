@@ -4,15 +4,13 @@ use native.Mathlib.Omega.{arith}
 use lib.ListN.{set}
 use Rattle.records.specs.Kept.{places_of}
 use Rattle.records.specs.declared.Kept.{Kept}
-use Rattle.records.specs.declared.Place.{Place}
 use Rattle.passing.specs.Walk.{passed_on}
 use Rattle.passing.specs.inner.Places.{width_place}
 use Rattle.walking.specs.inner.Steps.{own_width}
-use borrow.Author.Rules.{rules}
 use Rattle.walking.proofs.steps.step.Goals as goal
 
 pub own_width-own-requires : goal.own_width-own-requires
-own_width-own-requires c = 
+own_width-own-requires c =
     record {
       i_in_bounds = c.requires.place_in;
       depth_in_bounds = omega (arith, c.requires.depth_in, ap (λ (k : Kept). k.depth) c.kept_at-here.ensures);
@@ -22,7 +20,7 @@ pub put_place-requires-2 : goal.put_place-requires-2
 put_place-requires-2 c = omega (arith, c.requires.depth_in, ap (λ (k : Kept). k.depth) c.kept_at-here.ensures)
 
 pub returns : goal.returns
-returns c = 
+returns c =
     let k = c.kept_at-here.ensures in
     let ps = places_of c.args.walk.now in
     let qs = places_of c.args.passed.now in

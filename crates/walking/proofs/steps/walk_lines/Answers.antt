@@ -1,16 +1,12 @@
 -- `walking::steps::walk_lines` meets its contract. The loop's invariant (`Sofar`): the lines that are passed have their widths, and the slices their lengths.
 -- The measure is how many lines are left. Assumes nothing.
-use mathlib.Core.Path.{◌≡◌, refl, sym, ◌∙◌}
-use Prim.Native.Nat.{◌-◌, ◌*◌, ◌<◌}
+use mathlib.Core.Path.{refl, sym, ◌∙◌}
+use Prim.Native.Nat.{◌-◌, ◌<◌}
 use native.Mathlib.Omega.{arith}
 use lib.ListN.{length}
-use Rattle.lists.specs.Limits.{depths}
-use Rattle.records.specs.Kept.{kepts_of, places_of}
+use Rattle.records.specs.Kept.{kepts_of}
 use Rattle.records.proofs.Kepts.{length_kepts}
-use Rattle.estimates.specs.inner.Figures.{figures_of}
-use Rattle.walking.specs.inner.Steps.{Kepts}
-use Rattle.walking.proofs.Rooms.{SofarAny, here_in, figure_in, line_here, walk_room, started, walked_all, hand_ready, walked_refused, walked_on, same_start, same_turn, same_rooms}
-use borrow.Author.Rules.{rules}
+use Rattle.walking.proofs.Rooms.{here_in, figure_in, line_here, walk_room, started, walked_all, hand_ready, walked_refused, walked_on, same_start, same_turn, same_rooms}
 use Rattle.walking.proofs.steps.walk_lines.Goals as goal
 use Rattle.walking.proofs.steps.walk_lines.Goals.{In-loop-i}
 
@@ -19,7 +15,7 @@ here : (c : In-loop-i) → c.loop-i.i < length (kepts_of c.args.lines.now)
 here c = here_in _ c.count-n.ensures c.loop-i-test.true
 
 pub loop-i-init : goal.loop-i-init
-loop-i-init c = 
+loop-i-init c =
     let a = c.args in
     (started a.lines.now a.figures.now a.walk.now c.requires.walkable c.requires.cleared a.raw a.width a.overflow c.requires.raw_bound.1, refl, refl, same_start)
 
@@ -27,13 +23,13 @@ pub slice_bounds-step-end : goal.slice_bounds-step-end
 slice_bounds-step-end c = sym c.loop-i.invariant.2
 
 pub step-own-requires : goal.step-own-requires
-step-own-requires c = 
+step-own-requires c =
     let a = c.args in
     let l = c.loop-i in
     line_here a.lines.now a.figures.now a.walk.now c.requires.walkable c.requires.cleared l.walk l.passed l.invariant.1 l.invariant.2 (here (goal.at.step-own-requires c).In-loop-i)
 
 pub ends-requires : goal.ends-requires
-ends-requires c = 
+ends-requires c =
     let a = c.args in
     (omega (arith, (here (goal.at.ends-requires c).In-loop-i), length_kepts a.lines.now), figure_in a.lines.now a.figures.now a.walk.now c.requires.walkable c.requires.cleared (here (goal.at.ends-requires c).In-loop-i))
 
@@ -44,13 +40,13 @@ pub overflow_cast-result : goal.overflow_cast-result
 overflow_cast-result c = omega (arith, (here (goal.at.overflow_cast-result c).In-loop-i), c.requires.walkable.lined.short)
 
 pub returns-then-ends : goal.returns-then-ends
-returns-then-ends c = 
+returns-then-ends c =
     let a = c.args in
     let l = c.loop-i in
     walked_refused a.lines.now a.figures.now a.walk.now c.requires.walkable c.requires.cleared a.raw a.width a.overflow c.requires.raw_bound.1 l.walk l.passed l.invariant.1 l.invariant.2 l.i l.invariant.0 (here (goal.at.returns-then-ends c).In-loop-i) _ _ _ c.step-own.ensures _ c.ends.ensures c.if-ends.true _
 
 pub hand_out-requires : goal.hand_out-requires
-hand_out-requires c = 
+hand_out-requires c =
     let a = c.args in
     let l = c.loop-i in
     let t = c.step-own in record {
@@ -61,7 +57,7 @@ hand_out-requires c =
     }
 
 pub loop-i-preserved : goal.loop-i-preserved
-loop-i-preserved c = 
+loop-i-preserved c =
     let a = c.args in
     let l = c.loop-i in
     let t = c.step-own in
@@ -73,7 +69,7 @@ loop-i-preserved c =
     )
 
 pub returns : goal.returns
-returns c = 
+returns c =
     let a = c.args in
     let l = c.loop-i in
     walked_all a.lines.now a.figures.now a.walk.now c.requires.walkable c.requires.cleared a.raw a.width a.overflow c.requires.raw_bound.1 l.walk l.passed l.invariant.1 l.invariant.2 l.i l.invariant.0 (omega (arith, c.count-n.ensures, c.loop-i-test.false, length_kepts a.lines.now))

@@ -1,20 +1,17 @@
 -- `walking::steps::walk_lines` meets its contract. The loop's invariant (`Sofar`): the lines that are passed have their widths, and the slices their lengths.
 -- The measure is how many lines are left. Assumes nothing.
-use mathlib.Core.Path.{◌≡◌, refl, sym, ◌∙◌}
-use Prim.Native.Nat.{◌-◌, ◌*◌, ◌<◌}
-use native.Mathlib.Omega.{arith}
+use mathlib.Core.Path.{◌≡◌}
+use Prim.Native.Nat.{◌-◌, ◌*◌}
 use lib.ListN.{length}
 use Rattle.lists.specs.Limits.{depths}
 use Rattle.records.specs.Kept.{kepts_of, places_of}
-use Rattle.records.proofs.Kepts.{length_kepts}
 use Rattle.estimates.specs.inner.Figures.{figures_of}
 use Rattle.walking.specs.inner.Steps.{Kepts}
-use Rattle.walking.proofs.Rooms.{SofarAny, here_in, figure_in, line_here, walk_room, started, walked_all, hand_ready, walked_refused, walked_on, same_start, same_turn, same_rooms}
-use borrow.Author.Rules.{rules}
+use Rattle.walking.proofs.Rooms.{SofarAny}
 use Rattle.walking.proofs.steps.walk_lines.Given as goal
 
 abbrev pub invariant-loop-i : goal.invariant-loop-i
-invariant-loop-i l = 
+invariant-loop-i l =
     SofarAny (kepts_of l.lines) (figures_of l.figures) l.raw l.width l.overflow (places_of l.walk) (places_of l.passed) l.i
     × (length l.walk ≡ length l.initial.walk)
     × (length l.passed ≡ 2 * depths)

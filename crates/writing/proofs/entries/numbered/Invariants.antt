@@ -4,7 +4,6 @@ use mathlib.Core.Path.{◌≡◌}
 use Prim.Native.Nat.{◌-◌}
 use lib.ListN.{length}
 use Rattle.writing.specs.Writing.{Place}
-use borrow.Author.Rules.{rules}
 use Rattle.writing.proofs.entries.numbered.Given as goal
 
 abbrev pub invariant-loop-j : goal.invariant-loop-j

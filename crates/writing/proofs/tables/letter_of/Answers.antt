@@ -1,7 +1,6 @@
 -- `writing::tables::letter_of` meets its contract: each arm answers what the definition says of its variant. Assumes nothing.
 use mathlib.Core.Path.{sym, ap}
 use Rattle.writing.specs.Writing.{way_letter}
-use borrow.Author.Rules.{rules}
 use Rattle.writing.proofs.tables.letter_of.Goals as goal
 
 pub returns-in-Sideways : goal.returns-in-Sideways

@@ -1,0 +1,23 @@
+-- `report::opened` meets its contract: the local arrays have room for every sheet, and a sheet that was walked can be listed (`read_listable`).
+-- Assumes nothing.
+use native.Mathlib.Omega.{arith}
+use Rattle.opening.proofs.Passing.{places_room, figures_room}
+use Rattle.report.proofs.Ready.{read_listable}
+use Rattle.report.proofs.opened.Goals as goal
+
+pub walk_sheet-read-requires : goal.walk_sheet-read-requires
+walk_sheet-read-requires c =
+    record {
+      sheet_bound = omega arith;
+      sheet_in_bounds = figures_room _ _ (omega arith);
+      sheet_in_bounds_2 = places_room _ _ (omega arith);
+      max_position_in_bounds = omega arith;
+      raw_bound = c.requires.raw_bound;
+    }
+
+pub told-requires : goal.told-requires
+told-requires c =
+    record {
+      place = c.requires.place;
+      read_listable = read_listable _ c.walk_sheet-read.ensures (omega arith) (figures_room _ _ (omega arith)) (omega arith) c.requires.raw_bound.1;
+    }

@@ -1,0 +1,24 @@
+-- `walks::walking_out::walk_out` meets its contract: a sheet has no more lines than the arrays have room for, and the first buffer a place for each column.
+-- Assumes nothing.
+use native.Mathlib.Omega.{arith}
+use Rattle.opening.proofs.Passing.{places_room, figures_room}
+use Rattle.walks.proofs.WalkCall.{lines_few, tell_room, walk_found}
+use Rattle.walks.proofs.walking_out.walk_out.Goals as goal
+
+pub walk_sheet-read-requires : goal.walk_sheet-read-requires
+walk_sheet-read-requires c =
+    record {
+      sheet_bound = omega arith;
+      sheet_in_bounds = figures_room _ _ (omega arith);
+      sheet_in_bounds_2 = places_room _ _ (omega arith);
+      max_position_in_bounds = c.requires.walk_room.given_room;
+      raw_bound = c.requires.raw_bound;
+    }
+
+pub tell-requires : goal.tell-requires
+tell-requires c =
+    let w = c.walk_sheet-read in
+    tell_room _ c.args.sheet.now _ c.line_count.ensures (lines_few c.walk_sheet-read.ensures) (omega arith) (omega (arith, c.requires.walk_room.given_room, c.walk_sheet-read.auto.leasts)) c.requires.walk_room.wide_room
+
+pub returns : goal.returns
+returns c = walk_found c.walk_sheet-read.ensures _ c.line_count.ensures c.tell.ensures
