@@ -4,7 +4,7 @@
 ghost use Rattle.std.specs.Prelude.{◌≡◌, ◌+◌, ◌*◌, ◌-◌, ◌≤◌, ◌<◌};
 ghost use Rattle.sums.specs.Tree.{limit};
 ghost use Rattle.sums.specs.Grammar.{digit};
-ghost use Rattle.sums.specs.Machine.{have, operator as operatorOf, total as totalBy, wanted as wantedBy};
+ghost use Rattle.sums.specs.Machine.{have, operator as operator_of, total as total_by, wanted as wanted_by};
 ghost use Rattle.sums.specs.Answers.{values, answer_by, answer_of};
 ghost use Rattle.sums.specs.inner.Worth.{worth};
 ghost use Rattle.calc.specs.Measures.{Length, measure_of};
@@ -79,7 +79,7 @@ fn onto(b: Before, x: Num) -> Num
 
 // An operator after a factor.
 fn operator(c: u8, sum: Before, p: Num) -> Top
-    ensures result_value { place_of result ≡ operatorOf values c (onto_of sum) (worth p) }
+    ensures result_value { place_of result ≡ operator_of values c (onto_of sum) (worth p) }
     ensures small { Small result }
 {
     if c == 42 {
@@ -142,7 +142,7 @@ fn stepped(c: u8, t: Top) -> Top
 
 // The result of what stands within the innermost bracket, if it may end here.
 fn total(t: Top) -> Found
-    ensures { found_of result ≡ totalBy values (place_of t) }
+    ensures { found_of result ≡ total_by values (place_of t) }
 {
     match t {
         Top::Wrong => Found::Missing,
@@ -158,7 +158,7 @@ fn total(t: Top) -> Found
 
 // What waits, if a factor has to come here.
 fn wanted(t: Top) -> Room
-    ensures { room_of result ≡ wantedBy (place_of t) }
+    ensures { room_of result ≡ wanted_by (place_of t) }
 {
     match t {
         Top::Wrong => Room::Shut,

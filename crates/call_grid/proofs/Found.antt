@@ -92,7 +92,7 @@ module _ {read : Reading} {lines : List ℕ} {line : ℕ} {r : Gridded} {es : Li
       at (reading.Refused number l) e =
           let x = p ∙ ap entries_in (g.refused number l e) in
           let y = q ∙ ap rows_in (g.refused number l e) in
-          record { entries_in_fits = omega arith; rows_in_fits = omega arith; cell_in_fits = omega arith; first_in_fits = omega arith; span_in_fits = omega arith; row_in = omega arith; end_in_lem = omega arith }
+          record { entries_in_fits = omega arith; rows_in_fits = omega arith; cell_in_fits = omega arith; first_in_fits = omega arith; span_in_fits = omega arith; row_in = omega arith; end_in_fits = omega arith }
 
 -- ---- the grid asked for
 

@@ -102,7 +102,7 @@ module _ {ks : List Kept} {line : ℕ} (a : Asked ks line) where
           first_in_fits = omega (arith, r.first_room);
           span_in_fits = omega (arith, r.span_room);
           row_in = omega (arith, r.row_room);
-          end_in_lem = omega (arith, r.end_room);
+          end_in_fits = omega (arith, r.end_room);
         }
 
     -- and what is told of the records is the grid

@@ -48,21 +48,21 @@ rest_cell last c f = ap (λ (l : List Row). resolve_body (l ++ f.rows) ++ resolv
 
 -- ---- the loop
 
-pub record Listing (ks : List Kept) (at : ℕ) (line₀ span₀ rows₀ row₀ end₀ line span rows row' end : List ℕ) (n r first_Cell first-row i : ℕ) : Type 0 where
+pub record Listing (ks : List Kept) (at : ℕ) (line₀ span₀ rows₀ row₀ end₀ line span rows row' end : List ℕ) (n r first_cell first_row i : ℕ) : Type 0 where
   pub done : List Row
   pub last : List Row
   pub whole : done ++ rest last (framed ks (get_or ks at no_kept).depth i) ≡ table_rows ks at
   pub written : ListsRows (done ++ last) line₀ span₀ rows₀ row₀ end₀ line span rows row' end
   pub cells_are : n ≡ length (all_cells (done ++ last))
   pub rows_are : r ≡ length (done ++ last)
-  pub first_cell_is : first_Cell ≡ length (all_cells done)
-  pub first_row_is : first-row ≡ length done
-  pub order : first-row ≤ r
+  pub first_cell_is : first_cell ≡ length (all_cells done)
+  pub first_row_is : first_row ≡ length done
+  pub order : first_row ≤ r
   pub few : n + r + (at + 1) ≤ i
   pub within : i ≤ length ks
   -- where the last body has no row yet, no cell comes next
-  pub fresh : first-row ≡ r → (get_or ks i no_kept).depth ≤ (get_or ks at no_kept).depth + 2
-  pub narrow : (k : ℕ) → first_Cell ≤ k → k < n → get_or span k 0 ≤ max_cols
+  pub fresh : first_row ≡ r → (get_or ks i no_kept).depth ≤ (get_or ks at no_kept).depth + 2
+  pub narrow : (k : ℕ) → first_cell ≤ k → k < n → get_or span k 0 ≤ max_cols
   pub same_line : length line ≡ length line₀
   pub same_span : length span ≡ length span₀
   pub same_rows : length rows ≡ length rows₀
@@ -70,12 +70,12 @@ pub record Listing (ks : List Kept) (at : ℕ) (line₀ span₀ rows₀ row₀ e
   pub same_end : length end ≡ length end₀
 
 -- what a turn at the place i may use: the line, and a place for one row and one cell more
-pub record Room (ks : List Kept) (at : ℕ) (line span rows row' end : List ℕ) (n r first-row i : ℕ) : Type 0 where
+pub record Room (ks : List Kept) (at : ℕ) (line span rows row' end : List ℕ) (n r first_row i : ℕ) : Type 0 where
   pub more : i < length ks
   pub short : length ks ≤ max_lines
   pub shallow : (get_or ks at no_kept).depth ≤ max_depth
   pub few : n + r + at < i
-  pub order : first-row ≤ r
+  pub order : first_row ≤ r
   pub line_room : length ks ≤ at + length line
   pub span_room : length ks ≤ at + length span
   pub rows_room : length ks ≤ at + length rows

@@ -10,7 +10,7 @@ use Rattle.answers.specs.declared.Estimated.TheVariants as estimated
 use Rattle.answers.specs.declared.Gridded.{Gridded}
 use Rattle.answers.specs.declared.Gridded.TheVariants as gridded
 use Rattle.answers.specs.declared.LaidOut.{LaidOut}
-use Rattle.answers.specs.declared.LaidOut.TheVariants as laidOut
+use Rattle.answers.specs.declared.LaidOut.TheVariants as laid_out
 use Rattle.answers.specs.declared.Explained.{Explained}
 use Rattle.answers.specs.declared.Explained.TheVariants as explained
 use Rattle.answers.specs.Numbers.{way_number, what_number, joint_number}
@@ -57,8 +57,8 @@ grid_result (gridded.Grid rows entries columns) = record { number = 0; line = 0;
 grid_result (gridded.Refused number line) = record { number = number; line = line; rows = 0; entries = 0; columns = 0 }
 
 unfoldable pub layout_result : LaidOut → LayoutResult
-layout_result (laidOut.Layout way entries columns width) = record { number = 0; line = 0; way = way_number way; columns = columns; width = width }
-layout_result (laidOut.Refused number line) = record { number = number; line = line; way = 0; columns = 0; width = 0 }
+layout_result (laid_out.Layout way entries columns width) = record { number = 0; line = 0; way = way_number way; columns = columns; width = width }
+layout_result (laid_out.Refused number line) = record { number = number; line = line; way = 0; columns = 0; width = 0 }
 
 unfoldable pub missing_result : Explained → MissingResult
 missing_result (explained.Causes count columns) = record { number = 0; line = 0; count = count; columns = columns }

@@ -15,7 +15,7 @@ use Rattle.records.specs.Kept.{no_entry}
 use Rattle.records.specs.Kept as kept
 use Rattle.records.specs.declared.Kept.{Kept}
 use Rattle.records.specs.declared.Entry as packed
-use Rattle.records.specs.declared.Row as packedRow
+use Rattle.records.specs.declared.Row as packed_row
 use Rattle.columns.specs.Boxes.{flat}
 use Rattle.cells.specs.Listed.{table_rows}
 use Rattle.grid.specs.Grid.{Entry, grid_of, columns_of, entries_of}
@@ -54,7 +54,7 @@ module _ {ks : List Kept} {at scratch m n : ℕ} {es : List Estimate} (r : Figur
   records_fit = all_map (λ e. EntryFits es (columns_of (table_rows ks at)) (shown e)) (EntryFits es (columns_of (table_rows ks at))) shown (λ e p. p) xs entries_fit
 
 -- what is read of the records, once the grid is made
-module _ {ks : List Kept} {at scratch m n : ℕ} (figures entries : List ℕ) (r : FiguresReady ks at (figures_of figures) scratch m n) {counts : Counts} {rs : List packedRow.Row}
+module _ {ks : List Kept} {at scratch m n : ℕ} (figures entries : List ℕ) (r : FiguresReady ks at (figures_of figures) scratch m n) {counts : Counts} {rs : List packed_row.Row}
     (made : TableMade (table_rows ks at) counts (kept.entries_of entries) rs) where
   pub taken : take counts.entries (kept.entries_of entries) ≡ records_at ks at
   taken = rw made.entries_are made.entries

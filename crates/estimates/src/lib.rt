@@ -92,7 +92,7 @@ fn table(
     at: usize,
 ) -> Part
     requires node_ready { NodeReady lines.now figures.old leasts.old entries.old rows.old at }
-    requires at_value { (line_at (kepts_of lines.now) at).kind ≡ table_kind }
+    requires at_table { (line_at (kepts_of lines.now) at).kind ≡ table_kind }
     ensures { TableMeets wrap (kepts_of lines.now) (figures_of figures.old) (figures_of figures.new) at result }
 {
     let top = records::kept_at(lines, at);
@@ -205,7 +205,7 @@ pub fn measure_below(
 )
     requires lent { Lent (kepts_of lines.now) (figures_of figures.old) leasts.old (entries_of entries.old) (rows_of rows.old) }
     requires at_in_bounds { at < length (kepts_of lines.now) }
-    requires no_kept_value { (get_or (kepts_of lines.now) at no_kept).kind ≡ table_kind }
+    requires at_table { (get_or (kepts_of lines.now) at no_kept).kind ≡ table_kind }
     ensures { CellsMeasured wrap (kepts_of lines.now) at (figures_of figures.old) (figures_of figures.new) }
 {
     let top = records::kept_at(lines, at);

@@ -30,7 +30,7 @@ use Rattle.table.proofs.Grids.{all_cells}
 use Rattle.arguments.specs.Arguments.{any_shorter, nested_arguments}
 use Rattle.arguments.proofs.Shorter.{two_fit, or_false}
 use Rattle.answers.specs.declared.LaidOut.{LaidOut}
-use Rattle.answers.specs.declared.LaidOut.TheVariants as laidOut
+use Rattle.answers.specs.declared.LaidOut.TheVariants as laid_out
 use Rattle.sheet_figures.specs.inner.Opened.{AskedIn, MeasuredIn, LinesOf}
 use Rattle.sheet_figures.proofs.Openings.{asked_in}
 use Rattle.sheet_figures.proofs.Tables.{measured_in}
@@ -132,7 +132,7 @@ module _ {s : List ℕ} {line wrap raw width overflow : ℕ} {r : Reading} {line
         let l = layout_found (settings wrap raw k) (lines_of n e) low (rw e at (g.laid k d)) in
         let p = (opened_passed (w.opened n e) n refl).all in
         let q = all_pass n e in
-        let a = l.answer ∙ first_passes laidOut.Refused _ (open_checks true s line) p in
+        let a = l.answer ∙ first_passes laid_out.Refused _ (open_checks true s line) p in
         let b = g.answer k d ∙ ap (nest_in k) a in
         let m : columns_in t ≡ layouts.columns_in (g.arranged k d) = ap columns_in b ∙ sym (ap layouts.columns_in a) in
         let o : entries_in t ≡ layouts.entries_in (g.arranged k d) = ap entries_in b ∙ sym (ap layouts.entries_in a) in

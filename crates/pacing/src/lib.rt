@@ -24,7 +24,7 @@ fn open_measured(
     leasts: &mut [u32],
 ) -> Reading
     requires sheet_bound { room_for sheet.now ≤ kept_count lines.old }
-    requires sheet_in_bounds { room_for sheet.now ≤ length (figures_of figures.old) }
+    requires figures_in_bounds { room_for sheet.now ≤ length (figures_of figures.old) }
     requires max_position_in_bounds { max_position ≤ length leasts.old }
     ensures { SheetOpened asks sheet.now line wrap result lines.new (figures_of figures.new) }
 {
@@ -125,8 +125,8 @@ pub fn walk_sheet(
     leasts: &mut [u32],
 ) -> Reading
     requires sheet_bound { room_for sheet.now ≤ kept_count lines.old }
-    requires sheet_in_bounds { room_for sheet.now ≤ length (figures_of figures.old) }
-    requires sheet_in_bounds_2 { room_for sheet.now ≤ length (places_of walk.old) }
+    requires figures_in_bounds { room_for sheet.now ≤ length (figures_of figures.old) }
+    requires places_in_bounds { room_for sheet.now ≤ length (places_of walk.old) }
     requires max_position_in_bounds { max_position ≤ length leasts.old }
     requires raw_bound { (raw ≤ 1) × (width ≤ max_size) }
     ensures { SheetWalked asks sheet.now line wrap raw width overflow result lines.new (figures_of figures.new) (places_of walk.new) }

@@ -112,7 +112,7 @@ fn joint_of(up: bool, down: bool) -> Joint
 // The joining character between a row and the next, whose entries are those from end up to next; below the last row there are none.
 pub fn joining(x: &[u32], wide: &[u32], first: usize, end: usize, next: usize, column: u32) -> Joint
     requires in_slices { InSlices first end x.now wide.now }
-    requires in_slices_2 { InSlices end next x.now wide.now }
+    requires next_in_slices { InSlices end next x.now wide.now }
     ensures { result ≡ joined column (slice first end (placed x.now wide.now)) (slice end next (placed x.now wide.now)) }
 {
     joint_of(

@@ -4,7 +4,7 @@ use mathlib.Core.List.{List}
 use Prim.Native.Nat.{ℕ, zero, suc, ◌-◌, ◌/◌, ◌^◌, ◌≤◌, ◌<◌}
 use native.Mathlib.Omega.{arith}
 use lib.ListN.{length, length-append}
-use Rattle.io.specs.Digits.{IsDigitCount, last_digits as lastDigits}
+use Rattle.io.specs.Digits.{IsDigitCount, last_digits as last_digits_of}
 use Rattle.text.specs.Decimal.{digits}
 use Rattle.text.proofs.Digits.{digits_less, digits_at, digits_le, digits_pos}
 use Rattle.printing.specs.Printing.{decimal, Put, PutWithin}
@@ -18,7 +18,7 @@ fewest_digits n (suc (suc k)) f =
     let least : 10 ^ suc k ≤ n = rw e at (f.2 (omega arith)) in
     sym (digits_at (suc k) n least f.1)
 
-length_last : (k n : ℕ) → length (lastDigits 10 k n) ≡ k
+length_last : (k n : ℕ) → length (last_digits_of 10 k n) ≡ k
 length_last zero n = refl
 length_last (suc k) n = rw length-append (omega (arith, length_last k (n / 10)))
 
@@ -29,11 +29,11 @@ module _ (n : ℕ) (h : n < 4294967296) where
   pub fewest_ten : (k : ℕ) → IsDigitCount 10 1 n k → k ≤ 10
   fewest_ten k f = omega (arith, few, fewest_digits n k f)
 
-  pub number_put : {k at r : ℕ} {w before after : List ℕ} → IsDigitCount 10 1 n k → w ≡ lastDigits 10 k n → Put w at before after r
+  pub number_put : {k at r : ℕ} {w before after : List ℕ} → IsDigitCount 10 1 n k → w ≡ last_digits_of 10 k n → Put w at before after r
       → PutWithin 10 (decimal n) at before after r
   unfolding decimal
   number_put {k} {at} {r} {w} {before} {after} f e p =
-      let d : w ≡ lastDigits 10 (digits n) n = e ∙ ap (λ (m : ℕ). lastDigits 10 m n) (fewest_digits n k f) in
+      let d : w ≡ last_digits_of 10 (digits n) n = e ∙ ap (λ (m : ℕ). last_digits_of 10 m n) (fewest_digits n k f) in
       let l : length w ≡ digits n = ap length d ∙ length_last (digits n) n in
       record {
         put = rw d at p;

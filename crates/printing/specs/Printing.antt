@@ -1,11 +1,11 @@
 -- Words and numbers put into a buffer. These are definitions; nothing is assumed.
 use Rattle.std.specs.Prelude.{◌≡◌, List, [], ◌∷◌, ◌++◌, ℕ, ◌+◌, ◌≤◌, ◌<◌, length, take, drop}
-use Rattle.io.specs.Digits.{last_digits as lastDigits}
+use Rattle.io.specs.Digits.{last_digits as last_digits_of}
 use Rattle.text.specs.Decimal.{digits}
 
 -- a number in base ten, as bytes
 unfoldable pub decimal : ℕ → List ℕ
-decimal n = lastDigits 10 (digits n) n
+decimal n = last_digits_of 10 (digits n) n
 
 -- numbers with one space between, and a line feed
 unfoldable pub line : List ℕ → List ℕ

@@ -89,8 +89,8 @@ fn lay_front(
 ) -> Laid
     requires entered { Entered (entries_of entries.now) (figures_of figures.now) (length column.old) }
     requires column_len_bound { length column.old ≤ max_position }
-    requires column_in_bounds { length column.old ≤ length sizes.old }
-    requires column_in_bounds_2 { length column.old ≤ length leasts.old }
+    requires sizes_in_bounds { length column.old ≤ length sizes.old }
+    requires leasts_in_bounds { length column.old ≤ length leasts.old }
     ensures { LaidOut (sizes_in (entries_of entries.now) (figures_of figures.now) (length column.old)) (leasts_in (entries_of entries.now) (figures_of figures.now) (length column.old)) raw width column.new result }
 {
     let c = column.len();

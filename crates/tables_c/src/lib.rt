@@ -9,7 +9,7 @@ ghost use Rattle.call_estimates.specs.Estimates.{estimated_of, for_lines, Estima
 ghost use Rattle.call_grid.specs.Grid.{gridded_of, for_entries, for_rows, GridBuffers};
 ghost use Rattle.call_layout.specs.Layout.{laid_out_of, for_columns, for_places, LayoutBuffers};
 ghost use Rattle.missing.specs.Missing.{explained_of, for_one, MissingLeft};
-ghost use Rattle.preview.specs.Preview.{pointed_of, listed_of, for_one as forListed, WithinLeft, joined_of};
+ghost use Rattle.preview.specs.Preview.{pointed_of, listed_of, for_one as for_listed, WithinLeft, joined_of};
 ghost use Rattle.walks.specs.Walks.{walked_of, for_walk, WalkLeft};
 ghost use Rattle.nested.specs.Nested.{nested_of, NestedLeft};
 ghost use Rattle.crossing.specs.Answers.{check_result, as_img, measure_result, estimates_result, grid_result, layout_result, missing_result, at_result, within_result, joining_result, walk_result, nested_result};
@@ -136,7 +136,7 @@ pub extern "C" fn tables_within(
     to: u32,
     entry: &mut [u32],
 ) -> WithinResult
-    ensures value { result ≡ within_result (listed_of sheet.now line wrap raw width row from to (forListed entry.old)) }
+    ensures value { result ≡ within_result (listed_of sheet.now line wrap raw width row from to (for_listed entry.old)) }
     ensures within_left { WithinLeft sheet.now line wrap raw width row from to entry.old entry.new }
 {
     crossing::within_result(preview::within(sheet, line, wrap, raw, width, row, from, to, entry))

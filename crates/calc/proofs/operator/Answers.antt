@@ -4,12 +4,12 @@ use mathlib.Core.Option.{Option}
 use lib.IntN.{ℤ}
 use borrow.Author.Tests.{eq-eqb, ne_eqb}
 use Rattle.sums.specs.Tree.{both}
-use Rattle.sums.specs.Machine.{want, waiting, operator as operatorOf}
+use Rattle.sums.specs.Machine.{want, waiting, operator as operator_of}
 use Rattle.sums.specs.declared.Op.TheVariants.{Plus, Minus}
 use Rattle.calc.proofs.operator.Goals as goal
 
 pub returns-then-c-eq42 : goal.returns-then-c-eq42
-unfolding operatorOf
+unfolding operator_of
 returns-then-c-eq42 c =
     record {
       result_value = rw (eq-eqb c.args.c 42 c.if-c-eq42.true);
@@ -17,7 +17,7 @@ returns-then-c-eq42 c =
     }
 
 pub returns-then-c-eq47 : goal.returns-then-c-eq47
-unfolding operatorOf
+unfolding operator_of
 returns-then-c-eq47 c =
     record {
       result_value = rw (ne_eqb c.args.c 42 c.if-c-eq42.false, eq-eqb c.args.c 47 c.if-c-eq47.true);
@@ -25,7 +25,7 @@ returns-then-c-eq47 c =
     }
 
 pub returns-then-c-eq43 : goal.returns-then-c-eq43
-unfolding operatorOf
+unfolding operator_of
 returns-then-c-eq43 c =
     record {
       result_value = rw (ne_eqb c.args.c 42 c.if-c-eq42.false, ne_eqb c.args.c 47 c.if-c-eq47.false, eq-eqb c.args.c 43 c.if-c-eq43.true) (ap (λ (z : Option ℤ). want (waiting (both Plus z) (λ x. x))) c.onto-all.ensures);
@@ -33,7 +33,7 @@ returns-then-c-eq43 c =
     }
 
 pub returns-then-c-eq45 : goal.returns-then-c-eq45
-unfolding operatorOf
+unfolding operator_of
 returns-then-c-eq45 c =
     record {
       result_value = rw (ne_eqb c.args.c 42 c.if-c-eq42.false, ne_eqb c.args.c 47 c.if-c-eq47.false, ne_eqb c.args.c 43 c.if-c-eq43.false, eq-eqb c.args.c 45 c.if-c-eq45.true) (ap (λ (z : Option ℤ). want (waiting (both Minus z) (λ x. x))) c.onto-all-then-c-eq45.ensures);
@@ -41,7 +41,7 @@ returns-then-c-eq45 c =
     }
 
 pub returns : goal.returns
-unfolding operatorOf
+unfolding operator_of
 returns c =
     record {
       result_value = rw (ne_eqb c.args.c 42 c.if-c-eq42.false, ne_eqb c.args.c 47 c.if-c-eq47.false, ne_eqb c.args.c 43 c.if-c-eq43.false, ne_eqb c.args.c 45 c.if-c-eq45.false);

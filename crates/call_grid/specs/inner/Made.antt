@@ -46,7 +46,7 @@ pub record GridFits (n r : ℕ) (entries rows cell first' span row end : List �
   pub first_in_fits : n ≤ length first'
   pub span_in_fits : n ≤ length span
   pub row_in : r ≤ length row
-  pub end_in_lem : r ≤ length end
+  pub end_in_fits : r ≤ length end
 
 pub record GridTold (n r : ℕ) (es : List Entry) (rs : List Row) (cell first' span row end : List ℕ) : Type 0 where
   pub cells : take n cell ≡ map cell_in (take n es)

@@ -37,11 +37,11 @@ room c = list_room c.requires c.loop-line.invariant.0 (deep c)
 line : (c : After-kept_at-line) → c.kept_at-line.result.depth ≡ (get_or (kepts_of c.args.lines.now) c.loop-line.i no_kept).depth
 line c = ap (λ (k : Kept). k.depth) c.kept_at-line.ensures
 
-abbrev keptCols : Kept → ℕ
-keptCols k = k.cols
+abbrev kept_cols : Kept → ℕ
+kept_cols k = k.cols
 
-abbrev keptRows : Kept → ℕ
-keptRows k = k.rows
+abbrev kept_rows : Kept → ℕ
+kept_rows k = k.rows
 
 pub kept_at-table-requires : goal.kept_at-table-requires
 kept_at-table-requires c = omega (arith, length_kepts c.args.lines.now, c.requires.within)
@@ -143,8 +143,8 @@ loop-line-preserved-then-e-d-3 c =
     let k = c.kept_at-line.ensures in (
       rw (
         figure_put 3 cell_by held_line _ _ _ _ _ p.ensures q.0,
-        figure_put 3 cell_by held_span _ _ _ _ _ p.ensures (q.1 ∙ ap keptCols k),
-        figure_put 3 cell_by held_rows _ _ _ _ _ p.ensures (q.2 ∙ ap keptRows k),
+        figure_put 3 cell_by held_span _ _ _ _ _ p.ensures (q.1 ∙ ap kept_cols k),
+        figure_put 3 cell_by held_rows _ _ _ _ _ p.ensures (q.2 ∙ ap kept_rows k),
         e.ensures.same,
         e.ensures.ended,
       )

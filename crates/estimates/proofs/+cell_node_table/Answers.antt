@@ -98,14 +98,14 @@ table-loop-i-preserved-then-is_filled t c =
     let within : c.loop-i.i < length (kepts_of c.args.lines.now) = inside c.requires.node_ready (omega (arith, c.loop-i-test.true, c.count-n.ensures)) in
     let ls = kepts_of c.args.lines.now in
     let deep : (line_at ls c.args.at).depth < (line_at ls c.loop-i.i).depth = deeper ls c.args.at c.loop-i.i c.kept_at-top.ensures c.kept_at-line.ensures c.if-line-top.false in
-    (c.put_estimate.auto.figures ∙ c.cell-p.auto.figures ∙ c.loop-i.invariant.0, c.cell-p.auto.leasts ∙ c.loop-i.invariant.1, c.cell-p.auto.entries ∙ c.loop-i.invariant.2, c.cell-p.auto.rows ∙ c.loop-i.invariant.3, table_again c.requires.node_ready.sheet c.requires.at_value c.loop-i.invariant.4 within deep (c.is_filled.ensures.cell c.if-is_filled.true) c.cell-p.ensures c.put_estimate.ensures)
+    (c.put_estimate.auto.figures ∙ c.cell-p.auto.figures ∙ c.loop-i.invariant.0, c.cell-p.auto.leasts ∙ c.loop-i.invariant.1, c.cell-p.auto.entries ∙ c.loop-i.invariant.2, c.cell-p.auto.rows ∙ c.loop-i.invariant.3, table_again c.requires.node_ready.sheet c.requires.at_table c.loop-i.invariant.4 within deep (c.is_filled.ensures.cell c.if-is_filled.true) c.cell-p.ensures c.put_estimate.ensures)
 
 pub table-loop-i-preserved : goal.table-loop-i-preserved
 table-loop-i-preserved t c =
     let within : c.loop-i.i < length (kepts_of c.args.lines.now) = inside c.requires.node_ready (omega (arith, c.loop-i-test.true, c.count-n.ensures)) in
     let ls = kepts_of c.args.lines.now in
     let deep : (line_at ls c.args.at).depth < (line_at ls c.loop-i.i).depth = deeper ls c.args.at c.loop-i.i c.kept_at-top.ensures c.kept_at-line.ensures c.if-line-top.false in
-    (c.put_estimate-else-is_filled.auto.figures ∙ c.loop-i.invariant.0, c.loop-i.invariant.1, c.loop-i.invariant.2, c.loop-i.invariant.3, table_unfilled c.requires.node_ready.sheet c.requires.at_value c.loop-i.invariant.4 within deep c.is_filled.ensures c.if-is_filled.false c.put_estimate-else-is_filled.ensures)
+    (c.put_estimate-else-is_filled.auto.figures ∙ c.loop-i.invariant.0, c.loop-i.invariant.1, c.loop-i.invariant.2, c.loop-i.invariant.3, table_unfilled c.requires.node_ready.sheet c.requires.at_table c.loop-i.invariant.4 within deep c.is_filled.ensures c.if-is_filled.false c.put_estimate-else-is_filled.ensures)
 
 pub table-table_figures-requires : goal.table-table_figures-requires
 table-table_figures-requires t c =
@@ -114,7 +114,7 @@ table-table_figures-requires t c =
       | table-else-loop-i-test w ↦ λ h. absurd (omega (arith, w.loop-i-test.false, c.count-n.ensures, length_kepts c.args.lines.now))
       | table-then-loop-i-test+then-line-top w ↦ λ h. no_deeper ls c.args.at c.loop-i.i c.kept_at-top.ensures w.kept_at-line.ensures w.if-line-top.true
     ] in
-    table_ready _ _ _ c.requires.node_ready c.requires.at_value c.loop-i.invariant.4 left c.loop-i.invariant.1 c.loop-i.invariant.2 c.loop-i.invariant.3
+    table_ready _ _ _ c.requires.node_ready c.requires.at_table c.loop-i.invariant.4 left c.loop-i.invariant.1 c.loop-i.invariant.2 c.loop-i.invariant.3
 
 pub table-returns : goal.table-returns
 table-returns t c =
@@ -125,4 +125,4 @@ table-returns t c =
     ] in
     let r = c.requires.node_ready in
     let a = inside r r.within in
-    table_end r.sheet c.loop-i.invariant.4 left r.lined (r.tables.sound _ a c.requires.at_value) a c.requires.at_value c.table_figures.ensures
+    table_end r.sheet c.loop-i.invariant.4 left r.lined (r.tables.sound _ a c.requires.at_table) a c.requires.at_table c.table_figures.ensures

@@ -45,20 +45,20 @@ pub cell-p-requires : goal.cell-p-requires
 cell-p-requires c =
     record {
       node_ready = again (node-ready (goal.at.cell-p-requires c).Start) c.loop-i.invariant.0 c.loop-i.invariant.1 c.loop-i.invariant.2 c.loop-i.invariant.3 (omega (arith, c.loop-i-test.true, c.count-n.ensures));
-      holder = table_cell c.requires.lent.sheet c.requires.no_kept_value c.loop-i.invariant.4 (in_sheet (goal.at.cell-p-requires c).In-loop-i) (deep (goal.at.cell-p-requires c).Else-line-top) (c.is_filled.ensures.cell c.if-is_filled.true);
+      holder = table_cell c.requires.lent.sheet c.requires.at_table c.loop-i.invariant.4 (in_sheet (goal.at.cell-p-requires c).In-loop-i) (deep (goal.at.cell-p-requires c).Else-line-top) (c.is_filled.ensures.cell c.if-is_filled.true);
     }
 
 pub put_estimate-requires : goal.put_estimate-requires
 put_estimate-requires c = omega (arith, c.loop-i-test.true, c.count-n.ensures, (node-ready (goal.at.put_estimate-requires c).Start).figures_fit, c.loop-i.invariant.0, c.cell-p.auto.figures)
 
 pub loop-i-preserved-then-is_filled : goal.loop-i-preserved-then-is_filled
-loop-i-preserved-then-is_filled c = (c.put_estimate.auto.figures ∙ c.cell-p.auto.figures ∙ c.loop-i.invariant.0, c.cell-p.auto.leasts ∙ c.loop-i.invariant.1, c.cell-p.auto.entries ∙ c.loop-i.invariant.2, c.cell-p.auto.rows ∙ c.loop-i.invariant.3, table_again c.requires.lent.sheet c.requires.no_kept_value c.loop-i.invariant.4 (in_sheet (goal.at.loop-i-preserved-then-is_filled c).In-loop-i) (deep (goal.at.loop-i-preserved-then-is_filled c).Else-line-top) (c.is_filled.ensures.cell c.if-is_filled.true) c.cell-p.ensures c.put_estimate.ensures)
+loop-i-preserved-then-is_filled c = (c.put_estimate.auto.figures ∙ c.cell-p.auto.figures ∙ c.loop-i.invariant.0, c.cell-p.auto.leasts ∙ c.loop-i.invariant.1, c.cell-p.auto.entries ∙ c.loop-i.invariant.2, c.cell-p.auto.rows ∙ c.loop-i.invariant.3, table_again c.requires.lent.sheet c.requires.at_table c.loop-i.invariant.4 (in_sheet (goal.at.loop-i-preserved-then-is_filled c).In-loop-i) (deep (goal.at.loop-i-preserved-then-is_filled c).Else-line-top) (c.is_filled.ensures.cell c.if-is_filled.true) c.cell-p.ensures c.put_estimate.ensures)
 
 pub put_estimate-requires-else-is_filled : goal.put_estimate-requires-else-is_filled
 put_estimate-requires-else-is_filled c = omega (arith, c.loop-i-test.true, c.count-n.ensures, (node-ready (goal.at.put_estimate-requires-else-is_filled c).Start).figures_fit, c.loop-i.invariant.0)
 
 pub loop-i-preserved : goal.loop-i-preserved
-loop-i-preserved c = (c.put_estimate-else-is_filled.auto.figures ∙ c.loop-i.invariant.0, c.loop-i.invariant.1, c.loop-i.invariant.2, c.loop-i.invariant.3, table_unfilled c.requires.lent.sheet c.requires.no_kept_value c.loop-i.invariant.4 (in_sheet (goal.at.loop-i-preserved c).In-loop-i) (deep (goal.at.loop-i-preserved c).Else-line-top) c.is_filled.ensures c.if-is_filled.false c.put_estimate-else-is_filled.ensures)
+loop-i-preserved c = (c.put_estimate-else-is_filled.auto.figures ∙ c.loop-i.invariant.0, c.loop-i.invariant.1, c.loop-i.invariant.2, c.loop-i.invariant.3, table_unfilled c.requires.lent.sheet c.requires.at_table c.loop-i.invariant.4 (in_sheet (goal.at.loop-i-preserved c).In-loop-i) (deep (goal.at.loop-i-preserved c).Else-line-top) c.is_filled.ensures c.if-is_filled.false c.put_estimate-else-is_filled.ensures)
 
 pub returns-after-loop-i : goal.returns-after-loop-i
 returns-after-loop-i c =

@@ -12,7 +12,7 @@ use Rattle.gridding.specs.declared.Counts.{Counts}
 use Rattle.gridding.specs.Packed.{shown, TableMade}
 use Rattle.grid_plain.specs.declared.RowEnd.{RowEnd}
 use Rattle.grid_plain.specs.declared.RowFound.{RowFound}
-use Rattle.grid_plain.specs.declared.RowFound.TheVariants as row-found
+use Rattle.grid_plain.specs.declared.RowFound.TheVariants as row_found
 use Rattle.grid_plain.specs.declared.Tried.{Tried}
 use Rattle.grid_plain.specs.declared.Tried.TheVariants as tried
 use Rattle.grid_plain.specs.Plain.{Plain, plain_entries}
@@ -45,7 +45,7 @@ pub record RowDone (ks : List Kept) (d i n : ℕ) (end : RowEnd) (es₀ es : Lis
   pub written : take (n + end.cells) es ≡ take n es₀ ++ map shown (plain_entries 0 (cells_from ks d i))
 
 pub record RowWalked (ks : List Kept) (d i n : ℕ) (found : RowFound) (es₀ es : List Entry) : Type 0 where
-  pub done : (end : RowEnd) → found ≡ row-found.Plain end → RowDone ks d i n end es₀ es
+  pub done : (end : RowEnd) → found ≡ row_found.Plain end → RowDone ks d i n end es₀ es
 
 -- of a table that is found plain the grid is made
 pub record TableWalked (table : List cells.Row) (found : Tried) (es : List Entry) (rs : List Row) : Type 0 where

@@ -16,7 +16,7 @@ loop-i-preserved c =
     let a = c.args in
     let d = a.dst.now in
     let xs = take a.n a.src.now in
-    let lx : length xs ≡ a.n = length-take-le _ _ c.requires.n_in_bounds in
+    let lx : length xs ≡ a.n = length-take-le _ _ c.requires.in_src in
     let lg : length (padded (length d) xs) ≡ length d = length_padded (length d) xs (omega arith) in
     let i = c.loop-i.i in (
       omega arith,
@@ -30,7 +30,7 @@ loop-i-2-init c =
     let a = c.args in
     let d = a.dst.now in
     let xs = take a.n a.src.now in
-    let lx : length xs ≡ a.n = length-take-le _ _ c.requires.n_in_bounds in
+    let lx : length xs ≡ a.n = length-take-le _ _ c.requires.in_src in
     let lg : length (padded (length d) xs) ≡ length d = length_padded (length d) xs (omega arith) in
     let b = c.loop-i.dst in
     let i = c.loop-i.i in
@@ -47,7 +47,7 @@ loop-i-2-preserved c =
     let d = c.loop-i.dst in
     let xs = take a.n a.src.now in
     let same : length d ≡ length a.dst.now = c.loop-i.invariant.1 in
-    let lx : length xs ≡ a.n = length-take-le _ _ c.requires.n_in_bounds in
+    let lx : length xs ≡ a.n = length-take-le _ _ c.requires.in_src in
     let lg : length (padded (length d) xs) ≡ length d = length_padded (length d) xs (omega arith) in
     let i = c.loop-i-2.i in (
       omega arith,
@@ -62,7 +62,7 @@ returns c =
     let d = c.loop-i.dst in
     let xs = take a.n a.src.now in
     let same : length d ≡ length a.dst.now = c.loop-i.invariant.1 in
-    let lx : length xs ≡ a.n = length-take-le _ _ c.requires.n_in_bounds in
+    let lx : length xs ≡ a.n = length-take-le _ _ c.requires.in_src in
     let lg : length (padded (length d) xs) ≡ length d = length_padded (length d) xs (omega arith) in
     let i = c.loop-i-2.i in
     write_all _ d lg _ i (omega arith) c.loop-i-2.invariant.3 ∙ ap (λ (m : ℕ). padded m xs) same

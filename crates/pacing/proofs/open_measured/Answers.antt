@@ -10,7 +10,7 @@ pub measure_sheet-requires : goal.measure_sheet-requires
 measure_sheet-requires c =
     let p = c.requires in record {
       bytes_bound = p.sheet_bound;
-      bytes_in_bounds = p.sheet_in_bounds;
+      bytes_in_bounds = p.figures_in_bounds;
       scratch_for_any = record { leasts_room = p.max_position_in_bounds; entries_room = omega arith; rows_room = omega arith };
     }
 
@@ -18,4 +18,4 @@ pub returns : goal.returns
 returns c =
     let m = c.measure_sheet in
     sheet_opened c.measure_sheet.ensures (omega (arith, c.requires.sheet_bound, c.measure_sheet.auto.lines))
-    (figures_room _ c.measure_sheet.new.figures (omega (arith, c.requires.sheet_in_bounds, length_of 3 figure_by c.args.figures.now, c.measure_sheet.auto.figures)))
+    (figures_room _ c.measure_sheet.new.figures (omega (arith, c.requires.figures_in_bounds, length_of 3 figure_by c.args.figures.now, c.measure_sheet.auto.figures)))

@@ -9,7 +9,7 @@ pub joining-joint-requires : goal.joining-joint-requires
 joining-joint-requires c =
     let f = c.requires _ _ _ c.in-Row.is in record {
       in_slices = f.here;
-      in_slices_2 = f.below;
+      next_in_slices = f.below;
     }
 
 pub returns-in-Refused : goal.returns-in-Refused

@@ -9,8 +9,8 @@ pub walk_sheet-read-requires : goal.walk_sheet-read-requires
 walk_sheet-read-requires c =
     record {
       sheet_bound = omega arith;
-      sheet_in_bounds = figures_room _ _ (omega arith);
-      sheet_in_bounds_2 = places_room _ _ (omega arith);
+      figures_in_bounds = figures_room _ _ (omega arith);
+      places_in_bounds = places_room _ _ (omega arith);
       max_position_in_bounds = omega arith;
       raw_bound = c.requires.raw_bound;
     }

@@ -77,17 +77,17 @@ room-here c =
     let n : c.loop-n.n < length (C-at-In-loop-n c) + length (H-at-In-loop-n c) = omega (arith, c.loop-n-test.true, count-cells-at-In-loop-n c, count-hanging-at-In-loop-n c) in
     (omega (arith, r.lines, length_figures 3 entry_by entry_cell c.args.entries.now, z.1), omega (arith, r.lefts, z.0.few, length_figures 3 overhang_by hung_left c.args.next.now, z.2))
 
-abbrev dueHere-at-Then-due : (c : Then-due) → Bool
-dueHere-at-Then-due c = due_at (drop c.loop-n.h c.args.at.now) c.loop-n.pos (eqb c.loop-n.i (length (lines_of c.args.cells.now)))
+abbrev due_here-at-Then-due : (c : Then-due) → Bool
+due_here-at-Then-due c = due_at (drop c.loop-n.h c.args.at.now) c.loop-n.pos (eqb c.loop-n.i (length (lines_of c.args.cells.now)))
 
 many-lines-at-Then-due : (c : Then-due) → length (lines_of c.args.cells.now) ≡ length c.args.cells.now / 3
 many-lines-at-Then-due c = length_figures 3 cell_by held_line c.args.cells.now
 
-due-is-at-Then-due : (c : Then-due) → c.due.result ≡ dueHere-at-Then-due c
+due-is-at-Then-due : (c : Then-due) → c.due.result ≡ due_here-at-Then-due c
 due-is-at-Then-due c = c.due.ensures ∙ ap (λ (m : ℕ). due_at (drop c.loop-n.h c.args.at.now) c.loop-n.pos (eqb c.loop-n.i m)) (sym (many-lines-at-Then-due c))
 
 -- a hanging one is due: it is there, and the row goes on with it
-due-now : (c : Then-due) → dueHere-at-Then-due c ≡ true
+due-now : (c : Then-due) → due_here-at-Then-due c ≡ true
 due-now c = sym (due-is-at-Then-due c) ∙ c.if-due.true
 
 same-many-at-Then-due : (c : Then-due) → length c.args.at.now ≡ length c.args.left.now
@@ -125,17 +125,17 @@ cells-many-at-After-overhang_in-o c = cells_length (lines_of c.args.cells.now) (
 in_lines-at-After-overhang_in-o : (c : After-overhang_in-o) → c.loop-n.i ≤ length (lines_of c.args.cells.now)
 in_lines-at-After-overhang_in-o c = omega (arith, c.loop-n.invariant.0.in_cells, cells-many-at-After-overhang_in-o c)
 
-abbrev dueHere-at-After-overhang_in-o : (c : After-overhang_in-o) → Bool
-dueHere-at-After-overhang_in-o c = due_at (drop c.loop-n.h c.args.at.now) c.loop-n.pos (eqb c.loop-n.i (length (lines_of c.args.cells.now)))
+abbrev due_here-at-After-overhang_in-o : (c : After-overhang_in-o) → Bool
+due_here-at-After-overhang_in-o c = due_at (drop c.loop-n.h c.args.at.now) c.loop-n.pos (eqb c.loop-n.i (length (lines_of c.args.cells.now)))
 
 many-lines-at-After-overhang_in-o : (c : After-overhang_in-o) → length (lines_of c.args.cells.now) ≡ length c.args.cells.now / 3
 many-lines-at-After-overhang_in-o c = length_figures 3 cell_by held_line c.args.cells.now
 
-due-is-at-After-overhang_in-o : (c : After-overhang_in-o) → c.due.result ≡ dueHere-at-After-overhang_in-o c
+due-is-at-After-overhang_in-o : (c : After-overhang_in-o) → c.due.result ≡ due_here-at-After-overhang_in-o c
 due-is-at-After-overhang_in-o c = c.due.ensures ∙ ap (λ (m : ℕ). due_at (drop c.loop-n.h c.args.at.now) c.loop-n.pos (eqb c.loop-n.i m)) (sym (many-lines-at-After-overhang_in-o c))
 
 -- a hanging one is due: it is there, and the row goes on with it
-due-now-at-After-overhang_in-o : (c : After-overhang_in-o) → dueHere-at-After-overhang_in-o c ≡ true
+due-now-at-After-overhang_in-o : (c : After-overhang_in-o) → due_here-at-After-overhang_in-o c ≡ true
 due-now-at-After-overhang_in-o c = sym (due-is-at-After-overhang_in-o c) ∙ c.if-due.true
 
 hang-is : (c : After-overhang_in-o) → row_from c.loop-n.pos (drop c.loop-n.h (H-at-After-overhang_in-o c)) (drop c.loop-n.i (C-at-After-overhang_in-o c))
@@ -159,17 +159,17 @@ hang-fits : (c : After-overhang_in-o) → c.loop-n.pos + (hang c).span ≤ max_p
 unfolding row_of
 hang-fits c = within (H-at-After-overhang_in-o c) (C-at-After-overhang_in-o c) _ _ _ _ _ (roomy-at-After-overhang_in-o c) c.loop-n.invariant.0 (hang c) _ (hang-is c) c.requires.wide_bound
 
-abbrev dueHere-at-Else-due : (c : Else-due) → Bool
-dueHere-at-Else-due c = due_at (drop c.loop-n.h c.args.at.now) c.loop-n.pos (eqb c.loop-n.i (length (lines_of c.args.cells.now)))
+abbrev due_here-at-Else-due : (c : Else-due) → Bool
+due_here-at-Else-due c = due_at (drop c.loop-n.h c.args.at.now) c.loop-n.pos (eqb c.loop-n.i (length (lines_of c.args.cells.now)))
 
 many-lines-at-Else-due : (c : Else-due) → length (lines_of c.args.cells.now) ≡ length c.args.cells.now / 3
 many-lines-at-Else-due c = length_figures 3 cell_by held_line c.args.cells.now
 
-due-is-at-Else-due : (c : Else-due) → c.due.result ≡ dueHere-at-Else-due c
+due-is-at-Else-due : (c : Else-due) → c.due.result ≡ due_here-at-Else-due c
 due-is-at-Else-due c = c.due.ensures ∙ ap (λ (m : ℕ). due_at (drop c.loop-n.h c.args.at.now) c.loop-n.pos (eqb c.loop-n.i m)) (sym (many-lines-at-Else-due c))
 
 -- none is due: a cell is there, and the row goes on with it
-not-now : (c : Else-due) → dueHere-at-Else-due c ≡ false
+not-now : (c : Else-due) → due_here-at-Else-due c ≡ false
 not-now c = sym (due-is-at-Else-due c) ∙ c.if-due.false
 
 same-many-at-Else-due : (c : Else-due) → length c.args.at.now ≡ length c.args.left.now
@@ -216,14 +216,14 @@ many-lines-at-After-cell_at-c c = length_figures 3 cell_by held_line c.args.cell
 more-at-After-cell_at-c : (c : After-cell_at-c) → c.loop-n.i + c.loop-n.h < length (lines_of c.args.cells.now) + length c.args.left.now
 more-at-After-cell_at-c c = omega (arith, c.loop-n.invariant.0.both, c.loop-n-test.true, many-lines-at-After-cell_at-c c)
 
-abbrev dueHere-at-After-cell_at-c : (c : After-cell_at-c) → Bool
-dueHere-at-After-cell_at-c c = due_at (drop c.loop-n.h c.args.at.now) c.loop-n.pos (eqb c.loop-n.i (length (lines_of c.args.cells.now)))
+abbrev due_here-at-After-cell_at-c : (c : After-cell_at-c) → Bool
+due_here-at-After-cell_at-c c = due_at (drop c.loop-n.h c.args.at.now) c.loop-n.pos (eqb c.loop-n.i (length (lines_of c.args.cells.now)))
 
-due-is-at-After-cell_at-c : (c : After-cell_at-c) → c.due.result ≡ dueHere-at-After-cell_at-c c
+due-is-at-After-cell_at-c : (c : After-cell_at-c) → c.due.result ≡ due_here-at-After-cell_at-c c
 due-is-at-After-cell_at-c c = c.due.ensures ∙ ap (λ (m : ℕ). due_at (drop c.loop-n.h c.args.at.now) c.loop-n.pos (eqb c.loop-n.i m)) (sym (many-lines-at-After-cell_at-c c))
 
 -- none is due: a cell is there, and the row goes on with it
-not-now-at-After-cell_at-c : (c : After-cell_at-c) → dueHere-at-After-cell_at-c c ≡ false
+not-now-at-After-cell_at-c : (c : After-cell_at-c) → due_here-at-After-cell_at-c c ≡ false
 not-now-at-After-cell_at-c c = sym (due-is-at-After-cell_at-c c) ∙ c.if-due.false
 
 cell_in_fits-at-After-cell_at-c : (c : After-cell_at-c) → c.loop-n.i < length c.args.cells.now / 3

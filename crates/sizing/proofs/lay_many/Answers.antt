@@ -7,6 +7,6 @@ lay_front-requires c =
     let few = c.requires.column_len_bound in record {
       entered = c.requires.entered;
       column_len_bound = omega (arith, few);
-      column_in_bounds = omega (arith, few);
-      column_in_bounds_2 = omega (arith, few);
+      sizes_in_bounds = omega (arith, few);
+      leasts_in_bounds = omega (arith, few);
     }

@@ -11,7 +11,7 @@ measure_below-requires c =
     let t = c.requires.in_scope.table _ c.in-Table.is in record {
       lent = c.requires.lent;
       at_in_bounds = omega (arith, t.from_one, t.within);
-      no_kept_value = t.kind;
+      at_table = t.kind;
     }
 
 pub returns-in-Sheet : goal.returns-in-Sheet
