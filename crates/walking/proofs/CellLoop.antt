@@ -84,29 +84,29 @@ module _ {n : ℕ} {es : List Entry} {wide : List ℕ} {ps₀ : List Place} (f :
 
 -- ---- what stands at a place
 
-pub length_by : (cs vs : List ℕ) (ps : List Place) → length (printed_by cs vs ps) ≡ length ps
+pub length_by : (lines wides : List ℕ) (ps : List Place) → length (printed_by lines wides ps) ≡ length ps
 unfolding printed_by
-length_by [] vs ps = refl
-length_by (c ∷ cs) [] ps = refl
-length_by (c ∷ cs) (v ∷ vs) ps = go (eqb c 0) (length_by cs vs ps)
+length_by [] wides ps = refl
+length_by (c ∷ lines) [] ps = refl
+length_by (c ∷ lines) (v ∷ wides) ps = go (eqb c 0) (length_by lines wides ps)
   where
-    go : (b : Bool) → length (printed_by cs vs ps) ≡ length ps → length (cond b (printed_by cs vs ps) (set (printed_by cs vs ps) (c - 1) (width_place (printed v)))) ≡ length ps
+    go : (b : Bool) → length (printed_by lines wides ps) ≡ length ps → length (cond b (printed_by lines wides ps) (set (printed_by lines wides ps) (c - 1) (width_place (printed v)))) ≡ length ps
     go true r = r
-    go false r = length-set (printed_by cs vs ps) (c - 1) (width_place (printed v)) ∙ r
+    go false r = length-set (printed_by lines wides ps) (c - 1) (width_place (printed v)) ∙ r
 
 -- no entry shows its line
-pub place_other : (cs vs : List ℕ) (ps : List Place) (p : ℕ) → mem (suc p) cs ≡ false → get_or (printed_by cs vs ps) p no_place ≡ get_or ps p no_place
+pub place_other : (lines wides : List ℕ) (ps : List Place) (p : ℕ) → mem (suc p) lines ≡ false → get_or (printed_by lines wides ps) p no_place ≡ get_or ps p no_place
 unfolding printed_by mem
-place_other [] vs ps p m = refl
-place_other (c ∷ cs) [] ps p m = refl
-place_other (c ∷ cs) (v ∷ vs) ps p m = go (eqb c 0) refl (eqb (suc p) c) refl m (λ r. place_other cs vs ps p r)
+place_other [] wides ps p m = refl
+place_other (c ∷ lines) [] ps p m = refl
+place_other (c ∷ lines) (v ∷ wides) ps p m = go (eqb c 0) refl (eqb (suc p) c) refl m (λ r. place_other lines wides ps p r)
   where
-    go : (b : Bool) → eqb c 0 ≡ b → (a : Bool) → eqb (suc p) c ≡ a → (a || mem (suc p) cs) ≡ false
-        → (mem (suc p) cs ≡ false → get_or (printed_by cs vs ps) p no_place ≡ get_or ps p no_place)
-        → get_or (cond b (printed_by cs vs ps) (set (printed_by cs vs ps) (c - 1) (width_place (printed v)))) p no_place ≡ get_or ps p no_place
+    go : (b : Bool) → eqb c 0 ≡ b → (a : Bool) → eqb (suc p) c ≡ a → (a || mem (suc p) lines) ≡ false
+        → (mem (suc p) lines ≡ false → get_or (printed_by lines wides ps) p no_place ≡ get_or ps p no_place)
+        → get_or (cond b (printed_by lines wides ps) (set (printed_by lines wides ps) (c - 1) (width_place (printed v)))) p no_place ≡ get_or ps p no_place
     go b e true f n ih = absurd (true≢false n)
     go true e false f n ih = ih n
-    go false e false f n ih = get_or-set_other (printed_by cs vs ps) (c - 1) p (width_place (printed v)) no_place (λ q. differ q) ∙ ih n
+    go false e false f n ih = get_or-set_other (printed_by lines wides ps) (c - 1) p (width_place (printed v)) no_place (λ q. differ q) ∙ ih n
       where
         differ : p ≡ c - 1 → ⊥
         differ q = absurd (zero_case (ℕ_discrete c 0))
@@ -116,28 +116,28 @@ place_other (c ∷ cs) (v ∷ vs) ps p m = go (eqb c 0) refl (eqb (suc p) c) ref
             zero_case (no z) = true≢false (sym (eq-eqb (suc p) c (omega arith)) ∙ f)
 
 -- the first entry that shows its line
-pub place_cell : (cs vs : List ℕ) (ps : List Place) (p : ℕ) → length vs ≡ length cs → mem (suc p) cs ≡ true → p < length ps
-    → get_or (printed_by cs vs ps) p no_place ≡ width_place (printed_in cs vs (suc p))
+pub place_cell : (lines wides : List ℕ) (ps : List Place) (p : ℕ) → length wides ≡ length lines → mem (suc p) lines ≡ true → p < length ps
+    → get_or (printed_by lines wides ps) p no_place ≡ width_place (printed_in lines wides (suc p))
 unfolding printed_by printed_in mem
-place_cell [] vs ps p l m h = absurd (true≢false (sym m))
-place_cell (c ∷ cs) [] ps p l m h = absurd (omega arith)
-place_cell (c ∷ cs) (v ∷ vs) ps p l m h = go (ℕ_discrete c (suc p)) (λ r. place_cell cs vs ps p (omega arith) r h)
+place_cell [] wides ps p l m h = absurd (true≢false (sym m))
+place_cell (c ∷ lines) [] ps p l m h = absurd (omega arith)
+place_cell (c ∷ lines) (v ∷ wides) ps p l m h = go (ℕ_discrete c (suc p)) (λ r. place_cell lines wides ps p (omega arith) r h)
   where
-    go : Dec (c ≡ suc p) → (mem (suc p) cs ≡ true → get_or (printed_by cs vs ps) p no_place ≡ width_place (printed_in cs vs (suc p)))
-        → get_or (cond (eqb c 0) (printed_by cs vs ps) (set (printed_by cs vs ps) (c - 1) (width_place (printed v)))) p no_place
-        ≡ width_place (cond (eqb c (suc p)) (printed v) (printed_in cs vs (suc p)))
+    go : Dec (c ≡ suc p) → (mem (suc p) lines ≡ true → get_or (printed_by lines wides ps) p no_place ≡ width_place (printed_in lines wides (suc p)))
+        → get_or (cond (eqb c 0) (printed_by lines wides ps) (set (printed_by lines wides ps) (c - 1) (width_place (printed v)))) p no_place
+        ≡ width_place (cond (eqb c (suc p)) (printed v) (printed_in lines wides (suc p)))
     go (yes e) ih =
         let o : c - 1 ≡ p = omega arith in
         rw (ne_eqb c 0 (λ z. omega arith), eq-eqb c (suc p) e, o)
-        (get_or-set_same (printed_by cs vs ps) p (width_place (printed v)) no_place (omega (arith, length_by cs vs ps)))
+        (get_or-set_same (printed_by lines wides ps) p (width_place (printed v)) no_place (omega (arith, length_by lines wides ps)))
     go (no e) ih = rw (ne_eqb c (suc p) e) (rest (ℕ_discrete c 0))
       where
-        later : mem (suc p) cs ≡ true
+        later : mem (suc p) lines ≡ true
         later = rw (ne_eqb (suc p) c (λ z. e (sym z))) at m
 
-        rest : Dec (c ≡ 0) → get_or (cond (eqb c 0) (printed_by cs vs ps) (set (printed_by cs vs ps) (c - 1) (width_place (printed v)))) p no_place
-            ≡ width_place (printed_in cs vs (suc p))
+        rest : Dec (c ≡ 0) → get_or (cond (eqb c 0) (printed_by lines wides ps) (set (printed_by lines wides ps) (c - 1) (width_place (printed v)))) p no_place
+            ≡ width_place (printed_in lines wides (suc p))
         rest (yes z) = rw (eq-eqb c 0 z) (ih later)
         rest (no z) =
             rw (ne_eqb c 0 z)
-            (get_or-set_other (printed_by cs vs ps) (c - 1) p (width_place (printed v)) no_place (λ q. e (omega arith)) ∙ ih later)
+            (get_or-set_other (printed_by lines wides ps) (c - 1) p (width_place (printed v)) no_place (λ q. e (omega arith)) ∙ ih later)
