@@ -1,7 +1,7 @@
 #!/usr/bin/env python3
 """Spells the repository's own definitions, lemmas and fields of records in snake case, as `cellEnds` to `cell_ends` and `row-end` to `row_end`.
 
-usage: respell.py [FOLDER]      once, in a checkout that /opt/rattle/port/port.py has turned; FOLDER is the top of the checkout
+usage: respell.py [FOLDER]      once, in a checkout that the kit's port/port.py has turned; FOLDER is the top of the checkout
 
 The names are those that specs/ and proofs/ declare. A name that a file imports from a library of the kit stays in that file, and so do functions of
 src/, types, strings and exported names. Where a lemma or a field would fall together with a definition that stands in one file with it, the lemma
