@@ -2,8 +2,8 @@
 use Rattle.std.specs.Prelude.{ℕ}
 use Rattle.answers.specs.declared.Way.{Way}
 use Rattle.answers.specs.declared.Way.TheVariants.{Sideways, Down}
-use Rattle.answers.specs.declared.Pointed.{Pointed}
-use Rattle.answers.specs.declared.Pointed.TheVariants.{Cell, Gap, Nothing, Refused}
+use Rattle.answers.specs.declared.Under.{Under}
+use Rattle.answers.specs.declared.Under.TheVariants.{Cell, Gap, Nothing}
 use Rattle.answers.specs.declared.Joint.{Joint}
 use Rattle.answers.specs.declared.Joint.TheVariants as joint
 
@@ -13,11 +13,10 @@ way_number Sideways = 0
 way_number Down = 1
 
 -- `at`: 0 nothing, 1 gap, 2 cell
-unfoldable pub what_number : Pointed → ℕ
-what_number (Cell entry) = 2
-what_number Gap = 1
-what_number Nothing = 0
-what_number (Refused number line) = 0
+unfoldable pub under_number : {T : Type 0} → Under T → ℕ
+under_number (Cell entry) = 2
+under_number Gap = 1
+under_number Nothing = 0
 
 -- `joining`: 0 plain, 1 up, 2 down, 3 both
 unfoldable pub joint_number : Joint → ℕ

@@ -1,14 +1,15 @@
 -- What the arguments of a call are refused for, before its sheet is looked at: 9, then 11. These are definitions; nothing is assumed.
 use Rattle.std.specs.Prelude.{Bool, false, ◌||◌, List, [], ◌∷◌, ℕ, ltb}
 use Rattle.lists.specs.Limits.{max_wrap, max_width, max_lines, max_entries}
+use Rattle.lists.specs.declared.Reason.TheVariants.{Setting, ShortBuffer}
 use Rattle.lists.specs.Refusals.{Check, check}
 
 -- 9: a setting out of range
 abbrev pub wrap_check : ℕ → Check
-wrap_check wrap = check (ltb max_wrap wrap) 9 0
+wrap_check wrap = check (ltb max_wrap wrap) Setting 0
 
 abbrev pub settings_check : ℕ → ℕ → ℕ → Check
-settings_check wrap raw width = check (ltb max_wrap wrap || ltb 1 raw || ltb max_width width) 9 0
+settings_check wrap raw width = check (ltb max_wrap wrap || ltb 1 raw || ltb max_width width) Setting 0
 
 -- 11: one of the buffers, whose lengths follow, is shorter than it must be
 unfoldable pub any_shorter : ℕ → List ℕ → Bool
@@ -17,33 +18,33 @@ any_shorter n (l ∷ ls) = ltb l n || any_shorter n ls
 
 -- of each call; the lists are the lengths of the lent buffers
 abbrev pub estimates_arguments : ℕ → List ℕ → List Check
-estimates_arguments wrap lines = wrap_check wrap ∷ check (any_shorter max_lines lines) 11 0 ∷ []
+estimates_arguments wrap lines = wrap_check wrap ∷ check (any_shorter max_lines lines) ShortBuffer 0 ∷ []
 
 abbrev pub grid_arguments : List ℕ → List ℕ → List Check
-grid_arguments entries rows = check (any_shorter max_entries entries || any_shorter max_lines rows) 11 0 ∷ []
+grid_arguments entries rows = check (any_shorter max_entries entries || any_shorter max_lines rows) ShortBuffer 0 ∷ []
 
 abbrev pub layout_arguments : ℕ → ℕ → ℕ → List ℕ → List ℕ → List Check
 layout_arguments wrap raw width columns entries =
-    settings_check wrap raw width ∷ check (any_shorter max_lines columns || any_shorter max_entries entries) 11 0 ∷ []
+    settings_check wrap raw width ∷ check (any_shorter max_lines columns || any_shorter max_entries entries) ShortBuffer 0 ∷ []
 
 abbrev pub missing_arguments : ℕ → ℕ → ℕ → List ℕ → List ℕ → List Check
 missing_arguments wrap raw width entries columns =
-    settings_check wrap raw width ∷ check (any_shorter max_entries entries || any_shorter max_lines columns) 11 0 ∷ []
+    settings_check wrap raw width ∷ check (any_shorter max_entries entries || any_shorter max_lines columns) ShortBuffer 0 ∷ []
 
 -- of the calls that point into a row; only `within` has a buffer
 abbrev pub pointing_arguments : ℕ → ℕ → ℕ → List Check
 pointing_arguments wrap raw width = settings_check wrap raw width ∷ []
 
 abbrev pub within_arguments : ℕ → ℕ → ℕ → List ℕ → List Check
-within_arguments wrap raw width entries = settings_check wrap raw width ∷ check (any_shorter max_entries entries) 11 0 ∷ []
+within_arguments wrap raw width entries = settings_check wrap raw width ∷ check (any_shorter max_entries entries) ShortBuffer 0 ∷ []
 
 -- a walk has one setting more: whether widths may overflow
 abbrev pub walk_settings : ℕ → ℕ → ℕ → ℕ → Check
-walk_settings wrap raw width overflow = check (ltb max_wrap wrap || ltb 1 raw || ltb max_width width || ltb 1 overflow) 9 0
+walk_settings wrap raw width overflow = check (ltb max_wrap wrap || ltb 1 raw || ltb max_width width || ltb 1 overflow) Setting 0
 
 abbrev pub walk_arguments : ℕ → ℕ → ℕ → ℕ → List ℕ → List Check
-walk_arguments wrap raw width overflow lines = walk_settings wrap raw width overflow ∷ check (any_shorter max_lines lines) 11 0 ∷ []
+walk_arguments wrap raw width overflow lines = walk_settings wrap raw width overflow ∷ check (any_shorter max_lines lines) ShortBuffer 0 ∷ []
 
 abbrev pub nested_arguments : ℕ → ℕ → ℕ → ℕ → List ℕ → List ℕ → List Check
 nested_arguments wrap raw width overflow columns entries =
-    walk_settings wrap raw width overflow ∷ check (any_shorter max_lines columns || any_shorter max_entries entries) 11 0 ∷ []
+    walk_settings wrap raw width overflow ∷ check (any_shorter max_lines columns || any_shorter max_entries entries) ShortBuffer 0 ∷ []

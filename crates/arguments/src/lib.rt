@@ -1,15 +1,17 @@
 // What a call's settings and the lengths of its buffers are refused for: 9 and 11.
-#![tactic(auto)]
+#![tactic(auto, unfolding(lists::specs::Refusals::verdict_of, lists::specs::Refusals::first_answer, crate::specs::Arguments::any_shorter))]
 
 ghost use Rattle.std.specs.Prelude.{◌≡◌, [], ◌∷◌, ◌||◌, ltb};
 ghost use Rattle.lists.specs.Limits.{max_wrap, max_width};
 ghost use Rattle.arguments.specs.Arguments.{any_shorter, estimates_arguments, grid_arguments, layout_arguments, missing_arguments, pointing_arguments, within_arguments, walk_arguments, nested_arguments};
-ghost use Rattle.lists.specs.Refusals.{verdict_of};
+ghost use Rattle.lists.specs.Refusals.{check, verdict_of};
+ghost use Rattle.lists.specs.declared.Reason.TheVariants.{Setting, ShortBuffer};
+ghost use Rattle.lists.specs.declared.Reason.{Reason};
 
-use lists::Verdict;
+use lists::{MAX_ENTRIES, MAX_LINES, MAX_WIDTH, MAX_WRAP, Reason, Refusal};
 
 // The settings of a call. Those that a call does not have are 0.
-#[derive(Clone, Copy)]
+#[derive(Clone, Copy, Debug, PartialEq, Eq)]
 pub struct Settings {
     pub wrap: u32,
     pub raw: u32,
@@ -17,198 +19,97 @@ pub struct Settings {
     pub overflow: u32,
 }
 
-// Whether one of three is below n.
-fn any_below(a: usize, b: usize, c: usize, n: usize) -> bool
-    ensures { result ≡ any_shorter n (a ∷ b ∷ c ∷ []) }
+// A refusal of no line, if the test holds.
+fn refuse_if(test: bool, reason: Reason) -> Result<(), Refusal>
+    ensures { result ≡ verdict_of (check test reason 0 ∷ []) }
 {
-    if a < n {
-        return true;
-    }
-    if b < n {
-        return true;
-    }
-    c < n
+    if test { Err(reason.at(0)) } else { Ok(()) }
 }
 
-// Whether wrap is out of its range.
-fn wrap_out(wrap: u32) -> bool
-    ensures { result ≡ ltb max_wrap wrap }
-{
-    wrap > lists::MAX_WRAP
+impl Settings {
+    // Whether a setting of a layout is out of its range.
+    fn out_of_range(self) -> bool
+        ensures { result ≡ (ltb max_wrap self.wrap || ltb 1 self.raw || ltb max_width self.width) }
+    {
+        self.wrap > MAX_WRAP || self.raw > 1 || self.width > MAX_WIDTH
+    }
+
+    // Whether a setting of a walk is out of its range.
+    fn walk_out_of_range(self) -> bool
+        ensures { result ≡ (ltb max_wrap self.wrap || ltb 1 self.raw || ltb max_width self.width || ltb 1 self.overflow) }
+    {
+        self.out_of_range() || self.overflow > 1
+    }
 }
 
-pub fn of_estimates(wrap: u32, size: usize, least: usize, prefix: usize) -> Verdict
+pub fn of_estimates(wrap: u32, size: usize, least: usize, prefix: usize) -> Result<(), Refusal>
     ensures { result ≡ verdict_of (estimates_arguments wrap (size ∷ least ∷ prefix ∷ [])) }
 {
-    if wrap_out(wrap) {
-        return Verdict::Refused { number: 9, line: 0 };
-    }
-    if any_below(size, least, prefix, lists::MAX_LINES) {
-        return Verdict::Refused {
-            number: 11,
-            line: 0,
-        };
-    }
-    Verdict::Accepted
+    refuse_if(wrap > MAX_WRAP, Reason::Setting)?;
+    let short = size < MAX_LINES || least < MAX_LINES || prefix < MAX_LINES;
+    refuse_if(short, Reason::ShortBuffer)
 }
 
-// Whether one of two is below n.
-fn either_below(a: usize, b: usize, n: usize) -> bool
-    ensures { result ≡ any_shorter n (a ∷ b ∷ []) }
-{
-    if a < n {
-        return true;
-    }
-    b < n
-}
-
-pub fn of_grid(cell: usize, first: usize, span: usize, row: usize, row_end: usize) -> Verdict
+pub fn of_grid(
+    cell: usize,
+    first: usize,
+    span: usize,
+    row: usize,
+    row_end: usize,
+) -> Result<(), Refusal>
     ensures { result ≡ verdict_of (grid_arguments (cell ∷ first ∷ span ∷ []) (row ∷ row_end ∷ [])) }
 {
-    if any_below(cell, first, span, lists::MAX_ENTRIES) {
-        return Verdict::Refused {
-            number: 11,
-            line: 0,
-        };
-    }
-    if either_below(row, row_end, lists::MAX_LINES) {
-        return Verdict::Refused {
-            number: 11,
-            line: 0,
-        };
-    }
-    Verdict::Accepted
+    let entries_short = cell < MAX_ENTRIES || first < MAX_ENTRIES || span < MAX_ENTRIES;
+    let rows_short = row < MAX_LINES || row_end < MAX_LINES;
+    refuse_if(entries_short || rows_short, Reason::ShortBuffer)
 }
 
-// Whether a setting is out of its range.
-fn settings_out(wrap: u32, raw: u32, width: u32) -> bool
-    ensures { result ≡ (ltb max_wrap wrap || ltb 1 raw || ltb max_width width) }
+pub fn of_layout(settings: Settings, column: usize, x: usize, wide: usize) -> Result<(), Refusal>
+    ensures { result ≡ verdict_of (layout_arguments settings.wrap settings.raw settings.width (column ∷ []) (x ∷ wide ∷ [])) }
 {
-    if wrap_out(wrap) {
-        return true;
-    }
-    if raw > 1 {
-        return true;
-    }
-    width > lists::MAX_WIDTH
+    refuse_if(settings.out_of_range(), Reason::Setting)?;
+    let short = column < MAX_LINES || x < MAX_ENTRIES || wide < MAX_ENTRIES;
+    refuse_if(short, Reason::ShortBuffer)
 }
 
-pub fn of_layout(wrap: u32, raw: u32, width: u32, column: usize, x: usize, wide: usize) -> Verdict
-    ensures { result ≡ verdict_of (layout_arguments wrap raw width (column ∷ []) (x ∷ wide ∷ [])) }
+pub fn of_missing(settings: Settings, entry: usize, cause: usize) -> Result<(), Refusal>
+    ensures { result ≡ verdict_of (missing_arguments settings.wrap settings.raw settings.width (entry ∷ []) (cause ∷ [])) }
 {
-    if settings_out(wrap, raw, width) {
-        return Verdict::Refused { number: 9, line: 0 };
-    }
-    if column < lists::MAX_LINES {
-        return Verdict::Refused {
-            number: 11,
-            line: 0,
-        };
-    }
-    if either_below(x, wide, lists::MAX_ENTRIES) {
-        return Verdict::Refused {
-            number: 11,
-            line: 0,
-        };
-    }
-    Verdict::Accepted
+    refuse_if(settings.out_of_range(), Reason::Setting)?;
+    let short = entry < MAX_ENTRIES || cause < MAX_LINES;
+    refuse_if(short, Reason::ShortBuffer)
 }
 
-pub fn of_missing(wrap: u32, raw: u32, width: u32, entry: usize, cause: usize) -> Verdict
-    ensures { result ≡ verdict_of (missing_arguments wrap raw width (entry ∷ []) (cause ∷ [])) }
+pub fn of_pointing(settings: Settings) -> Result<(), Refusal>
+    ensures { result ≡ verdict_of (pointing_arguments settings.wrap settings.raw settings.width) }
 {
-    if settings_out(wrap, raw, width) {
-        return Verdict::Refused { number: 9, line: 0 };
-    }
-    if entry < lists::MAX_ENTRIES {
-        return Verdict::Refused {
-            number: 11,
-            line: 0,
-        };
-    }
-    if cause < lists::MAX_LINES {
-        return Verdict::Refused {
-            number: 11,
-            line: 0,
-        };
-    }
-    Verdict::Accepted
+    refuse_if(settings.out_of_range(), Reason::Setting)
 }
 
-pub fn of_pointing(wrap: u32, raw: u32, width: u32) -> Verdict
-    ensures { result ≡ verdict_of (pointing_arguments wrap raw width) }
+pub fn of_within(settings: Settings, listed: usize) -> Result<(), Refusal>
+    ensures { result ≡ verdict_of (within_arguments settings.wrap settings.raw settings.width (listed ∷ [])) }
 {
-    if settings_out(wrap, raw, width) {
-        return Verdict::Refused { number: 9, line: 0 };
-    }
-    Verdict::Accepted
+    refuse_if(settings.out_of_range(), Reason::Setting)?;
+    refuse_if(listed < MAX_ENTRIES, Reason::ShortBuffer)
 }
 
-pub fn of_within(wrap: u32, raw: u32, width: u32, listed: usize) -> Verdict
-    ensures { result ≡ verdict_of (within_arguments wrap raw width (listed ∷ [])) }
+pub fn of_walk(settings: Settings, given: usize, wide: usize) -> Result<(), Refusal>
+    ensures { result ≡ verdict_of (walk_arguments settings.wrap settings.raw settings.width settings.overflow (given ∷ wide ∷ [])) }
 {
-    if settings_out(wrap, raw, width) {
-        return Verdict::Refused { number: 9, line: 0 };
-    }
-    if listed < lists::MAX_ENTRIES {
-        return Verdict::Refused {
-            number: 11,
-            line: 0,
-        };
-    }
-    Verdict::Accepted
-}
-
-// Whether a setting of a walk is out of its range.
-fn walk_out(wrap: u32, raw: u32, width: u32, overflow: u32) -> bool
-    ensures { result ≡ (ltb max_wrap wrap || ltb 1 raw || ltb max_width width || ltb 1 overflow) }
-{
-    if settings_out(wrap, raw, width) {
-        return true;
-    }
-    overflow > 1
-}
-
-pub fn of_walk(wrap: u32, raw: u32, width: u32, overflow: u32, given: usize, wide: usize) -> Verdict
-    ensures { result ≡ verdict_of (walk_arguments wrap raw width overflow (given ∷ wide ∷ [])) }
-{
-    if walk_out(wrap, raw, width, overflow) {
-        return Verdict::Refused { number: 9, line: 0 };
-    }
-    if either_below(given, wide, lists::MAX_LINES) {
-        return Verdict::Refused {
-            number: 11,
-            line: 0,
-        };
-    }
-    Verdict::Accepted
+    refuse_if(settings.walk_out_of_range(), Reason::Setting)?;
+    let short = given < MAX_LINES || wide < MAX_LINES;
+    refuse_if(short, Reason::ShortBuffer)
 }
 
 pub fn of_nested(
-    wrap: u32,
-    raw: u32,
-    width: u32,
-    overflow: u32,
+    settings: Settings,
     columns: usize,
     starts: usize,
     wides: usize,
-) -> Verdict
-    ensures { result ≡ verdict_of (nested_arguments wrap raw width overflow (columns ∷ []) (starts ∷ wides ∷ [])) }
+) -> Result<(), Refusal>
+    ensures { result ≡ verdict_of (nested_arguments settings.wrap settings.raw settings.width settings.overflow (columns ∷ []) (starts ∷ wides ∷ [])) }
 {
-    if walk_out(wrap, raw, width, overflow) {
-        return Verdict::Refused { number: 9, line: 0 };
-    }
-    if columns < lists::MAX_LINES {
-        return Verdict::Refused {
-            number: 11,
-            line: 0,
-        };
-    }
-    if either_below(starts, wides, lists::MAX_ENTRIES) {
-        return Verdict::Refused {
-            number: 11,
-            line: 0,
-        };
-    }
-    Verdict::Accepted
+    refuse_if(settings.walk_out_of_range(), Reason::Setting)?;
+    let short = columns < MAX_LINES || starts < MAX_ENTRIES || wides < MAX_ENTRIES;
+    refuse_if(short, Reason::ShortBuffer)
 }

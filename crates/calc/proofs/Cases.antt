@@ -10,7 +10,8 @@ use Rattle.sums.specs.Tree.{result_of, both}
 use Rattle.sums.specs.Grammar.{digit}
 use Rattle.sums.specs.Machine.{total, wanted, operator, inner, opened, closed, step, finish, run}
 use Rattle.sums.specs.Answers.{answer_by, answer_of}
-use Rattle.calc.specs.declared.Measure.TheVariants.{Size, NoExpression, NoValue}
+use Rattle.std.specs.Prelude.{Ok, Err}
+use Rattle.lists.specs.declared.Reason.TheVariants.{NoExpression, OutOfBounds}
 use Rattle.calc.specs.Measures.{written, measure_by, measure_of}
 
 -- 420, -3 and 0, and the lower bound
@@ -23,25 +24,25 @@ unfolding written writing
 longest = ap (λ (m : ℕ). m + 1) (digits_at 12 1000000000000 (lit≤ tt) (lit< tt))
 
 -- (3+4)*120/2
-worked_size : measure_of (40 ∷ 51 ∷ 43 ∷ 52 ∷ 41 ∷ 42 ∷ 49 ∷ 50 ∷ 48 ∷ 47 ∷ 50 ∷ []) ≡ Size 3
+worked_size : measure_of (40 ∷ 51 ∷ 43 ∷ 52 ∷ 41 ∷ 42 ∷ 49 ∷ 50 ∷ 48 ∷ 47 ∷ 50 ∷ []) ≡ Ok 3
 unfolding measure_of measure_by written writing digits digits_in answer_of answer_by run step total wanted operator inner opened closed finish digit both result_of
 worked_size = refl
 
 -- (0-7)/2
-minus_size : measure_of (40 ∷ 48 ∷ 45 ∷ 55 ∷ 41 ∷ 47 ∷ 50 ∷ []) ≡ Size 2
+minus_size : measure_of (40 ∷ 48 ∷ 45 ∷ 55 ∷ 41 ∷ 47 ∷ 50 ∷ []) ≡ Ok 2
 unfolding measure_of measure_by written writing digits digits_in answer_of answer_by run step total wanted operator inner opened closed finish digit both result_of
 minus_size = refl
 
 -- (0-1)/2
-zero_size : measure_of (40 ∷ 48 ∷ 45 ∷ 49 ∷ 41 ∷ 47 ∷ 50 ∷ []) ≡ Size 1
+zero_size : measure_of (40 ∷ 48 ∷ 45 ∷ 49 ∷ 41 ∷ 47 ∷ 50 ∷ []) ≡ Ok 1
 unfolding measure_of measure_by written writing digits digits_in answer_of answer_by run step total wanted operator inner opened closed finish digit both result_of
 zero_size = refl
 
 -- 1/0+ is 13, 1/0 is 14
-cut_off : measure_of (49 ∷ 47 ∷ 48 ∷ 43 ∷ []) ≡ NoExpression
+cut_off : measure_of (49 ∷ 47 ∷ 48 ∷ 43 ∷ []) ≡ Err NoExpression
 unfolding measure_of measure_by answer_of answer_by run step total wanted operator inner opened closed finish digit both result_of
 cut_off = refl
 
-by_nothing : measure_of (49 ∷ 47 ∷ 48 ∷ []) ≡ NoValue
+by_nothing : measure_of (49 ∷ 47 ∷ 48 ∷ []) ≡ Err OutOfBounds
 unfolding measure_of measure_by answer_of answer_by run step total wanted operator inner opened closed finish digit both result_of
 by_nothing = refl

@@ -1,7 +1,7 @@
 -- The loop over a text's bytes: what is left of the text, read on from here, comes to what the whole text comes to. Assumes nothing.
 use mathlib.Core.Bool.{Bool, true, false, cond}
 use mathlib.Core.Path.{◌≡◌, refl, sym, ap, ◌∙◌}
-use mathlib.Core.Option.{Option, none, some}
+use Rattle.std.specs.Prelude.{Option, None, Some, Err}
 use mathlib.Core.List.{List, [], ◌∷◌}
 use Prim.Native.Nat.{ℕ, zero, suc, ◌+◌, ◌-◌, ◌≤◌, ◌<◌}
 use native.Mathlib.Numerals.{add-one}
@@ -11,14 +11,12 @@ use lib.IntN.{ℤ}
 use lib.ListN.{length, drop, get_or, set, length-set, drop_of_length-le}
 use lib.Seq.{drop-cons, get_or-set_same, get_or-set_other}
 use borrow.Author.Tests.{eq-eqb, ne_eqb, eqb-true, eqb-false, lt-ltb, le-ltb, ltb-true, ltb-false}
-use Rattle.sums.specs.declared.Num.{Num}
 use Rattle.calc.specs.declared.Frame.{Frame}
 use Rattle.calc.specs.declared.Top.{Top}
 use Rattle.calc.specs.declared.Top.TheVariants.{Want}
-use Rattle.sums.specs.declared.Answer.TheVariants.{NotAnExpression}
+use Rattle.lists.specs.declared.Reason.TheVariants.{NoExpression}
 use Rattle.sums.specs.Machine.{Waiting, fresh, Place, wrong, want, have, State, state, total, wanted, inner, opened, closed, step, finish, run, start}
 use Rattle.sums.specs.Answers.{values, answer_by, answer_of}
-use Rattle.sums.specs.inner.Worth.{worth}
 use Rattle.calc.specs.inner.Kept.{onto_of, waiting_of, place_of, opening_at, end_at, nothing, outer_of, Small, Steps}
 
 outer_length : (n : ℕ) (l : List Frame) → length (outer_of n l) ≡ n
@@ -55,12 +53,12 @@ unfolding step opened wanted closed total inner
 lost_step fs c =
     ap (λ (s : State (Option ℤ)). cond (eqb c 40) (state wrong fs) s) (same (eqb c 41) (state wrong fs)) ∙ same (eqb c 40) (state wrong fs)
 
-no_finish : (l : List (Waiting (Option ℤ))) → finish {A = Option ℤ} none l ≡ none
+no_finish : (l : List (Waiting (Option ℤ))) → finish {A = Option ℤ} None l ≡ None
 unfolding finish
 no_finish [] = refl
 no_finish (f ∷ l) = refl
 
-lost : (fs : List (Waiting (Option ℤ))) (cs : List ℕ) → run values (state wrong fs) cs ≡ none
+lost : (fs : List (Waiting (Option ℤ))) (cs : List ℕ) → run values (state wrong fs) cs ≡ None
 unfolding run total
 lost fs [] = no_finish fs
 lost fs (c ∷ cs) = ap (λ (s : State (Option ℤ)). run values s cs) (lost_step fs c) ∙ lost fs cs
@@ -87,24 +85,24 @@ on_other p fs c h g = rw (ne_eqb c 40 h, ne_eqb c 41 g)
 
 deep_bracket : (x : Option (Waiting (Option ℤ))) (fs : List (Waiting (Option ℤ))) → 32 ≤ length fs → opened x fs ≡ state wrong fs
 unfolding opened
-deep_bracket none fs h = refl
-deep_bracket (some f) fs h = rw (le-ltb (length fs) 32 h)
+deep_bracket None fs h = refl
+deep_bracket (Some f) fs h = rw (le-ltb (length fs) 32 h)
 
-next_bracket : (f : Waiting (Option ℤ)) (fs : List (Waiting (Option ℤ))) → length fs < 32 → opened (some f) fs ≡ state (want fresh) (f ∷ fs)
+next_bracket : (f : Waiting (Option ℤ)) (fs : List (Waiting (Option ℤ))) → length fs < 32 → opened (Some f) fs ≡ state (want fresh) (f ∷ fs)
 unfolding opened
 next_bracket f fs h = rw (lt-ltb (length fs) 32 h)
 
 unopened : (x : Option (Option ℤ)) → closed x [] ≡ state wrong []
 unfolding closed
-unopened none = refl
-unopened (some x) = refl
+unopened None = refl
+unopened (Some x) = refl
 
 -- a bracket opens only within fewer than 32
-pub opening_told : (depth : ℕ) (p : Place (Option ℤ)) (f : Waiting (Option ℤ)) → some f ≡ opening_at depth p → (depth < 32) × (some f ≡ wanted p)
+pub opening_told : (depth : ℕ) (p : Place (Option ℤ)) (f : Waiting (Option ℤ)) → Some f ≡ opening_at depth p → (depth < 32) × (Some f ≡ wanted p)
 unfolding opening_at
 opening_told depth p f e = go (ltb depth 32) refl e
   where
-    go : (u : Bool) → ltb depth 32 ≡ u → some f ≡ cond u (wanted p) none → (depth < 32) × (some f ≡ wanted p)
+    go : (u : Bool) → ltb depth 32 ≡ u → Some f ≡ cond u (wanted p) None → (depth < 32) × (Some f ≡ wanted p)
     go true d w = (ltb-true depth 32 d, w)
     go false d w = let z : ◌≡◌ {A = ℕ} 0 1 = cc in absurd (omega arith)
 
@@ -124,29 +122,29 @@ module _ {text : List ℕ} {outer : List Frame} {depth : ℕ} {place : Top} {i :
   goes_on : {t : State (Option ℤ)} → i < length text → step values (state (place_of place) fs) (get_or text i 0) ≡ t → run values t (drop (i + 1) text) ≡ run values start text
   goes_on h e = ap (λ (t : State (Option ℤ)). run values t (drop (i + 1) text)) (sym e) ∙ ahead h
 
-  refused : {l : List (Waiting (Option ℤ))} → i < length text → step values (state (place_of place) fs) (get_or text i 0) ≡ state wrong l → NotAnExpression ≡ answer_of text
+  refused : {l : List (Waiting (Option ℤ))} → i < length text → step values (state (place_of place) fs) (get_or text i 0) ≡ state wrong l → Err NoExpression ≡ answer_of text
   unfolding answer_of answer_by
   refused {l} h e = ap answer_by (sym (lost l (drop (i + 1) text)) ∙ goes_on h e)
 
-  no_room : i < length text → get_or text i 0 ≡ 40 → none ≡ wanted (place_of place) → NotAnExpression ≡ answer_of text
+  no_room : i < length text → get_or text i 0 ≡ 40 → None ≡ wanted (place_of place) → Err NoExpression ≡ answer_of text
   unfolding opened
   no_room h e w =
       refused h (on_open (place_of place) fs (get_or text i 0) e ∙ ap (λ (o : Option (Waiting (Option ℤ))). opened o fs) (sym w))
 
-  too_deep : i < length text → get_or text i 0 ≡ 40 → 32 ≤ depth → NotAnExpression ≡ answer_of text
+  too_deep : i < length text → get_or text i 0 ≡ 40 → 32 ≤ depth → Err NoExpression ≡ answer_of text
   too_deep h e d =
       refused h
       (on_open (place_of place) fs (get_or text i 0) e ∙ deep_bracket (wanted (place_of place)) fs (omega (arith, outer_length depth outer)))
 
-  pub no_opening : i < length text → get_or text i 0 ≡ 40 → none ≡ opening_at depth (place_of place) → NotAnExpression ≡ answer_of text
+  pub no_opening : i < length text → get_or text i 0 ≡ 40 → None ≡ opening_at depth (place_of place) → Err NoExpression ≡ answer_of text
   unfolding opening_at
   no_opening h e w = go (ltb depth 32) refl w
     where
-      go : (u : Bool) → ltb depth 32 ≡ u → none ≡ cond u (wanted (place_of place)) none → NotAnExpression ≡ answer_of text
+      go : (u : Bool) → ltb depth 32 ≡ u → None ≡ cond u (wanted (place_of place)) None → Err NoExpression ≡ answer_of text
       go true d w = no_room h e w
       go false d w = too_deep h e (ltb-false depth 32 d)
 
-  opens_in : (f : Frame) → i < length text → get_or text i 0 ≡ 40 → some (waiting_of f) ≡ wanted (place_of place) → depth < 32 → Sofar text (set outer depth f) (depth + 1) (Want nothing) (i + 1)
+  opens_in : (f : Frame) → i < length text → get_or text i 0 ≡ 40 → Some (waiting_of f) ≡ wanted (place_of place) → depth < 32 → Sofar text (set outer depth f) (depth + 1) (Want nothing) (i + 1)
   opens_in f h e w d =
       record {
         in_text = omega arith;
@@ -162,16 +160,16 @@ module _ {text : List ℕ} {outer : List Frame} {depth : ℕ} {place : Top} {i :
             ∙ next_bracket (waiting_of f) fs (omega (arith, outer_length depth outer)));
       }
 
-  pub opens : (f : Frame) → i < length text → get_or text i 0 ≡ 40 → some (waiting_of f) ≡ opening_at depth (place_of place)
+  pub opens : (f : Frame) → i < length text → get_or text i 0 ≡ 40 → Some (waiting_of f) ≡ opening_at depth (place_of place)
       → Sofar text (set outer depth f) (depth + 1) (Want nothing) (i + 1)
   opens f h e w = let (d, v) = opening_told depth (place_of place) (waiting_of f) w in opens_in f h e v d
 
-  pub no_end : i < length text → get_or text i 0 ≡ 41 → none ≡ total values (place_of place) → NotAnExpression ≡ answer_of text
+  pub no_end : i < length text → get_or text i 0 ≡ 41 → None ≡ total values (place_of place) → Err NoExpression ≡ answer_of text
   unfolding closed
   no_end h e w =
       refused h (on_close (place_of place) fs (get_or text i 0) e ∙ ap (λ (o : Option (Option ℤ)). closed o fs) (sym w))
 
-  pub not_open : i < length text → get_or text i 0 ≡ 41 → depth ≡ 0 → NotAnExpression ≡ answer_of text
+  pub not_open : i < length text → get_or text i 0 ≡ 41 → depth ≡ 0 → Err NoExpression ≡ answer_of text
   unfolding outer_of
   not_open h e d =
       refused h
@@ -179,7 +177,7 @@ module _ {text : List ℕ} {outer : List Frame} {depth : ℕ} {place : Top} {i :
       ∙ ap (λ (n : ℕ). closed (total values (place_of place)) (outer_of n outer)) d
       ∙ unopened (total values (place_of place)))
 
-  pub closes : (r : Top) (x : Num) → i < length text → get_or text i 0 ≡ 41 → some (worth x) ≡ total values (place_of place) → (depth ≡ 0 → ⊥) → place_of r ≡ have (onto_of (get_or outer (depth - 1) nothing).sum) (onto_of (get_or outer (depth - 1) nothing).product (worth x)) → Small r → Sofar text outer (depth - 1) r (i + 1)
+  pub closes : (r : Top) (x : Option ℤ) → i < length text → get_or text i 0 ≡ 41 → Some x ≡ total values (place_of place) → (depth ≡ 0 → ⊥) → place_of r ≡ have (onto_of (get_or outer (depth - 1) nothing).sum) (onto_of (get_or outer (depth - 1) nothing).product x) → Small r → Sofar text outer (depth - 1) r (i + 1)
   unfolding closed
   closes r x h e w d q z =
       record {
@@ -192,7 +190,7 @@ module _ {text : List ℕ} {outer : List Frame} {depth : ℕ} {place : Top} {i :
             ∙ goes_on h
             (on_close (place_of place) fs (get_or text i 0) e
             ∙ ap (λ (o : Option (Option ℤ)). closed o fs) (sym w)
-            ∙ ap (λ (l : List (Waiting (Option ℤ))). closed (some (worth x)) l) (outer_pop depth outer d));
+            ∙ ap (λ (l : List (Waiting (Option ℤ))). closed (Some x) l) (outer_pop depth outer d));
       }
 
   pub moves : (r : Top) → i < length text → (get_or text i 0 ≡ 40 → ⊥) → (get_or text i 0 ≡ 41 → ⊥) → Steps (get_or text i 0) place r → Sofar text outer depth r (i + 1)
@@ -215,6 +213,6 @@ module _ {text : List ℕ} {outer : List Frame} {depth : ℕ} {place : Top} {i :
   unfolding answer_of end_at finish outer_of
   ended_as h = go (eqb depth 0) refl
     where
-      go : (u : Bool) → eqb depth 0 ≡ u → answer_by (cond u (total values (place_of place)) none) ≡ answer_by (run values start text)
+      go : (u : Bool) → eqb depth 0 ≡ u → answer_by (cond u (total values (place_of place)) None) ≡ answer_by (run values start text)
       go true d = ap answer_by (ap (λ (n : ℕ). finish (total values (place_of place)) (outer_of n outer)) (sym (eqb-true depth 0 d)) ∙ ends h)
       go false d = ap answer_by (ap (finish (total values (place_of place))) (sym (outer_pop depth outer (eqb-false depth 0 d))) ∙ ends h)

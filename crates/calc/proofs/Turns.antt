@@ -1,23 +1,27 @@
 -- The code's step at a byte that is no bracket. Assumes nothing.
-use mathlib.Core.Bool.{true, false}
-use mathlib.Core.Path.{◌≡◌, ap, ◌∙◌, subst}
-use mathlib.Core.Option.{some}
+use mathlib.Core.Bool.{Bool, true, false}
+use mathlib.Core.Path.{◌≡◌, sym, ap, ◌∙◌, subst}
+use Rattle.std.specs.Prelude.{Option, Some}
 use Prim.Native.Nat.{ℕ, ◌+◌, ◌*◌, ◌-◌, ◌^◌, ◌≤◌, ◌<◌}
 use native.Mathlib.Nat.{pow-le-pow_right}
 use native.Mathlib.Omega.{arith}
-use lib.IntN.{pos}
+use lib.IntN.{ℤ, pos}
 use borrow.Author.Tests.{lt-ltb, le-ltb}
-use Rattle.sums.specs.declared.Num.{Num}
-use Rattle.calc.specs.declared.Before.{Before}
+use Rattle.sums.specs.declared.Op.{Op}
 use Rattle.calc.specs.declared.Frame.{Frame}
 use Rattle.calc.specs.declared.Top.{Top}
 use Rattle.calc.specs.declared.Top.TheVariants.{Wrong, Want, Within, Have}
+use Rattle.std.specs.Char.{is_ascii_digit}
 use Rattle.sums.specs.Grammar.{digit}
 use Rattle.sums.specs.Machine.{operator, inner}
 use Rattle.sums.specs.Answers.{values}
-use Rattle.sums.specs.inner.Worth.{worth}
 use Rattle.calc.specs.inner.Kept.{onto_of, place_of, Small, Steps}
 use Rattle.sums.proofs.Bytes.{at_most, grown}
+
+-- std's test of a byte is `digit`
+pub told_digit : (c : ℕ) {r b : Bool} → r ≡ is_ascii_digit c → r ≡ b → digit c ≡ b
+unfolding digit
+told_digit c v t = sym v ∙ t
 
 -- a number of fewer than nine digits has room for one more
 pub roomy : (n v : ℕ) → v < 10 ^ n → n < 9 → v < 100000000
@@ -49,11 +53,11 @@ pub too_long_lem : (c : ℕ) (t : Top) (n v : ℕ) (f : Frame) → t ≡ Within 
 unfolding inner
 too_long_lem c t n v f e d l = record { is = rw (e, d, le-ltb n 9 l); small = tt }
 
-pub number_ends : (c : ℕ) (t r : Top) (n v : ℕ) (f : Frame) (x : Num) → t ≡ Within n v f → digit c ≡ false → worth x ≡ onto_of f.product (some (pos v)) → place_of r ≡ operator values c (onto_of f.sum) (worth x) → Small r → Steps c t r
+pub number_ends : (c : ℕ) (t r : Top) (n v : ℕ) (f : Frame) (x : Option ℤ) → t ≡ Within n v f → digit c ≡ false → x ≡ onto_of f.product (Some (pos v)) → place_of r ≡ operator values c (onto_of f.sum) x → Small r → Steps c t r
 unfolding inner
 number_ends c t r n v f x e d p h s =
     record { is = rw (e, d) (h ∙ ap (operator values c (onto_of f.sum)) p); small = s }
 
-pub factor_ends : (c : ℕ) (t r : Top) (b : Before) (x : Num) → t ≡ Have b x → place_of r ≡ operator values c (onto_of b) (worth x) → Small r → Steps c t r
+pub factor_ends : (c : ℕ) (t r : Top) (b : Option (Option ℤ × Op)) (x : Option ℤ) → t ≡ Have b x → place_of r ≡ operator values c (onto_of b) x → Small r → Steps c t r
 unfolding inner
 factor_ends c t r b x e h s = record { is = rw e h; small = s }

@@ -1,6 +1,7 @@
 -- The call `estimates`: its answer, and what stands in the lent buffers afterwards, refused calls included: the figures, then zeros.
 -- These are definitions; nothing is assumed.
-use Rattle.std.specs.Prelude.{◌≡◌, true, List, [], ◌∷◌, ◌++◌, map, ℕ, length}
+use Rattle.lists.specs.declared.Refusal.{Refusal}
+use Rattle.std.specs.Prelude.{◌≡◌, true, List, [], ◌∷◌, ◌++◌, map, ℕ, length, Err, Ok, Result}
 use Rattle.lists.specs.Refusals.{Check, first_answer, passes}
 use Rattle.arguments.specs.Arguments.{estimates_arguments}
 use Rattle.text.specs.declared.Estimate.{Estimate}
@@ -8,8 +9,6 @@ use Rattle.sheet.specs.Sheet.{sheet_lines}
 use Rattle.estimates.specs.Estimates.{estimates}
 use Rattle.estimates.specs.Meets.{AllBounded}
 use Rattle.opening.specs.Opening.{kept_lines}
-use Rattle.answers.specs.declared.Estimated.{Estimated}
-use Rattle.answers.specs.declared.Estimated.TheVariants.{Lines, Refused}
 use Rattle.sheet_figures.specs.Figures.{line_size, line_least, line_prefix}
 use Rattle.sheet_figures.specs.Calls.{check_checks, leaves}
 
@@ -17,8 +16,8 @@ use Rattle.sheet_figures.specs.Calls.{check_checks, leaves}
 abbrev pub estimates_checks : List ℕ → ℕ → List ℕ → List Check
 estimates_checks s wrap lines = estimates_arguments wrap lines ++ check_checks s
 
-unfoldable pub estimated_of : List ℕ → ℕ → List ℕ → Estimated
-estimated_of s wrap lines = first_answer Refused (Lines (length (sheet_lines s))) (estimates_checks s wrap lines)
+unfoldable pub estimated_of : List ℕ → ℕ → List ℕ → Result ℕ Refusal
+estimated_of s wrap lines = first_answer Err (Ok (length (sheet_lines s))) (estimates_checks s wrap lines)
 
 -- the lengths of the buffers that are lent for lines
 abbrev pub for_lines : (size least prefix : List ℕ) → List ℕ
@@ -35,6 +34,6 @@ abbrev pub EstimatesBuffers : (s : List ℕ) (wrap : ℕ) (size₀ least₀ pref
 EstimatesBuffers s wrap size₀ least₀ prefix₀ size least prefix =
     EstimatesLeft (estimates_checks s wrap (for_lines size₀ least₀ prefix₀)) (estimates wrap (kept_lines s)) size₀ least₀ prefix₀ size least prefix
 
-pub record EstimatesAnswer (s : List ℕ) (wrap : ℕ) (size₀ least₀ prefix₀ : List ℕ) (r : Estimated) (size least prefix : List ℕ) : Type 0 where
+pub record EstimatesAnswer (s : List ℕ) (wrap : ℕ) (size₀ least₀ prefix₀ : List ℕ) (r : Result ℕ Refusal) (size least prefix : List ℕ) : Type 0 where
   pub answer : r ≡ estimated_of s wrap (for_lines size₀ least₀ prefix₀)
   pub left : EstimatesBuffers s wrap size₀ least₀ prefix₀ size least prefix

@@ -1,49 +1,36 @@
 // The arrays in which a sheet is read and measured, of two sizes. They are cleared with each call, and for a small sheet short ones do.
-ghost use Rattle.std.specs.Prelude.{◌≡◌, false, ◌≤◌};
-ghost use Rattle.lists.specs.Sizes.{small_lines};
+ghost use Rattle.std.specs.Prelude.{◌*◌, ◌≡◌, false, ◌≤◌, None, ◌/◌, IsSome, Some};
+ghost use Rattle.lists.specs.Limits.{max_entries, max_lines};
 ghost use Rattle.sheet.specs.Steps.{room_for};
 ghost use Rattle.estimates.specs.inner.Figures.{figures_of};
 ghost use Rattle.opening.specs.Opening.{open_checks, opened_of};
 ghost use Rattle.call_estimates.specs.inner.Found.{LinesRoom, FiguresFit, FiguresTold, EstimatesFound, EstimatesTried};
 
-use lists::{MAX_ENTRIES, MAX_LINES, SMALL_LINES};
-use opening::Scope;
-use sheet::Reading;
+use lists::{MAX_LINES, Refusal, SMALL_LINES};
+use opening::{ENTRIES, FIGURES, KEPT, ROWS, SMALL_ENTRIES, SMALL_FIGURES, SMALL_KEPT, SMALL_ROWS};
 
-// What comes of short arrays: what was read, or that they do not suffice for the sheet's tables.
-#[derive(Clone, Copy)]
-pub enum Tried {
-    Found(Reading),
-    Larger,
-}
-
-// What reading a small sheet and checking its tables answers.
-fn check_small(sheet: &[u8]) -> Reading
-    requires { room_for sheet.now ≤ small_lines }
-    ensures { result ≡ opened_of false sheet.now 0 }
+// What reading a sheet and checking its tables answers, in arrays of L numbers for its lines and N for the scratch. It is never taken into its caller's
+// frame: so a small sheet does not pay for the room of a large one.
+#[inline(never)]
+fn check_in<const L: usize, const N: usize>(sheet: &[u8]) -> Result<usize, Refusal>
+    requires room { (room_for sheet.now ≤ L / 2) × (room_for sheet.now ≤ N) }
+    requires sizes { (L ≤ 2 * max_lines) × (N ≤ max_lines) }
+    ensures { result ≡ opened_of None sheet.now }
 {
-    let mut lines = [0u32; records::WIDTH * SMALL_LINES];
-    let mut scratch = [0u32; SMALL_LINES];
-    opening::open_sheet(sheet, false, 0, &mut lines, &mut scratch)
-}
-
-// The same of any sheet.
-fn check_large(sheet: &[u8]) -> Reading
-    ensures { result ≡ opened_of false sheet.now 0 }
-{
-    let mut lines = [0u32; records::WIDTH * MAX_LINES];
-    let mut scratch = [0u32; MAX_LINES];
-    opening::open_sheet(sheet, false, 0, &mut lines, &mut scratch)
+    let mut lines = [0u32; L];
+    let mut scratch = [0u32; N];
+    opening::open_sheet(sheet, None, &mut lines, &mut scratch)
 }
 
 // The same in short arrays if they do.
-pub fn check_within(sheet: &[u8]) -> Reading
-    ensures { result ≡ opened_of false sheet.now 0 }
+pub fn check_within(sheet: &[u8]) -> Result<usize, Refusal>
+    ensures { result ≡ opened_of None sheet.now }
 {
     if opening::is_small(sheet) {
-        return check_small(sheet);
+        check_in::<SMALL_KEPT, SMALL_LINES>(sheet)
+    } else {
+        check_in::<KEPT, MAX_LINES>(sheet)
     }
-    check_large(sheet)
 }
 
 // The three figures of each of the first n lines, each to its buffer.
@@ -56,29 +43,33 @@ fn write_figures(n: usize, figures: &[u32], size: &mut [u32], least: &mut [u32],
     records::unpack(figures, 3, 2, n, prefix);
 }
 
-// The estimates of a small sheet. `size` is scratch until it is written.
-fn estimates_small(
+// The estimates of a sheet, in arrays of L numbers for its lines, F for their estimates, E for the entries and R for the rows of a grid; none, if they do
+// not suffice for the sheet's tables. `size` is scratch until it is written. It is never taken into its caller's frame, either.
+#[inline(never)]
+fn estimates_in<const L: usize, const F: usize, const E: usize, const R: usize>(
     sheet: &[u8],
     wrap: u32,
     size: &mut [u32],
     least: &mut [u32],
     prefix: &mut [u32],
-) -> Tried
-    requires sheet_bound { room_for sheet.now ≤ small_lines }
+) -> Option<Result<usize, Refusal>>
+    requires room { (room_for sheet.now ≤ L / 2) × (room_for sheet.now ≤ F / 3) }
+    requires sizes { (L ≤ 2 * max_lines) × (F ≤ 3 * max_lines) × (E ≤ 3 * max_entries) × (R ≤ 2 * max_lines) }
     requires lines_room { LinesRoom size.old least.old prefix.old }
-    ensures { EstimatesTried (open_checks false sheet.now 0) sheet.now wrap result size.new least.new prefix.new }
+    ensures tried { EstimatesTried (open_checks None sheet.now) sheet.now wrap result size.new least.new prefix.new }
+    ensures any { max_entries ≤ E / 3 → max_lines ≤ R / 2 → IsSome result }
 {
-    let mut lines = [0u32; records::WIDTH * SMALL_LINES];
-    let mut figures = [0u32; 3 * SMALL_LINES];
-    let mut entries = [0u32; 3 * SMALL_LINES];
-    let mut rows = [0u32; 2 * SMALL_LINES];
-    let read = opening::open_sheet(sheet, false, 0, &mut lines, size);
-    if !opening::measuring::suffices(read, &lines, SMALL_LINES, SMALL_LINES) {
-        return Tried::Larger;
+    let mut lines = [0u32; L];
+    let mut figures = [0u32; F];
+    let mut entries = [0u32; E];
+    let mut rows = [0u32; R];
+    let read = opening::open_sheet(sheet, None, &mut lines, size);
+    if !opening::measuring::enough(read, &lines, E / 3, R / 2) {
+        return None;
     }
     opening::measuring::measure_read(
         read,
-        Scope::Sheet,
+        None,
         wrap,
         &lines,
         &mut figures,
@@ -88,61 +79,27 @@ fn estimates_small(
     );
     let n = sheet_figures::line_count(read);
     write_figures(n, &figures, size, least, prefix);
-    Tried::Found(read)
+    Some(read)
 }
 
-// The same of any sheet.
-fn estimates_large(
-    sheet: &[u8],
-    wrap: u32,
-    size: &mut [u32],
-    least: &mut [u32],
-    prefix: &mut [u32],
-) -> Reading
-    requires { LinesRoom size.old least.old prefix.old }
-    ensures { EstimatesFound (open_checks false sheet.now 0) sheet.now wrap result size.new least.new prefix.new }
-{
-    let mut lines = [0u32; records::WIDTH * MAX_LINES];
-    let mut figures = [0u32; 3 * MAX_LINES];
-    let mut entries = [0u32; 3 * MAX_ENTRIES];
-    let mut rows = [0u32; 2 * MAX_LINES];
-    let read = opening::measuring::measure_sheet(
-        sheet,
-        false,
-        0,
-        wrap,
-        &mut lines,
-        &mut figures,
-        size,
-        &mut entries,
-        &mut rows,
-    );
-    let n = sheet_figures::line_count(read);
-    write_figures(n, &figures, size, least, prefix);
-    read
-}
-
-// The estimates in short arrays if they suffice, and else in long ones. It calls itself for those, since a function that calls itself takes none with
-// long arrays into its own frame: so a small sheet does not pay for the room of a large one.
+// The estimates in short arrays if they suffice, and else in long ones.
 pub fn estimates_within(
-    large: bool,
     sheet: &[u8],
     wrap: u32,
     size: &mut [u32],
     least: &mut [u32],
     prefix: &mut [u32],
-) -> Reading
+) -> Result<usize, Refusal>
     requires { LinesRoom size.old least.old prefix.old }
-    ensures { EstimatesFound (open_checks false sheet.now 0) sheet.now wrap result size.new least.new prefix.new }
+    ensures { EstimatesFound (open_checks None sheet.now) sheet.now wrap result size.new least.new prefix.new }
 {
-    if large {
-        return estimates_large(sheet, wrap, size, least, prefix);
+    if opening::is_small(sheet) {
+        let tried = estimates_in::<SMALL_KEPT, SMALL_FIGURES, SMALL_ENTRIES, SMALL_ROWS>(
+            sheet, wrap, size, least, prefix,
+        );
+        if let Some(read) = tried {
+            return read;
+        }
     }
-    if !opening::is_small(sheet) {
-        return estimates_large(sheet, wrap, size, least, prefix);
-    }
-    let Tried::Found(read) = estimates_small(sheet, wrap, size, least, prefix) else {
-        return estimates_within(true, sheet, wrap, size, least, prefix);
-    };
-    read
+    estimates_in::<KEPT, FIGURES, ENTRIES, ROWS>(sheet, wrap, size, least, prefix).unwrap()
 }

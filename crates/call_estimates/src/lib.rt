@@ -4,66 +4,40 @@
 
 mod arrays; // the arrays to work in, by the size of the sheet
 
-ghost use Rattle.std.specs.Prelude.{◌≡◌, false, ◌∷◌, ◌≤◌};
+ghost use Rattle.std.specs.Prelude.{◌≡◌, false, ◌∷◌, ◌≤◌, None};
 ghost use Rattle.lists.specs.Limits.{max_lines};
 ghost use Rattle.lists.specs.Refusals.{verdict_of};
-ghost use Rattle.lists.specs.declared.Verdict.TheVariants.{Accepted};
 ghost use Rattle.opening.specs.Opening.{open_checks};
 ghost use Rattle.sheet_figures.specs.Calls.{check_checks};
 ghost use Rattle.sheet_figures.specs.inner.Early.{early};
 ghost use Rattle.sheet_figures.specs.inner.Opened.{lines_in};
 ghost use Rattle.call_estimates.specs.Estimates.{EstimatesAnswer};
-ghost use Rattle.call_estimates.specs.inner.Found.{verdict_in, answer_in, LinesRoom, EstimatesFound};
+ghost use Rattle.call_estimates.specs.inner.Found.{LinesRoom, EstimatesFound};
 
-use answers::Estimated;
-use lists::Verdict;
-use sheet::Reading;
-
-// A reading as `check` answers it.
-fn verdict_of(read: Reading) -> Verdict
-    ensures { result ≡ verdict_in read }
-{
-    match read {
-        Reading::Lines(_) => Verdict::Accepted,
-        Reading::Refused { number, line } => Verdict::Refused { number, line },
-    }
-}
+use lists::Refusal;
 
 // Whether a sheet is accepted: read, and every table of it checked.
-pub fn check(sheet: &[u8]) -> Verdict
+pub fn check(sheet: &[u8]) -> Result<(), Refusal>
     ensures { result ≡ verdict_of (check_checks sheet.now) }
 {
-    let read = arrays::check_within(sheet);
-    verdict_of(read)
-}
-
-// A reading as `estimates` answers it.
-fn answer_of(read: Reading) -> Estimated
-    requires { lines_in read ≤ max_lines }
-    ensures { result ≡ answer_in read }
-{
-    match read {
-        Reading::Lines(n) => Estimated::Lines(n as u32),
-        Reading::Refused { number, line } => Estimated::Refused { number, line },
-    }
+    arrays::check_within(sheet)?;
+    Ok(())
 }
 
 // What is found in the sheet, unless the arguments are refused.
 fn find_estimates(
     sheet: &[u8],
     wrap: u32,
-    asked: Verdict,
+    asked: Result<(), Refusal>,
     size: &mut [u32],
     least: &mut [u32],
     prefix: &mut [u32],
-) -> Reading
-    requires { asked ≡ Accepted → LinesRoom size.old least.old prefix.old }
-    ensures { EstimatesFound (early asked ∷ open_checks false sheet.now 0) sheet.now wrap result size.new least.new prefix.new }
+) -> Result<usize, Refusal>
+    requires { asked ≡ Ok tt → LinesRoom size.old least.old prefix.old }
+    ensures { EstimatesFound (early asked ∷ open_checks None sheet.now) sheet.now wrap result size.new least.new prefix.new }
 {
-    match asked {
-        Verdict::Refused { number, line } => Reading::Refused { number, line },
-        Verdict::Accepted => arrays::estimates_within(false, sheet, wrap, size, least, prefix),
-    }
+    asked?;
+    arrays::estimates_within(sheet, wrap, size, least, prefix)
 }
 
 // The size, the least width and the prefix of every line of a sheet.
@@ -73,7 +47,7 @@ pub fn estimates(
     size: &mut [u32],
     least: &mut [u32],
     prefix: &mut [u32],
-) -> Estimated
+) -> Result<u32, Refusal>
     ensures { EstimatesAnswer sheet.now wrap size.old least.old prefix.old result size.new least.new prefix.new }
 {
     let asked = arguments::of_estimates(wrap, size.len(), least.len(), prefix.len());
@@ -82,5 +56,5 @@ pub fn estimates(
     lists::keep_front(size, n);
     lists::keep_front(least, n);
     lists::keep_front(prefix, n);
-    answer_of(read)
+    Ok(read? as u32)
 }

@@ -1,6 +1,9 @@
 -- `grid`: what is found in the sheet is what the call answers and leaves. Assumes nothing.
+use Rattle.answers.specs.Answers.{grid_with}
+use Rattle.answers.specs.declared.Grid.{Grid}
+use Rattle.lists.specs.declared.Refusal.{Refusal}
+use Rattle.std.specs.Prelude.{Err, Ok, Result, Some}
 use mathlib.Core.Path.{◌≡◌, refl, sym, ◌∙◌}
-use mathlib.Core.Bool.{true}
 use mathlib.Core.List.{List, [], ◌∷◌}
 use Prim.Native.Nat.{ℕ, ◌≤◌}
 use native.Mathlib.Omega.{arith}
@@ -8,10 +11,8 @@ use lib.ListN.{length, take}
 use Rattle.lists.specs.Lists.{padded}
 use Rattle.lists.specs.Limits.{max_lines, max_entries}
 use Rattle.lists.specs.Refusals.{Check, first_answer, verdict_of, if_passes}
-use Rattle.lists.specs.declared.Verdict.{Verdict}
-use Rattle.lists.specs.declared.Verdict.TheVariants.{Accepted, Refused as Refuses}
 use Rattle.grid.specs.Grid.{entries_of}
-use Rattle.opening.specs.Opening.{asked, open_checks}
+use Rattle.opening.specs.Opening.{after_reading, open_checks}
 use Rattle.sheet_figures.specs.Figures.{rows_at, columns_at}
 use Rattle.call_grid.specs.inner.Found.{entries_in, rows_in, GridRoom, GridFound}
 use Rattle.arguments.specs.Arguments.{any_shorter, grid_arguments}
@@ -20,16 +21,14 @@ use Rattle.sheet_figures.specs.inner.Early.{early}
 use Rattle.arguments.proofs.Shorter.{three_fit, two_fit}
 use Rattle.sheet_figures.proofs.Early.{early_eleven, none_eleven, fits, leaving}
 use Rattle.sheet.proofs.First.{neither}
-use Rattle.answers.specs.declared.Gridded.{Gridded}
-use Rattle.answers.specs.declared.Gridded.TheVariants.{Grid, Refused}
 
 -- ---- before the sheet is read
 
 -- refused for the arguments
-pub grid_early : (number at : ℕ) (cs : List Check) (s : List ℕ) (line : ℕ) (cell first' span row end : List ℕ)
-    → GridFound (early (Refuses number at) ∷ cs) s line (Refused number at) cell first' span row end
+pub grid_early : (why : Refusal) (cs : List Check) (s : List ℕ) (line : ℕ) (cell first' span row end : List ℕ)
+    → GridFound (early (Err why) ∷ cs) s line (Err why) cell first' span row end
 unfolding first_answer early if_passes entries_in rows_in
-grid_early number at cs s line cell first' span row end =
+grid_early why cs s line cell first' span row end =
     record {
       answer = refl;
       few_entries = omega arith;
@@ -42,7 +41,7 @@ grid_early number at cs s line cell first' span row end =
     }
 
 -- not refused for the arguments
-pub grid_late : {v : Verdict} {cs : List Check} {s : List ℕ} {line : ℕ} {r : Gridded} {cell first' span row end : List ℕ} → v ≡ Accepted
+pub grid_late : {v : Result (Unit {0}) Refusal} {cs : List Check} {s : List ℕ} {line : ℕ} {r : Result Grid Refusal} {cell first' span row end : List ℕ} → v ≡ (Ok tt)
     → GridFound cs s line r cell first' span row end → GridFound (early v ∷ cs) s line r cell first' span row end
 unfolding first_answer early if_passes
 grid_late z f =
@@ -60,49 +59,49 @@ grid_late z f =
 -- ---- the call
 
 -- where the arguments are not refused, each lent buffer has room for a grid
-fit : (v : Verdict) (a b c d e : ℕ) → v ≡ verdict_of (grid_arguments (a ∷ b ∷ c ∷ []) (d ∷ e ∷ [])) → v ≡ Accepted
+fit : (v : Result (Unit {0}) Refusal) (a b c d e : ℕ) → v ≡ verdict_of (grid_arguments (a ∷ b ∷ c ∷ []) (d ∷ e ∷ [])) → v ≡ (Ok tt)
     → ((max_entries ≤ a) × (max_entries ≤ b) × (max_entries ≤ c)) × ((max_lines ≤ d) × (max_lines ≤ e))
 fit v a b c d e judged z =
     let (p, q) = neither (any_shorter max_entries (a ∷ b ∷ c ∷ [])) (any_shorter max_lines (d ∷ e ∷ [])) (none_eleven _ (sym judged ∙ z)) in
     (three_fit max_entries a b c p, two_fit max_lines d e q)
 
-pub grid_fit : (v : Verdict) (cell first' span row end : List ℕ)
+pub grid_fit : (v : Result (Unit {0}) Refusal) (cell first' span row end : List ℕ)
     → v ≡ verdict_of (grid_arguments (length cell ∷ length first' ∷ length span ∷ []) (length row ∷ length end ∷ []))
-    → v ≡ Accepted → GridRoom cell first' span row end
+    → v ≡ (Ok tt) → GridRoom cell first' span row end
 grid_fit v cell first' span row end judged z =
     let (a, b) = fit v (length cell) (length first') (length span) (length row) (length end) judged z in
     record { cell_room = a.0; first_room = a.1; span_room = a.2; row_room = b.0; end_room = b.1 }
 
-module _ {s : List ℕ} {line : ℕ} {v : Verdict} {a b c d e : ℕ} {r : Gridded} {cell first' span row end : List ℕ}
+module _ {s : List ℕ} {line : ℕ} {v : Result (Unit {0}) Refusal} {a b c d e : ℕ} {r : Result Grid Refusal} {cell first' span row end : List ℕ}
     (judged : v ≡ verdict_of (grid_arguments (a ∷ b ∷ c ∷ []) (d ∷ e ∷ [])))
-    (found : GridFound (early v ∷ open_checks true s line) s line r cell first' span row end) where
+    (found : GridFound (early v ∷ open_checks (Some line) s) s line r cell first' span row end) where
   -- and so for the figures
   pub grid_rooms : ((entries_in r ≤ a) × (entries_in r ≤ b) × (entries_in r ≤ c)) × ((rows_in r ≤ d) × (rows_in r ≤ e))
   unfolding entries_in rows_in
   grid_rooms =
       let h = fit v a b c d e judged in
-      let g : (room : ℕ) → (v ≡ Accepted → max_entries ≤ room) → entries_in r ≤ room =
-      λ room. fits Refused _ entries_in (λ n l. refl) v (open_checks true s line) r max_entries room found.answer found.few_entries in
-      let f : (room : ℕ) → (v ≡ Accepted → max_lines ≤ room) → rows_in r ≤ room =
-      λ room. fits Refused _ rows_in (λ n l. refl) v (open_checks true s line) r max_lines room found.answer found.few_rows in
+      let g : (room : ℕ) → (v ≡ (Ok tt) → max_entries ≤ room) → entries_in r ≤ room =
+      λ room. fits Err _ entries_in (λ why. refl) v (open_checks (Some line) s) r max_entries room found.answer found.few_entries in
+      let f : (room : ℕ) → (v ≡ (Ok tt) → max_lines ≤ room) → rows_in r ≤ room =
+      λ room. fits Err _ rows_in (λ why. refl) v (open_checks (Some line) s) r max_lines room found.answer found.few_rows in
       ((g a (λ z. (h z).0.0), g b (λ z. (h z).0.1), g c (λ z. (h z).0.2)), (f d (λ z. (h z).1.0), f e (λ z. (h z).1.1)))
 
-module _ {s : List ℕ} {line : ℕ} {v : Verdict} {cell₀ first₀ span₀ row₀ end₀ : List ℕ} {r : Gridded} {cell first' span row end : List ℕ}
+module _ {s : List ℕ} {line : ℕ} {v : Result (Unit {0}) Refusal} {cell₀ first₀ span₀ row₀ end₀ : List ℕ} {r : Result Grid Refusal} {cell first' span row end : List ℕ}
     (judged : v ≡ verdict_of (grid_arguments (length cell₀ ∷ length first₀ ∷ length span₀ ∷ []) (length row₀ ∷ length end₀ ∷ [])))
-    (found : GridFound (early v ∷ open_checks true s line) s line r cell first' span row end) where
+    (found : GridFound (early v ∷ open_checks (Some line) s) s line r cell first' span row end) where
   pub grid_answered : {n m : ℕ} {a b c d e : List ℕ} → n ≡ entries_in r → m ≡ rows_in r
       → length cell ≡ length cell₀ → length first' ≡ length first₀ → length span ≡ length span₀ → length row ≡ length row₀ → length end ≡ length end₀
       → a ≡ padded (length cell) (take n cell) → b ≡ padded (length first') (take n first') → c ≡ padded (length span) (take n span)
       → d ≡ padded (length row) (take m row) → e ≡ padded (length end) (take m end)
       → GridAnswer s line cell₀ first₀ span₀ row₀ end₀ r a b c d e
-  unfolding gridded_of asked if_passes
+  unfolding gridded_of after_reading if_passes
   grid_answered k l ka kb kc kd ke a b c d e =
-      let f : (xs : List ℕ) → first_answer (λ number line. []) xs (early v ∷ open_checks true s line) ≡ first_answer (λ number line. []) xs (grid_checks s line (length cell₀ ∷ length first₀ ∷ length span₀ ∷ []) (length row₀ ∷ length end₀ ∷ [])) =
-      λ xs. early_eleven (λ number line. []) xs v (open_checks true s line) _ judged in
+      let f : (xs : List ℕ) → first_answer (λ why. []) xs (early v ∷ open_checks (Some line) s) ≡ first_answer (λ why. []) xs (grid_checks s line (length cell₀ ∷ length first₀ ∷ length span₀ ∷ []) (length row₀ ∷ length end₀ ∷ [])) =
+      λ xs. early_eleven (λ why. []) xs v (open_checks (Some line) s) _ judged in
       record {
         answer =
             found.answer
-            ∙ early_eleven Refused (Grid (length (rows_at s line)) (length (entries_of (rows_at s line))) (columns_at s line)) v (open_checks true s line) _ judged;
+            ∙ early_eleven Err (Ok (grid_with (length (rows_at s line)) (length (entries_of (rows_at s line))) (columns_at s line))) v (open_checks (Some line) s) _ judged;
         left =
             record {
               cells = leaving cell₀ cell (f _) k ka a found.cells;

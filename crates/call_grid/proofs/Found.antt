@@ -1,6 +1,9 @@
 -- The grid of the table in a line of a sheet that was read is the one asked for. Assumes nothing.
+use Rattle.answers.specs.Answers.{grid_with}
+use Rattle.answers.specs.declared.Grid.{Grid}
+use Rattle.lists.specs.declared.Refusal.{Refusal}
+use Rattle.std.specs.Prelude.{Err, Ok, Result, None, Some}
 use mathlib.Core.Path.{◌≡◌, refl, sym, ap, ◌∙◌}
-use mathlib.Core.Bool.{true}
 use mathlib.Core.List.{List}
 use Prim.Native.Nat.{ℕ, ◌-◌, ◌*◌, ◌/◌, ◌≤◌}
 use native.Mathlib.Omega.{arith}
@@ -12,8 +15,6 @@ use Rattle.records.specs.declared.Kept.{Kept}
 use Rattle.records.specs.declared.Entry.{Entry}
 use Rattle.records.specs.declared.Row.{Row}
 use Rattle.records.proofs.Kepts.{kepts_take}
-use Rattle.sheet.specs.declared.Reading.{Reading}
-use Rattle.sheet.specs.declared.Reading.TheVariants as reading
 use Rattle.sheet.proofs.First.{first_passes, figures_fail, front_pass}
 use Rattle.cells.specs.Listed.{table_rows}
 use Rattle.grid.specs.Grid.{entries_of}
@@ -22,31 +23,29 @@ use Rattle.gridding.specs.Packed.{TableMade}
 use Rattle.gridding.specs.declared.Counts.{Counts}
 use Rattle.opening.specs.Opening.{open_checks}
 use Rattle.table.specs.inner.Asked.{Asked}
-use Rattle.answers.specs.declared.Gridded.{Gridded}
-use Rattle.answers.specs.declared.Gridded.TheVariants.{Grid, Refused}
 use Rattle.sheet_figures.specs.Figures.{rows_at}
 use Rattle.sheet_figures.specs.inner.Opened.{AskedIn, MostIn, OpenedAt}
 use Rattle.sheet_figures.proofs.Openings.{failed, told, opened_passed}
 use Rattle.call_grid.specs.inner.Found.{entries_in, rows_in, GridRoom, GridFound, GridTried}
 use Rattle.call_grid.specs.inner.Made.{answer_of, GridMade, GridFits, GridTold}
-use Rattle.call_grid.specs.declared.arrays.Tried.TheVariants.{Found, Larger}
+use Rattle.std.specs.Prelude.{Some, None}
 use Rattle.call_grid.proofs.Told.{rows_few, grid_fits, grid_written}
 
 -- ---- the first records
 
-module _ {read : Reading} {lines : List ℕ} {line : ℕ} {es : List Entry} {rs : List Row} where
-  pub grid_refused : {number at : ℕ} → read ≡ reading.Refused number at → GridMade read lines line (Refused number at) es rs
+module _ {read : Result ℕ Refusal} {lines : List ℕ} {line : ℕ} {es : List Entry} {rs : List Row} where
+  pub grid_refused : {why : Refusal} → read ≡ Err why → GridMade read lines line (Err why) es rs
   grid_refused e = record {
-    refused = λ n l f. let z = sym e ∙ f in cc;
+    refused = λ why f. let z = sym e ∙ f in cc;
     counts = λ n f. let z : ◌≡◌ {A = ℕ} 0 1 = cc in absurd (omega arith);
     answer = λ n f. let z : ◌≡◌ {A = ℕ} 0 1 = cc in absurd (omega arith);
     made = λ n f. let z : ◌≡◌ {A = ℕ} 0 1 = cc in absurd (omega arith);
   }
 
-  pub grid_read : {counts : Counts} {r : Gridded} {n : ℕ} → read ≡ reading.Lines n → n ≤ kept_count lines
-      → TableMade (table_rows (kepts_of (take (2 * n) lines)) (line - 1)) counts es rs → r ≡ answer_of counts → GridMade read lines line r es rs
+  pub grid_read : {counts : Counts} {r : Result Grid Refusal} {n : ℕ} → read ≡ Ok n → n ≤ kept_count lines
+      → TableMade (table_rows (kepts_of (take (2 * n) lines)) (line - 1)) counts es rs → r ≡ Ok (answer_of counts) → GridMade read lines line r es rs
   grid_read {counts} {r} {n} e h m a = record {
-    refused = λ number l f. let z : ◌≡◌ {A = ℕ} 0 1 = cc in absurd (omega arith);
+    refused = λ why f. let z : ◌≡◌ {A = ℕ} 0 1 = cc in absurd (omega arith);
     counts = λ k f. counts;
     answer = λ k f. a;
     made = λ k f.
@@ -77,47 +76,47 @@ room_still a b c d e o =
       end_room = omega (arith, o.end_room);
     }
 
-module _ {read : Reading} {lines : List ℕ} {line : ℕ} {r : Gridded} {es : List Entry} {rs : List Row} (a : AskedIn read lines line) (g : GridMade read lines line r es rs) where
+module _ {read : Result ℕ Refusal} {lines : List ℕ} {line : ℕ} {r : Result Grid Refusal} {es : List Entry} {rs : List Row} (a : AskedIn read lines line) (g : GridMade read lines line r es rs) where
   -- there are places for the figures of the records that were made
   pub figures_fit : {e l n k : ℕ} {entries rows cell first' span row end : List ℕ} → MostIn read lines line e l → GridRoom cell first' span row end
       → e ≤ length entries / 3 → l ≤ length rows / 2 → n ≡ entries_in r → k ≡ rows_in r → GridFits n k entries rows cell first' span row end
   unfolding entries_in rows_in
   figures_fit {n = n} {k = k} {entries = entries} {rows = rows} {cell = cell} {first' = first'} {span = span} {row = row} {end = end} m o h i p q = at read refl
     where
-      at : (d : Reading) → read ≡ d → GridFits n k entries rows cell first' span row end
-      at (reading.Lines t) e =
+      at : (d : Result ℕ Refusal) → read ≡ d → GridFits n k entries rows cell first' span row end
+      at (Ok t) e =
           let x = p ∙ ap entries_in (g.answer t e) in
           let y = q ∙ ap rows_in (g.answer t e) in
           rw (x, y) (grid_fits (a.asked t e) (g.made t e) (m t e) o h i)
-      at (reading.Refused number l) e =
-          let x = p ∙ ap entries_in (g.refused number l e) in
-          let y = q ∙ ap rows_in (g.refused number l e) in
+      at (Err why) e =
+          let x = p ∙ ap entries_in (g.refused why e) in
+          let y = q ∙ ap rows_in (g.refused why e) in
           record { entries_in_fits = omega arith; rows_in_fits = omega arith; cell_in_fits = omega arith; first_in_fits = omega arith; span_in_fits = omega arith; row_in = omega arith; end_in_fits = omega arith }
 
 -- ---- the grid asked for
 
-module _ {s : List ℕ} {line : ℕ} {read : Reading} {lines : List ℕ} (w : OpenedAt s line read lines) (a : AskedIn read lines line)
-    {r : Gridded} {es : List Entry} {rs : List Row} (g : GridMade read lines line r es rs)
+module _ {s : List ℕ} {line : ℕ} {read : Result ℕ Refusal} {lines : List ℕ} (w : OpenedAt s line read lines) (a : AskedIn read lines line)
+    {r : Result Grid Refusal} {es : List Entry} {rs : List Row} (g : GridMade read lines line r es rs)
     {n k : ℕ} {cell first' span row end : List ℕ} (t : GridTold n k es rs cell first' span row end) (p₀ : n ≡ entries_in r) (q₀ : k ≡ rows_in r) where
   abbrev cs : List Check
-  cs = open_checks true s line
+  cs = open_checks (Some line) s
 
   pub grid_found : GridFound cs s line r cell first' span row end
   unfolding entries_in rows_in
   grid_found = at read refl
     where
-      at : (q : Reading) → read ≡ q → GridFound cs s line r cell first' span row end
-      at (reading.Lines l) e =
+      at : (q : Result ℕ Refusal) → read ≡ q → GridFound cs s line r cell first' span row end
+      at (Ok l) e =
           let p = (opened_passed w l e).all in
           let c = g.answer l e in
           let u = rw (p₀ ∙ ap entries_in c, q₀ ∙ ap rows_in c) at t in
           let v = rw (w.holds l e) at (grid_written (a.asked l e) (g.made l e) u) in
           let m = rw (w.holds l e) at (g.made l e) in
-          let z = c ∙ (λ i. Grid (m.rows_are i) (m.entries_are i) (m.columns_are i)) in
+          let z = c ∙ (λ i. Ok (grid_with (m.rows_are i) (m.entries_are i) (m.columns_are i))) in
           let x : entries_in r ≡ length (entries_of (rows_at s line)) = ap entries_in z in
           let y : rows_in r ≡ length (rows_at s line) = ap rows_in z in
           record {
-            answer = z ∙ sym (first_passes Refused _ cs p);
+            answer = z ∙ sym (first_passes Err _ cs p);
             few_entries = omega (arith, v.few_entries);
             few_rows = omega (arith, v.few_rows);
             cells = front_pass cell cs p x v.cells;
@@ -126,13 +125,13 @@ module _ {s : List ℕ} {line : ℕ} {read : Reading} {lines : List ℕ} (w : Op
             row_lines = front_pass row cs p y v.row_lines;
             row_ends_fits = front_pass end cs p y v.row_ends_fits;
           }
-      at (reading.Refused number l) e =
+      at (Err why) e =
           let o = sym w.answer ∙ e in
-          let p = failed true s line number l o in
-          let z = g.refused number l e in
+          let p = failed (Some line) s why o in
+          let z = g.refused why e in
           rw z
           (record {
-            answer = sym (told true s line Refused _ number l o);
+            answer = sym (told (Some line) s Err _ why o);
             few_entries = omega arith;
             few_rows = omega arith;
             cells = sym (figures_fail cs _ p);
@@ -142,9 +141,9 @@ module _ {s : List ℕ} {line : ℕ} {read : Reading} {lines : List ℕ} (w : Op
             row_ends_fits = sym (figures_fail cs _ p);
           })
 
-pub grid_tried : {cs : List Check} {s : List ℕ} {line : ℕ} {r : Gridded} {cell first' span row end : List ℕ} → GridFound cs s line r cell first' span row end
-    → GridTried cs s line (Found r) cell first' span row end
+pub grid_tried : {cs : List Check} {s : List ℕ} {line : ℕ} {r : Result Grid Refusal} {cell first' span row end : List ℕ} → GridFound cs s line r cell first' span row end
+    → GridTried cs s line (Some r) cell first' span row end
 grid_tried {r = r} f = record { found = λ q e. let z : r ≡ q = cc in rw (← z) f }
 
-pub grid_larger : {cs : List Check} {s : List ℕ} {line : ℕ} {cell first' span row end : List ℕ} → GridTried cs s line Larger cell first' span row end
+pub grid_larger : {cs : List Check} {s : List ℕ} {line : ℕ} {cell first' span row end : List ℕ} → GridTried cs s line None cell first' span row end
 grid_larger = record { found = λ q e. let z : ◌≡◌ {A = ℕ} 0 1 = cc in absurd (omega arith) }

@@ -5,41 +5,34 @@
 mod arrays; // the arrays to work in, by the size of the sheet
 mod made; // the grid of the table in a line of a sheet that was read
 
-ghost use Rattle.std.specs.Prelude.{◌≡◌, true, ◌∷◌};
-ghost use Rattle.lists.specs.declared.Verdict.TheVariants.{Accepted};
+ghost use Rattle.std.specs.Prelude.{◌≡◌, true, ◌∷◌, Some};
 ghost use Rattle.opening.specs.Opening.{open_checks};
 ghost use Rattle.sheet_figures.specs.inner.Early.{early};
 ghost use Rattle.call_grid.specs.Grid.{GridAnswer};
 ghost use Rattle.call_grid.specs.inner.Found.{entries_in, rows_in, GridRoom, GridFound};
 
-use answers::Gridded;
-use lists::Verdict;
+use answers::Grid;
+use lists::Refusal;
 
 // How many entries the grid has; 0 if the call is refused.
-fn entry_count(found: Gridded) -> usize
+#[tactic(auto, unfolding(crate::specs::inner::Found::entries_in))]
+fn entry_count(found: Result<Grid, Refusal>) -> usize
     ensures { result ≡ entries_in found }
 {
     match found {
-        Gridded::Grid {
-            rows: _,
-            entries: n,
-            columns: _,
-        } => n as usize,
-        Gridded::Refused { number: _, line: _ } => 0,
+        Ok(grid) => grid.entries as usize,
+        Err(_) => 0,
     }
 }
 
 // How many rows it has.
-fn row_count(found: Gridded) -> usize
+#[tactic(auto, unfolding(crate::specs::inner::Found::rows_in))]
+fn row_count(found: Result<Grid, Refusal>) -> usize
     ensures { result ≡ rows_in found }
 {
     match found {
-        Gridded::Grid {
-            rows: n,
-            entries: _,
-            columns: _,
-        } => n as usize,
-        Gridded::Refused { number: _, line: _ } => 0,
+        Ok(grid) => grid.rows as usize,
+        Err(_) => 0,
     }
 }
 
@@ -47,23 +40,19 @@ fn row_count(found: Gridded) -> usize
 fn find_grid(
     sheet: &[u8],
     line: u32,
-    asked: Verdict,
+    asked: Result<(), Refusal>,
     cell: &mut [u32],
     first: &mut [u32],
     span: &mut [u32],
     row: &mut [u32],
     row_end: &mut [u32],
-) -> Gridded
-    requires { asked ≡ Accepted → GridRoom cell.old first.old span.old row.old row_end.old }
-    ensures { GridFound (early asked ∷ open_checks true sheet.now line) sheet.now line result
+) -> Result<Grid, Refusal>
+    requires { asked ≡ Ok tt → GridRoom cell.old first.old span.old row.old row_end.old }
+    ensures { GridFound (early asked ∷ open_checks (Some line) sheet.now) sheet.now line result
         cell.new first.new span.new row.new row_end.new }
 {
-    match asked {
-        Verdict::Refused { number, line: at } => Gridded::Refused { number, line: at },
-        Verdict::Accepted => {
-            arrays::grid_within(false, sheet, line, cell, first, span, row, row_end)
-        }
-    }
+    asked?;
+    arrays::grid_within(sheet, line, cell, first, span, row, row_end)
 }
 
 // The grid of the table in a line: the line, the first column and the span of each entry, and the line and the end of each row.
@@ -75,7 +64,7 @@ pub fn grid(
     span: &mut [u32],
     row: &mut [u32],
     row_end: &mut [u32],
-) -> Gridded
+) -> Result<Grid, Refusal>
     ensures { GridAnswer sheet.now line
         cell.old first.old span.old row.old row_end.old result
         cell.new first.new span.new row.new row_end.new }

@@ -5,16 +5,16 @@ ghost use Rattle.records.specs.Kept.{entries_of, rows_of};
 ghost use Rattle.sheet_figures.specs.inner.Opened.{AskedIn, MostIn};
 ghost use Rattle.call_grid.specs.inner.Made.{answer_of, GridMade, GridFits, GridTold};
 
-use answers::Gridded;
+use answers::Grid;
 use gridding::Counts;
-use sheet::Reading;
+use lists::Refusal;
 
 // A grid's counts as the call answers them.
-fn answer_of(counts: Counts) -> Gridded
+fn answer_of(counts: Counts) -> Grid
     requires { (counts.entries ≤ max_entries) × (counts.rows ≤ max_lines) × (counts.columns ≤ max_position) }
     ensures { result ≡ answer_of counts }
 {
-    Gridded::Grid {
+    Grid {
         rows: counts.rows as u32,
         entries: counts.entries as u32,
         columns: counts.columns as u32,
@@ -23,25 +23,21 @@ fn answer_of(counts: Counts) -> Gridded
 
 // The grid as records, or the refusal. The sheet's lines are the first records.
 pub fn make_read(
-    read: Reading,
+    read: Result<usize, Refusal>,
     line: u32,
     lines: &[u32],
     entries: &mut [u32],
     rows: &mut [u32],
-) -> Gridded
+) -> Result<Grid, Refusal>
     requires asked_in { AskedIn read lines.now line }
     requires most_in { MostIn read lines.now line (length entries.old / 3) (length rows.old / 2) }
     ensures { GridMade read lines.now line result (entries_of entries.new) (rows_of rows.new) }
 {
-    match read {
-        Reading::Refused { number, line: at } => Gridded::Refused { number, line: at },
-        Reading::Lines(n) => {
-            let end = records::WIDTH * n;
-            let at = (line - 1) as usize;
-            let counts = grid_plain::make(&lines[..end], at, entries, rows);
-            answer_of(counts)
-        }
-    }
+    let n = read?;
+    let end = records::WIDTH * n;
+    let at = (line - 1) as usize;
+    let counts = grid_plain::make(&lines[..end], at, entries, rows);
+    Ok(answer_of(counts))
 }
 
 // The figures of n entries and r rows of a grid, each to its buffer.

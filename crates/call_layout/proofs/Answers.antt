@@ -1,4 +1,7 @@
 -- `layout`: what is found in the sheet is what the call answers and leaves, and of it the third demand holds. Assumes nothing.
+use Rattle.answers.specs.declared.Layout.{Layout}
+use Rattle.lists.specs.declared.Refusal.{Refusal}
+use Rattle.std.specs.Prelude.{Err, Ok, Result, Some}
 use mathlib.Core.Path.{◌≡◌, refl, sym, ◌∙◌}
 use mathlib.Core.Bool.{true, false, ◌||◌}
 use mathlib.Core.List.{List, [], ◌∷◌}
@@ -10,28 +13,24 @@ use borrow.Author.Tests.{ltb-false}
 use Rattle.lists.specs.Lists.{padded}
 use Rattle.lists.specs.Limits.{max_lines, max_entries, max_wrap, max_width}
 use Rattle.lists.specs.Refusals.{Check, first_answer, verdict_of, passes, if_passes}
-use Rattle.lists.specs.declared.Verdict.{Verdict}
-use Rattle.lists.specs.declared.Verdict.TheVariants.{Accepted, Refused as Refuses}
 use Rattle.sheet.proofs.First.{neither}
-use Rattle.opening.specs.Opening.{asked, open_checks}
+use Rattle.opening.specs.Opening.{after_reading, open_checks}
 use Rattle.table.specs.inner.Asked.{OutRoom}
 use Rattle.call_layout.specs.inner.Found.{columns_in, entries_in, InRange, LayoutFound}
 use Rattle.arguments.specs.declared.Settings.{Settings}
 use Rattle.arguments.specs.Arguments.{any_shorter, layout_arguments}
 use Rattle.call_layout.specs.Layout.{layout_checks, laid_out_of, LayoutAnswer}
 use Rattle.sheet_figures.specs.inner.Early.{early}
-use Rattle.answers.specs.declared.LaidOut.{LaidOut}
-use Rattle.answers.specs.declared.LaidOut.TheVariants.{Refused}
 use Rattle.arguments.proofs.Shorter.{two_fit, or_false}
 use Rattle.sheet_figures.proofs.Early.{early_nines, none_nines, fits, leaving}
 
 -- ---- before the sheet is read
 
 -- refused for the arguments
-pub layout_early : (number at : ℕ) (cs : List Check) (s : List ℕ) (line : ℕ) (g : Settings) (column x wide : List ℕ)
-    → LayoutFound (early (Refuses number at) ∷ cs) s line g (Refused number at) column x wide
+pub layout_early : (why : Refusal) (cs : List Check) (s : List ℕ) (line : ℕ) (g : Settings) (column x wide : List ℕ)
+    → LayoutFound (early (Err why) ∷ cs) s line g (Err why) column x wide
 unfolding first_answer early passes if_passes columns_in entries_in
-layout_early number at cs s line g column x wide =
+layout_early why cs s line g column x wide =
     record {
       answer = refl;
       few_columns = omega arith;
@@ -43,7 +42,7 @@ layout_early number at cs s line g column x wide =
     }
 
 -- not refused for the arguments
-pub layout_late : {v : Verdict} {cs : List Check} {s : List ℕ} {line : ℕ} {g : Settings} {r : LaidOut} {column x wide : List ℕ} → v ≡ Accepted
+pub layout_late : {v : Result (Unit {0}) Refusal} {cs : List Check} {s : List ℕ} {line : ℕ} {g : Settings} {r : Result Layout Refusal} {column x wide : List ℕ} → v ≡ (Ok tt)
     → LayoutFound cs s line g r column x wide → LayoutFound (early v ∷ cs) s line g r column x wide
 unfolding first_answer early passes if_passes
 layout_late z f =
@@ -64,7 +63,7 @@ abbrev pub settings : ℕ → ℕ → ℕ → Settings
 settings wrap raw width = record { wrap = wrap; raw = raw; width = width; overflow = 0 }
 
 -- where the arguments are not refused, each lent buffer has room for a layout
-fit : (wrap raw width : ℕ) (v : Verdict) (a b c : ℕ) → v ≡ verdict_of (layout_arguments wrap raw width (a ∷ []) (b ∷ c ∷ [])) → v ≡ Accepted
+fit : (wrap raw width : ℕ) (v : Result (Unit {0}) Refusal) (a b c : ℕ) → v ≡ verdict_of (layout_arguments wrap raw width (a ∷ []) (b ∷ c ∷ [])) → v ≡ (Ok tt)
     → (max_lines ≤ a) × (max_entries ≤ b) × (max_entries ≤ c)
 unfolding any_shorter
 fit wrap raw width v a b c judged z =
@@ -72,53 +71,53 @@ fit wrap raw width v a b c judged z =
     let (f, g) = two_fit max_entries b c q in
     (ltb-false a max_lines (sym (or_false (ltb a max_lines)) ∙ p), f, g)
 
-pub layout_fit : (wrap raw width : ℕ) (v : Verdict) (column x wide : List ℕ)
-    → v ≡ verdict_of (layout_arguments wrap raw width (length column ∷ []) (length x ∷ length wide ∷ [])) → v ≡ Accepted → OutRoom column x wide
+pub layout_fit : (wrap raw width : ℕ) (v : Result (Unit {0}) Refusal) (column x wide : List ℕ)
+    → v ≡ verdict_of (layout_arguments wrap raw width (length column ∷ []) (length x ∷ length wide ∷ [])) → v ≡ (Ok tt) → OutRoom column x wide
 layout_fit wrap raw width v column x wide judged z =
     let (a, b, c) = fit wrap raw width v (length column) (length x) (length wide) judged z in
     record { column_room = a; x_room = b; wide_room = c }
 
-module _ {s : List ℕ} {line wrap raw width : ℕ} {v : Verdict} {a b c : ℕ} {r : LaidOut} {column x wide : List ℕ}
+module _ {s : List ℕ} {line wrap raw width : ℕ} {v : Result (Unit {0}) Refusal} {a b c : ℕ} {r : Result Layout Refusal} {column x wide : List ℕ}
     (judged : v ≡ verdict_of (layout_arguments wrap raw width (a ∷ []) (b ∷ c ∷ [])))
-    (found : LayoutFound (early v ∷ open_checks true s line) s line (settings wrap raw width) r column x wide) where
+    (found : LayoutFound (early v ∷ open_checks (Some line) s) s line (settings wrap raw width) r column x wide) where
   -- and so for the figures
   pub layout_rooms : (columns_in r ≤ a) × (entries_in r ≤ b) × (entries_in r ≤ c)
   unfolding columns_in entries_in
   layout_rooms =
       let f = fit wrap raw width v a b c judged in
-      let g : (room : ℕ) → (v ≡ Accepted → max_entries ≤ room) → entries_in r ≤ room =
-      λ room. fits Refused _ entries_in (λ n l. refl) v (open_checks true s line) r max_entries room found.answer found.few_entries in (
-        fits Refused _ columns_in (λ n l. refl) v (open_checks true s line) r max_lines a found.answer found.few_columns (λ z. (f z).0),
+      let g : (room : ℕ) → (v ≡ (Ok tt) → max_entries ≤ room) → entries_in r ≤ room =
+      λ room. fits Err _ entries_in (λ why. refl) v (open_checks (Some line) s) r max_entries room found.answer found.few_entries in (
+        fits Err _ columns_in (λ why. refl) v (open_checks (Some line) s) r max_lines a found.answer found.few_columns (λ z. (f z).0),
         g b (λ z. (f z).1),
         g c (λ z. (f z).2),
       )
 
 -- settings that are not refused are in their ranges
-pub in_range : (wrap raw width : ℕ) (v : Verdict) (columns entries : List ℕ) → v ≡ verdict_of (layout_arguments wrap raw width columns entries) → v ≡ Accepted
+pub in_range : (wrap raw width : ℕ) (v : Result (Unit {0}) Refusal) (columns entries : List ℕ) → v ≡ verdict_of (layout_arguments wrap raw width columns entries) → v ≡ (Ok tt)
     → InRange (settings wrap raw width)
 in_range wrap raw width v columns entries judged z =
     let (p, q) = neither (ltb max_wrap wrap || ltb 1 raw) (ltb max_width width) (none_nines _ _ (sym judged ∙ z)).0 in
     let (o, l) = neither (ltb max_wrap wrap) (ltb 1 raw) p in
     record { raw = ltb-false 1 raw l; width = omega (arith, ltb-false max_width width q) }
 
-module _ {s : List ℕ} {line wrap raw width : ℕ} {v : Verdict} {column₀ x₀ wide₀ : List ℕ} {r : LaidOut} {column x wide : List ℕ}
+module _ {s : List ℕ} {line wrap raw width : ℕ} {v : Result (Unit {0}) Refusal} {column₀ x₀ wide₀ : List ℕ} {r : Result Layout Refusal} {column x wide : List ℕ}
     (judged : v ≡ verdict_of (layout_arguments wrap raw width (length column₀ ∷ []) (length x₀ ∷ length wide₀ ∷ [])))
-    (found : LayoutFound (early v ∷ open_checks true s line) s line (settings wrap raw width) r column x wide) where
+    (found : LayoutFound (early v ∷ open_checks (Some line) s) s line (settings wrap raw width) r column x wide) where
   pub layout_answered : {n m : ℕ} {a b c : List ℕ} → n ≡ columns_in r → m ≡ entries_in r
       → length column ≡ length column₀ → length x ≡ length x₀ → length wide ≡ length wide₀
       → a ≡ padded (length column) (take n column) → b ≡ padded (length x) (take m x) → c ≡ padded (length wide) (take m wide)
       → LayoutAnswer s line wrap raw width column₀ x₀ wide₀ r a b c
-  unfolding laid_out_of asked passes if_passes
+  unfolding laid_out_of after_reading passes if_passes
   layout_answered k l ka kb kc a b c =
-      let f : (xs : List ℕ) → first_answer (λ number line. []) xs (early v ∷ open_checks true s line) ≡ first_answer (λ number line. []) xs (layout_checks s line wrap raw width (length column₀ ∷ []) (length x₀ ∷ length wide₀ ∷ [])) =
-      λ xs. early_nines (λ number line. []) xs v (open_checks true s line) _ _ judged in
+      let f : (xs : List ℕ) → first_answer (λ why. []) xs (early v ∷ open_checks (Some line) s) ≡ first_answer (λ why. []) xs (layout_checks s line wrap raw width (length column₀ ∷ []) (length x₀ ∷ length wide₀ ∷ [])) =
+      λ xs. early_nines (λ why. []) xs v (open_checks (Some line) s) _ _ judged in
       record {
-        answer = found.answer ∙ early_nines Refused _ v (open_checks true s line) _ _ judged;
+        answer = found.answer ∙ early_nines Err _ v (open_checks (Some line) s) _ _ judged;
         left =
             record {
               widths = leaving column₀ column (f _) k ka a found.widths;
               xs = leaving x₀ x (f _) l kb b found.xs;
               wides = leaving wide₀ wide (f _) l kc c found.wides;
-              promised = λ q. found.promised (early_nines (λ number line. false) true v (open_checks true s line) _ _ judged ∙ q);
+              promised = λ q. found.promised (early_nines (λ why. false) true v (open_checks (Some line) s) _ _ judged ∙ q);
             };
       }

@@ -1,6 +1,9 @@
 -- The layout of the table in a line of a sheet that was read is the one asked for. Assumes nothing.
+use Rattle.answers.specs.Answers.{layout_with}
+use Rattle.answers.specs.declared.Layout.{Layout}
+use Rattle.lists.specs.declared.Refusal.{Refusal}
+use Rattle.std.specs.Prelude.{Err, Ok, Result, None, Some}
 use mathlib.Core.Path.{◌≡◌, refl, sym, ap, ◌∙◌}
-use mathlib.Core.Bool.{true}
 use mathlib.Core.List.{List}
 use Prim.Native.Nat.{ℕ, ◌+◌, ◌-◌, ◌*◌, ◌≤◌}
 use native.Mathlib.Omega.{arith}
@@ -13,8 +16,6 @@ use Rattle.records.specs.declared.Kept.{Kept}
 use Rattle.records.specs.declared.Entry.{Entry}
 use Rattle.records.specs.declared.Row.{Row}
 use Rattle.records.proofs.Kepts.{kepts_take}
-use Rattle.sheet.specs.declared.Reading.{Reading}
-use Rattle.sheet.specs.declared.Reading.TheVariants as reading
 use Rattle.sheet.proofs.First.{first_passes, figures_fail, front_pass}
 use Rattle.cells.specs.Cells as cells
 use Rattle.cells.specs.Listed.{table_rows}
@@ -25,14 +26,12 @@ use Rattle.opening.specs.Opening.{open_checks}
 use Rattle.table.specs.Arranging.{ArrangedAt}
 use Rattle.table.specs.declared.Arrangement.{Arrangement}
 use Rattle.table.specs.inner.Asked.{Asked, OutRoom}
-use Rattle.answers.specs.declared.LaidOut.{LaidOut}
-use Rattle.answers.specs.declared.LaidOut.TheVariants.{Layout, Refused}
 use Rattle.sheet_figures.specs.Figures.{rows_at, columns_at}
 use Rattle.sheet_figures.specs.inner.Opened.{LinesOf}
 use Rattle.sheet_figures.proofs.Openings.{failed, told, opened_passed, opened_apt}
 use Rattle.call_layout.specs.inner.Found.{columns_in, entries_in, LayoutFound, LayoutTried}
 use Rattle.call_layout.specs.inner.Read.{LayoutMade, answer_of, LayoutRead}
-use Rattle.call_layout.specs.declared.arrays.Tried.TheVariants.{Found, Larger}
+use Rattle.std.specs.Prelude.{Some, None}
 
 -- buffers that are as long as they were have the same room
 pub out_still : {column column' x x' wide wide' : List ℕ} → length column' ≡ length column → length x' ≡ length x → length wide' ≡ length wide
@@ -62,19 +61,19 @@ table_few m = (omega (arith, m.entries_are, m.few_entries), omega (arith, m.colu
 
 -- ---- the first records
 
-module _ {read : Reading} {lines : List ℕ} {line : ℕ} {figures : List Estimate} {raw width : ℕ} {column x wide : List ℕ} where
-  pub layout_refused : {number at : ℕ} → read ≡ reading.Refused number at → LayoutRead read lines line figures raw width (Refused number at) column x wide
+module _ {read : Result ℕ Refusal} {lines : List ℕ} {line : ℕ} {figures : List Estimate} {raw width : ℕ} {column x wide : List ℕ} where
+  pub layout_refused : {why : Refusal} → read ≡ Err why → LayoutRead read lines line figures raw width (Err why) column x wide
   layout_refused e = record {
-    refused = λ n l f. let z = sym e ∙ f in cc;
+    refused = λ why f. let z = sym e ∙ f in cc;
     arranged = λ n f. let z : ◌≡◌ {A = ℕ} 0 1 = cc in absurd (omega arith);
     answer = λ n f. let z : ◌≡◌ {A = ℕ} 0 1 = cc in absurd (omega arith);
     made = λ n f. let z : ◌≡◌ {A = ℕ} 0 1 = cc in absurd (omega arith);
   }
 
-  pub layout_read : {a : Arrangement} {r : LaidOut} {n : ℕ} → read ≡ reading.Lines n → n ≤ kept_count lines
-      → LayoutMade (kepts_of (take (2 * n) lines)) line figures raw width a column x wide → r ≡ answer_of a → LayoutRead read lines line figures raw width r column x wide
+  pub layout_read : {a : Arrangement} {r : Result Layout Refusal} {n : ℕ} → read ≡ Ok n → n ≤ kept_count lines
+      → LayoutMade (kepts_of (take (2 * n) lines)) line figures raw width a column x wide → r ≡ Ok (answer_of a) → LayoutRead read lines line figures raw width r column x wide
   layout_read {a} {r} {n} e h m q = record {
-    refused = λ number l f. let z : ◌≡◌ {A = ℕ} 0 1 = cc in absurd (omega arith);
+    refused = λ why f. let z : ◌≡◌ {A = ℕ} 0 1 = cc in absurd (omega arith);
     arranged = λ k f. a;
     answer = λ k f. q;
     made = λ k f.
@@ -84,27 +83,27 @@ module _ {read : Reading} {lines : List ℕ} {line : ℕ} {figures : List Estima
 
 -- ---- the layout asked for
 
-module _ {s : List ℕ} {line : ℕ} (g : Settings) {read : Reading} {lines : List ℕ} {figures : List Estimate} (w : LinesOf s line g.wrap read lines figures)
-    (low : g.raw ≤ 1) {r : LaidOut} {column x wide : List ℕ} (f : LayoutRead read lines line figures g.raw g.width r column x wide) where
+module _ {s : List ℕ} {line : ℕ} (g : Settings) {read : Result ℕ Refusal} {lines : List ℕ} {figures : List Estimate} (w : LinesOf s line g.wrap read lines figures)
+    (low : g.raw ≤ 1) {r : Result Layout Refusal} {column x wide : List ℕ} (f : LayoutRead read lines line figures g.raw g.width r column x wide) where
   abbrev cs : List Check
-  cs = open_checks true s line
+  cs = open_checks (Some line) s
 
   pub layout_found : LayoutFound cs s line g r column x wide
   unfolding columns_in entries_in
   layout_found = at read refl
     where
-      at : (q : Reading) → read ≡ q → LayoutFound cs s line g r column x wide
-      at (reading.Lines n) e =
+      at : (q : Result ℕ Refusal) → read ≡ q → LayoutFound cs s line g r column x wide
+      at (Ok n) e =
           let p = (opened_passed w.opened n e).all in
           let m = rw (w.opened.holds n e) at (f.made n e) in
           let b = (opened_apt w.opened n e).from_one in
           let k : line - 1 + 1 ≡ line = omega arith in
           let l = rw k at (m.laid g.wrap (record { cells = (w.measured n e).cells })) in
-          let z = f.answer n e ∙ (λ i. Layout (l.way_is i) (m.entries_are i) (m.columns_are i) (l.width_is i)) in
+          let z = f.answer n e ∙ (λ i. Ok (layout_with (l.way_is i) (m.entries_are i) (m.columns_are i) (l.width_is i))) in
           let i : entries_in r ≡ length (entries_of (rows_at s line)) = ap entries_in z in
           let j : columns_in r ≡ columns_at s line = ap columns_in z in
           record {
-            answer = z ∙ sym (first_passes Refused _ cs p);
+            answer = z ∙ sym (first_passes Err _ cs p);
             few_columns = omega (arith, m.few_columns);
             few_entries = omega (arith, m.few_entries);
             widths = front_pass column cs p j l.column_is;
@@ -112,12 +111,12 @@ module _ {s : List ℕ} {line : ℕ} (g : Settings) {read : Reading} {lines : Li
             wides = front_pass wide cs p i l.wides_are;
             promised = λ _. l.promised low;
           }
-      at (reading.Refused number l) e =
+      at (Err why) e =
           let o = sym w.opened.answer ∙ e in
-          let p = failed true s line number l o in
-          rw (f.refused number l e)
+          let p = failed (Some line) s why o in
+          rw (f.refused why e)
           (record {
-            answer = sym (told true s line Refused _ number l o);
+            answer = sym (told (Some line) s Err _ why o);
             few_columns = omega arith;
             few_entries = omega arith;
             widths = sym (figures_fail cs _ p);
@@ -126,9 +125,9 @@ module _ {s : List ℕ} {line : ℕ} (g : Settings) {read : Reading} {lines : Li
             promised = λ q. let z : ◌≡◌ {A = ℕ} 0 1 = cc in absurd (omega arith);
           })
 
-pub layout_tried : {cs : List Check} {s : List ℕ} {line : ℕ} {g : Settings} {r : LaidOut} {column x wide : List ℕ} → LayoutFound cs s line g r column x wide
-    → LayoutTried cs s line g (Found r) column x wide
+pub layout_tried : {cs : List Check} {s : List ℕ} {line : ℕ} {g : Settings} {r : Result Layout Refusal} {column x wide : List ℕ} → LayoutFound cs s line g r column x wide
+    → LayoutTried cs s line g (Some r) column x wide
 layout_tried {cs} {s} {line} {g} {r} {column} {x} {wide} f = record { found = λ q e. let z : r ≡ q = cc in rw (← z) f }
 
-pub layout_larger : {cs : List Check} {s : List ℕ} {line : ℕ} {g : Settings} {column x wide : List ℕ} → LayoutTried cs s line g Larger column x wide
+pub layout_larger : {cs : List Check} {s : List ℕ} {line : ℕ} {g : Settings} {column x wide : List ℕ} → LayoutTried cs s line g None column x wide
 layout_larger = record { found = λ q e. let z : ◌≡◌ {A = ℕ} 0 1 = cc in absurd (omega arith) }

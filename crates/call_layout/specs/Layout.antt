@@ -1,12 +1,13 @@
 -- The call `layout`: its answer, and what stands in the lent buffers afterwards, refused calls included: the figures, then zeros.
 -- These are definitions; nothing is assumed.
-use Rattle.std.specs.Prelude.{◌≡◌, true, List, [], ◌∷◌, ◌++◌, map, ℕ, length}
+use Rattle.answers.specs.Answers.{layout_with}
+use Rattle.answers.specs.declared.Layout.{Layout}
+use Rattle.lists.specs.declared.Refusal.{Refusal}
+use Rattle.std.specs.Prelude.{◌≡◌, true, List, [], ◌∷◌, ◌++◌, map, ℕ, length, Err, Result, Ok}
 use Rattle.lists.specs.Refusals.{Check, first_answer, passes}
 use Rattle.arguments.specs.Arguments.{layout_arguments}
 use Rattle.grid.specs.Grid.{entries_of}
 use Rattle.placing.specs.Promise.{Promised}
-use Rattle.answers.specs.declared.LaidOut.{LaidOut}
-use Rattle.answers.specs.declared.LaidOut.TheVariants.{Layout, Refused}
 use Rattle.sheet_figures.specs.Figures.{x_of, width_of, rows_at, columns_at, boxes_at, way_at, widths_at, width_at, places_at}
 use Rattle.sheet_figures.specs.Calls.{asked_checks, leaves}
 
@@ -14,9 +15,9 @@ use Rattle.sheet_figures.specs.Calls.{asked_checks, leaves}
 abbrev pub layout_checks : List ℕ → ℕ → ℕ → ℕ → ℕ → List ℕ → List ℕ → List Check
 layout_checks s line wrap raw width columns entries = layout_arguments wrap raw width columns entries ++ asked_checks s line
 
-unfoldable pub laid_out_of : List ℕ → ℕ → ℕ → ℕ → ℕ → List ℕ → List ℕ → LaidOut
+unfoldable pub laid_out_of : List ℕ → ℕ → ℕ → ℕ → ℕ → List ℕ → List ℕ → Result Layout Refusal
 laid_out_of s line wrap raw width columns entries =
-    first_answer Refused (Layout (way_at s line wrap raw width) (length (entries_of (rows_at s line))) (columns_at s line) (width_at s line wrap raw width))
+    first_answer Err (Ok (layout_with (way_at s line wrap raw width) (length (entries_of (rows_at s line))) (columns_at s line) (width_at s line wrap raw width)))
     (layout_checks s line wrap raw width columns entries)
 
 -- the lengths of the buffers that are lent for a layout's columns, and for its entries
@@ -37,6 +38,6 @@ abbrev pub LayoutBuffers : (s : List ℕ) (line wrap raw width : ℕ) (column₀
 LayoutBuffers s line wrap raw width column₀ x₀ wide₀ column x wide =
     LayoutLeft (layout_checks s line wrap raw width (for_columns column₀) (for_places x₀ wide₀)) s line wrap raw width column₀ x₀ wide₀ column x wide
 
-pub record LayoutAnswer (s : List ℕ) (line wrap raw width : ℕ) (column₀ x₀ wide₀ : List ℕ) (r : LaidOut) (column x wide : List ℕ) : Type 0 where
+pub record LayoutAnswer (s : List ℕ) (line wrap raw width : ℕ) (column₀ x₀ wide₀ : List ℕ) (r : Result Layout Refusal) (column x wide : List ℕ) : Type 0 where
   pub answer : r ≡ laid_out_of s line wrap raw width (for_columns column₀) (for_places x₀ wide₀)
   pub left : LayoutBuffers s line wrap raw width column₀ x₀ wide₀ column x wide

@@ -5,45 +5,36 @@
 mod arrays; // the arrays to work in, by the size of the sheet
 pub mod read; // the table in a line of a sheet that was read
 
-ghost use Rattle.std.specs.Prelude.{◌≡◌, true, ◌∷◌};
-ghost use Rattle.lists.specs.declared.Verdict.TheVariants.{Accepted};
+ghost use Rattle.std.specs.Prelude.{◌≡◌, true, ◌∷◌, Some};
 ghost use Rattle.table.specs.inner.Asked.{OutRoom};
 ghost use Rattle.opening.specs.Opening.{open_checks};
 ghost use Rattle.sheet_figures.specs.inner.Early.{early};
 ghost use Rattle.call_layout.specs.Layout.{LayoutAnswer};
 ghost use Rattle.call_layout.specs.inner.Found.{columns_in, entries_in, InRange, LayoutFound};
 
-use answers::LaidOut;
+use answers::Layout;
 use arguments::Settings;
-use lists::Verdict;
+use lists::Refusal;
 
 // How many columns the table has; 0 if the call is refused.
-fn column_count(found: LaidOut) -> usize
+#[tactic(auto, unfolding(crate::specs::inner::Found::columns_in))]
+fn column_count(found: Result<Layout, Refusal>) -> usize
     ensures { result ≡ columns_in found }
 {
     match found {
-        LaidOut::Layout {
-            way: _,
-            entries: _,
-            columns: n,
-            width: _,
-        } => n as usize,
-        LaidOut::Refused { number: _, line: _ } => 0,
+        Ok(layout) => layout.columns as usize,
+        Err(_) => 0,
     }
 }
 
 // How many entries it has.
-fn entry_count(found: LaidOut) -> usize
+#[tactic(auto, unfolding(crate::specs::inner::Found::entries_in))]
+fn entry_count(found: Result<Layout, Refusal>) -> usize
     ensures { result ≡ entries_in found }
 {
     match found {
-        LaidOut::Layout {
-            way: _,
-            entries: n,
-            columns: _,
-            width: _,
-        } => n as usize,
-        LaidOut::Refused { number: _, line: _ } => 0,
+        Ok(layout) => layout.entries as usize,
+        Err(_) => 0,
     }
 }
 
@@ -52,19 +43,17 @@ fn find_layout(
     sheet: &[u8],
     line: u32,
     settings: Settings,
-    asked: Verdict,
+    asked: Result<(), Refusal>,
     column: &mut [u32],
     x: &mut [u32],
     wide: &mut [u32],
-) -> LaidOut
-    requires { asked ≡ Accepted → InRange settings × OutRoom column.old x.old wide.old }
-    ensures { LayoutFound (early asked ∷ open_checks true sheet.now line) sheet.now line settings result
+) -> Result<Layout, Refusal>
+    requires { asked ≡ Ok tt → InRange settings × OutRoom column.old x.old wide.old }
+    ensures { LayoutFound (early asked ∷ open_checks (Some line) sheet.now) sheet.now line settings result
         column.new x.new wide.new }
 {
-    match asked {
-        Verdict::Refused { number, line: at } => LaidOut::Refused { number, line: at },
-        Verdict::Accepted => arrays::layout_within(false, sheet, line, settings, column, x, wide),
-    }
+    asked?;
+    arrays::layout_within(sheet, line, settings, column, x, wide)
 }
 
 // The layout of the table in a line: the width of each column, and the place and the width of each entry.
@@ -77,17 +66,17 @@ pub fn layout(
     column: &mut [u32],
     x: &mut [u32],
     wide: &mut [u32],
-) -> LaidOut
+) -> Result<Layout, Refusal>
     ensures { LayoutAnswer sheet.now line wrap raw width
         column.old x.old wide.old result column.new x.new wide.new }
 {
-    let asked = arguments::of_layout(wrap, raw, width, column.len(), x.len(), wide.len());
     let settings = Settings {
         wrap,
         raw,
         width,
         overflow: 0,
     };
+    let asked = arguments::of_layout(settings, column.len(), x.len(), wide.len());
     let found = find_layout(sheet, line, settings, asked, column, x, wide);
     let n = column_count(found);
     let m = entry_count(found);

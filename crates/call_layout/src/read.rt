@@ -6,18 +6,18 @@ ghost use Rattle.table.specs.inner.Asked.{OutRoom};
 ghost use Rattle.sheet_figures.specs.inner.Opened.{AskedIn, MostIn, MeasuredIn};
 ghost use Rattle.call_layout.specs.inner.Read.{answer_of, LayoutRead};
 
-use answers::LaidOut;
-use sheet::Reading;
+use answers::Layout;
+use lists::Refusal;
 
 // An arrangement as the call answers it.
-fn answer_of(a: table::Arrangement) -> LaidOut
+fn answer_of(a: table::Arrangement) -> Layout
     requires { (a.counts.entries ≤ max_entries) × (a.counts.columns ≤ max_position) }
     ensures { result ≡ answer_of a }
 {
     let counts = a.counts;
     let laid = a.laid;
     let way = laid.way;
-    LaidOut::Layout {
+    Layout {
         way,
         entries: counts.entries as u32,
         columns: counts.columns as u32,
@@ -27,7 +27,7 @@ fn answer_of(a: table::Arrangement) -> LaidOut
 
 // The layout at a width, or the refusal. The sheet's lines are the first records; `entries` and `rows` are scratch.
 pub fn layout_read(
-    read: Reading,
+    read: Result<usize, Refusal>,
     line: u32,
     lines: &[u32],
     figures: &[u32],
@@ -38,7 +38,7 @@ pub fn layout_read(
     column: &mut [u32],
     x: &mut [u32],
     wide: &mut [u32],
-) -> LaidOut
+) -> Result<Layout, Refusal>
     requires asked_in { AskedIn read lines.now line }
     requires most_in { MostIn read lines.now line (length entries.old / 3) (length rows.old / 2) }
     requires measured_in { MeasuredIn read lines.now line (figures_of figures.now) }
@@ -47,24 +47,20 @@ pub fn layout_read(
     ensures { LayoutRead read lines.now line (figures_of figures.now) raw width result
         column.new x.new wide.new }
 {
-    match read {
-        Reading::Refused { number, line: at } => LaidOut::Refused { number, line: at },
-        Reading::Lines(n) => {
-            let end = records::WIDTH * n;
-            let at = (line - 1) as usize;
-            let a = table::arrange(
-                &lines[..end],
-                figures,
-                at,
-                raw,
-                width,
-                entries,
-                rows,
-                column,
-                x,
-                wide,
-            );
-            answer_of(a)
-        }
-    }
+    let n = read?;
+    let end = records::WIDTH * n;
+    let at = (line - 1) as usize;
+    let a = table::arrange(
+        &lines[..end],
+        figures,
+        at,
+        raw,
+        width,
+        entries,
+        rows,
+        column,
+        x,
+        wide,
+    );
+    Ok(answer_of(a))
 }

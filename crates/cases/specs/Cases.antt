@@ -1,13 +1,11 @@
 -- The table of the cases that are asked to be proved, about the definitions, in the order in which they are asked. Assumes nothing.
-use Rattle.std.specs.Prelude.{◌≡◌, refl, true, false, List, [], ◌∷◌, ℕ}
+use Rattle.std.specs.Prelude.{◌≡◌, refl, true, false, List, [], ◌∷◌, ℕ, Ok}
 use Rattle.lists.specs.Lists.{sum, mem}
 use Rattle.lists.specs.Refusals.{verdict_of, first_answer}
-use Rattle.lists.specs.declared.Verdict.TheVariants.{Accepted}
 use Rattle.text.specs.Bytes.{class_of}
 use Rattle.text.specs.Text.{measure_of, text_size, readable, trim_start, trim_end, widths, runs, begins}
 use Rattle.text.specs.Decimal.{digits_in, digits, writing, plain}
 use Rattle.text.specs.Prefix.{last_number, ol_prefix}
-use Rattle.text.specs.declared.Measured.TheVariants.{Figures}
 use Rattle.kinds.specs.Names.{word, first_codes}
 use Rattle.edges.specs.Edges.{count_below, ends_from}
 use Rattle.cells.specs.Cells as cells
@@ -21,17 +19,17 @@ use Rattle.widths.specs.Widths.{way_of, final_widths, nonzero, table_width}
 use Rattle.answers.specs.declared.Way.TheVariants.{Sideways, Down}
 
 -- " a  b ", wrap 3: 4,3
-pub text_inner_run : measure_of (word " a  b ") 3 false ≡ Figures (record { size = 4; least = 3; prefix = 0 })
+pub text_inner_run : measure_of (word " a  b ") 3 false ≡ Ok (record { size = 4; least = 3; prefix = 0 })
 unfolding first_codes measure_of first_answer text_size class_of readable trim_start trim_end widths runs begins
 text_inner_run = refl
 
 -- "   ": 0,0
-pub text_spaces : measure_of (word "   ") 3 false ≡ Figures (record { size = 0; least = 0; prefix = 0 })
+pub text_spaces : measure_of (word "   ") 3 false ≡ Ok (record { size = 0; least = 0; prefix = 0 })
 unfolding first_codes measure_of first_answer text_size class_of readable trim_start trim_end widths runs begins
 text_spaces = refl
 
 -- img of nothing, wrap 3: 2,2
-pub img_nothing : measure_of [] 3 true ≡ Figures (record { size = 2; least = 2; prefix = 0 })
+pub img_nothing : measure_of [] 3 true ≡ Ok (record { size = 2; least = 2; prefix = 0 })
 unfolding measure_of first_answer text_size class_of readable trim_start trim_end widths runs begins
 img_nothing = refl
 
@@ -53,7 +51,7 @@ last_hangs = (cells.row 3 (cell 4 2 1 ∷ cell 5 1 2 ∷ []) ∷ []) ∷ []
 abbrev first_hangs : List (List cells.Row)
 first_hangs = (cells.row 3 (cell 4 1 2 ∷ cell 5 2 1 ∷ []) ∷ []) ∷ []
 
-pub last_accepted : verdict_of (table_checks 1 (resolved last_hangs)) ≡ Accepted
+pub last_accepted : verdict_of (table_checks 1 (resolved last_hangs)) ≡ (Ok tt)
 unfolding verdict_of first_answer table_checks ends_past entry_count originals sum row_from fillers later nexts hang_of resolved resolve_body fill_body resolve_row cut_body cut_row widest row_sum
 last_accepted = refl
 
@@ -61,7 +59,7 @@ pub last_ends : grid_of (resolved last_hangs) ≡ record { line = 3; entries = e
 unfolding grid_of originals entries_from ends_of ends_from count_below sum mem row_from fillers later nexts hang_of resolved resolve_body fill_body resolve_row cut_body cut_row widest row_sum
 last_ends = refl
 
-pub first_accepted : verdict_of (table_checks 1 (resolved first_hangs)) ≡ Accepted
+pub first_accepted : verdict_of (table_checks 1 (resolved first_hangs)) ≡ (Ok tt)
 unfolding verdict_of first_answer table_checks ends_past entry_count originals sum row_from fillers later nexts hang_of resolved resolve_body fill_body resolve_row cut_body cut_row widest row_sum
 first_accepted = refl
 

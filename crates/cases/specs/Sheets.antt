@@ -1,8 +1,9 @@
 -- Whole sheets from bytes to places, about the definitions, traced by hand. Assumes nothing.
-use Rattle.std.specs.Prelude.{◌≡◌, refl, List, [], ◌∷◌, ◌++◌, ℕ}
+use Rattle.lists.specs.declared.Reason.TheVariants.{Fields, NoExpression, OutOfBounds}
+use Rattle.std.specs.Prelude.{◌≡◌, refl, List, [], ◌∷◌, ◌++◌, ℕ, Err, Ok}
 use Prim.Native.String.{String}
 use Rattle.lists.specs.Lists.{sum, mem}
-use Rattle.lists.specs.Refusals.{verdict_of, first_answer, passes}
+use Rattle.lists.specs.Refusals.{verdict_of, first_answer, passes, refusal}
 use Rattle.text.specs.Bytes.{class_of}
 use Rattle.text.specs.Text.{text_size, readable, trim_start, trim_end, widths, runs, begins}
 use Rattle.text.specs.Decimal.{shifted, writing, digits, digits_in}
@@ -33,7 +34,6 @@ use Rattle.cutting.specs.Cut.{pick, cut_once, cut_by, cut}
 use Rattle.widths.specs.Share.{share, shares_of}
 use Rattle.widths.specs.Widths.{way_of, final_widths, nonzero, table_width}
 use Rattle.placing.specs.Place.{at, place_side, place_down, place_row, place_rows}
-use Rattle.lists.specs.declared.Verdict.TheVariants.{Accepted, Refused}
 use Rattle.answers.specs.declared.Way.TheVariants.{Down}
 use Rattle.opening.specs.Opening.{kept_lines}
 use Rattle.sheet_figures.specs.Figures.{way_at, widths_at, width_at, places_at}
@@ -116,13 +116,13 @@ deepest =
 -- what holds of the example at wrap 3 and width 9, of the survey at wrap 3 and several widths, of sums, and of lines in lines
 pub record Traced : Type 0 where
   -- it is accepted
-  pub example_accepted : verdict_of (check_checks example) ≡ Accepted
+  pub example_accepted : verdict_of (check_checks example) ≡ (Ok tt)
   -- its columns are 6 and 2
   pub example_widths : widths_at example 1 3 0 9 ≡ 6 ∷ 2 ∷ []
   -- its cells stand at 0 and 7
   pub example_places : places_at example 1 3 0 9 ≡ at 0 6 ∷ at 7 2 ∷ []
   -- it is accepted
-  pub survey_accepted : verdict_of (check_checks survey) ≡ Accepted
+  pub survey_accepted : verdict_of (check_checks survey) ≡ (Ok tt)
   -- with room the columns have their sizes
   pub survey_at_40 : widths_at survey 1 3 0 40 ≡ 4 ∷ 10 ∷ 8 ∷ 3 ∷ []
   -- and the table is 28 wide
@@ -138,16 +138,16 @@ pub record Traced : Type 0 where
   -- every entry at width 23, fillers included
   pub survey_places : places_at survey 1 3 0 23 ≡ at 0 3 ∷ at 4 16 ∷ at 0 3 ∷ at 4 8 ∷ at 13 10 ∷ at 0 12 ∷ []
   -- a sum worth 420: size 3, and at wrap 2 least 2
-  pub sum_accepted : verdict_of (check_checks (reckoned "(3+4)*120/2")) ≡ Accepted
+  pub sum_accepted : verdict_of (check_checks (reckoned "(3+4)*120/2")) ≡ (Ok tt)
   pub sum_measured : estimates 2 (kept_lines (reckoned "(3+4)*120/2")) ≡ estimate 3 2 0 ∷ []
   -- cut off, though a divisor in it is 0
-  pub sum_cut_off : verdict_of (check_checks (reckoned "1/0+")) ≡ Refused 13 1
+  pub sum_cut_off : verdict_of (check_checks (reckoned "1/0+")) ≡ Err (refusal NoExpression 1)
   -- a divisor of 0
-  pub sum_over_zero : verdict_of (check_checks (reckoned "1/0")) ≡ Refused 14 1
+  pub sum_over_zero : verdict_of (check_checks (reckoned "1/0")) ≡ Err (refusal OutOfBounds 1)
   -- depth 24 passes
-  pub depth_24_accepted : verdict_of (check_checks deepest) ≡ Accepted
+  pub depth_24_accepted : verdict_of (check_checks deepest) ≡ (Ok tt)
   -- one line deeper is refused for its depth, although nothing else is wrong with it
-  pub depth_25_refused : verdict_of (check_checks (deepest ++ line "25 div 0 0 0 ")) ≡ Refused 2 26
+  pub depth_25_refused : verdict_of (check_checks (deepest ++ line "25 div 0 0 0 ")) ≡ Err (refusal Fields 26)
 
 pub traced : Traced
 unfolding first_codes sum mem verdict_of first_answer passes class_of text_size readable trim_start trim_end widths runs begins shifted writing digits digits_in last_number ol_prefix same place kind_of may_hold feeds pieces headed all_digits value_from is_natural natural_of negative_of number_of until_blank then_number then_kind parse n_fits spans_fit text_fits fits read_parsed read_line own_size nearest depth_fits place_fits childless sheet_checks lines_checks lines_of empty_checks sheet_lines flat up_to sum_at largest_at count_below ends_from frame row_sum widest resolve_row resolve_body resolved table_rows fillers later row_from hang_of nexts originals ends_of entries_from longest grid_of columns_of ends_past entry_count table_checks tables_checks measured estimate_of leaf_of holder_of gather prefix_of box_of tabled pick cut_once cut_by cut share shares_of way_of final_widths nonzero table_width place_side place_down place_row place_rows result_of both digit total wanted operator inner opened closed step finish run answer_by answer_of written measure_by measure_of fill_body cut_body cut_row

@@ -1,33 +1,30 @@
 -- The loop that lists the missing entries: what stands in the first places, with what the rest of the entries gives, is what all give. Each entry of
 -- the rest is listed or passed. Assumes nothing.
 use mathlib.Core.Path.{◌≡◌, refl, sym, ap, ◌∙◌}
-use mathlib.Core.Bool.{Bool, true, false}
+use mathlib.Core.Bool.{Bool, true, false, cond, not, ◌&&◌}
+use lib.Dec.{eqb}
 use mathlib.Core.List.{List, [], ◌∷◌, ◌++◌, append_assoc, append-nil}
 use Prim.Native.Nat.{ℕ, suc, ◌+◌, ◌-◌, ◌≤◌, ◌<◌}
 use native.Mathlib.Numerals.{add-one}
 use native.Mathlib.Omega.{arith}
 use lib.ListN.{length, get_or, take, drop, set, length-map, length-set, get_or-map, drop_of_length-le}
 use lib.Seq.{drop-cons, take-suc-set, length-take-le}
-use borrow.Author.Tests.{ne_eqb}
 use Rattle.records.specs.Kept.{no_entry}
 use Rattle.records.specs.declared.Entry.{Entry}
 use Rattle.columns.specs.Boxes.{Box}
 use Rattle.placing.specs.inner.Rows.{bare_box, bare_boxes}
 use Rattle.causes.specs.inner.Hidden.{none_shown, hidden, hidden_from, Listable, Listed}
 
--- ---- whether a cause is 0, among those from i on
+-- ---- whether a cause is 0
 
-pub shown_here : (cs : List ℕ) (i : ℕ) → i < length cs → get_or cs i 0 ≡ 0 → none_shown (drop i cs) ≡ false
+-- the test of each, as std's `all` has it
+pub none_shown_more : (c : ℕ) (cs : List ℕ) → none_shown (c ∷ cs) ≡ (not (eqb c 0) && none_shown cs)
 unfolding none_shown
-shown_here cs i h z = rw (drop-cons cs i 0 h, z)
-
-pub shown_not_here : (cs : List ℕ) (i : ℕ) → i < length cs → (get_or cs i 0 ≡ 0 → ⊥) → none_shown (drop i cs) ≡ none_shown (drop (i + 1) cs)
-unfolding none_shown
-shown_not_here cs i h z = rw (add-one, drop-cons cs i 0 h, ne_eqb (get_or cs i 0) 0 z)
-
-pub shown_stop : (cs : List ℕ) (i : ℕ) → length cs ≤ i → none_shown (drop i cs) ≡ true
-unfolding none_shown
-shown_stop cs i h = rw (drop_of_length-le cs h)
+none_shown_more c cs = go (eqb c 0)
+  where
+    go : (t : Bool) → cond t false (none_shown cs) ≡ (not t && none_shown cs)
+    go true = refl
+    go false = refl
 
 -- ---- the entries
 

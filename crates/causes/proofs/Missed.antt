@@ -3,7 +3,7 @@
 use mathlib.Core.Path.{◌≡◌, refl, sym, ap, ap₂, ◌∙◌}
 use mathlib.Core.Bool.{Bool, true, false, cond}
 use mathlib.Core.List.{List, [], ◌∷◌, ◌++◌, map}
-use Prim.Native.Nat.{ℕ, zero, suc, ◌+◌, ◌-◌, ◌≤◌, ◌<◌}
+use Prim.Native.Nat.{ℕ, zero, suc, ◌+◌, ◌≤◌, ◌<◌}
 use native.Mathlib.Decide.{ℕ_discrete}
 use native.Mathlib.Omega.{arith}
 use lib.Dec.{eqb}
@@ -24,7 +24,7 @@ use Rattle.answers.specs.declared.Way.{Way}
 use Rattle.answers.specs.declared.Way.TheVariants.{Sideways, Down}
 use Rattle.widths.proofs.Whole.{way_raw, way_zero}
 use Rattle.widths.proofs.Laying.{final_down, length_final}
-use Rattle.placing.specs.Place.{Placed, at, across, place_down, place_row, place_rows}
+use Rattle.placing.specs.Place.{Placed, across, place_down, place_row, place_rows}
 use Rattle.placing.specs.inner.Rows.{own, next, bare_boxes}
 use Rattle.placing.proofs.Placing.{place_by, side_by, length_row, own_missing, missing_own}
 use Rattle.placing.proofs.Spread.{narrow_spread, spread_floor}

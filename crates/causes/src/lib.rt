@@ -15,44 +15,40 @@ use widths::Laid;
 
 // Shown is no cause: the column is not 0 wide. Of the others the first that holds is said: the page has width 0, the column is empty, its share is
 // too little for one character, its share was cut away.
-#[derive(Clone, Copy)]
+#[derive(Clone, Copy, Debug, PartialEq, Eq)]
 pub enum Cause {
-    Shown,
-    Empty,
-    Little,
-    Cut,
-    Page,
+    Shown = 0,
+    Empty = 1,
+    Little = 2,
+    Cut = 3,
+    Page = 4,
+}
+
+impl Cause {
+    // Its number.
+    #[tactic(auto, unfolding(crate::specs::Causes::cause_number))]
+    pub fn number(self) -> u32
+        ensures { result ≡ cause_number self }
+    {
+        self as u32
+    }
 }
 
 // The cause of a column with this size, share and final width.
+#[tactic(auto, unfolding(crate::specs::Causes::cause_of))]
 pub fn cause_of(width: u32, size: u32, share: u32, wide: u32) -> Cause
     ensures { result ≡ cause_of width size share wide }
 {
     if width == 0 {
-        return Cause::Page;
-    }
-    if wide > 0 {
-        return Cause::Shown;
-    }
-    if size == 0 {
-        return Cause::Empty;
-    }
-    if share == 0 {
-        return Cause::Little;
-    }
-    Cause::Cut
-}
-
-// Its number.
-pub fn number_of(cause: Cause) -> u32
-    ensures { result ≡ cause_number cause }
-{
-    match cause {
-        Cause::Shown => 0,
-        Cause::Empty => 1,
-        Cause::Little => 2,
-        Cause::Cut => 3,
-        Cause::Page => 4,
+        Cause::Page
+    } else if wide > 0 {
+        Cause::Shown
+    } else if size == 0 {
+        Cause::Empty
+    } else if share == 0 {
+        Cause::Little
+    } else {
+        Cause::Cut
     }
 }
 
@@ -81,11 +77,9 @@ pub fn write_causes(width: u32, sizes: &[u32], shares: &[u32], column: &[u32], c
     requires { Causable sizes.now shares.now column.now cause.old }
     ensures { cause.new ≡ up_to (length sizes.now) (number_at width sizes.now shares.now column.now) }
 {
-    let mut i = 0;
-    while i < sizes.len() {
-        let why = cause_of(width, sizes[i], shares[i], column[i]);
-        cause[i] = number_of(why);
-        i += 1;
+    for (i, size) in sizes.iter().enumerate() {
+        let why = cause_of(width, *size, shares[i], column[i]);
+        cause[i] = why.number();
     }
 }
 
@@ -93,14 +87,7 @@ pub fn write_causes(width: u32, sizes: &[u32], shares: &[u32], column: &[u32], c
 fn none_shown(cause: &[u32]) -> bool
     ensures { result ≡ none_shown cause.now }
 {
-    let mut i = 0;
-    while i < cause.len() {
-        if cause[i] == 0 {
-            return false;
-        }
-        i += 1;
-    }
-    true
+    cause.iter().all(|c| *c != 0)
 }
 
 // The numbers of the entries that are missing, each of whose columns has a cause, in the order of the grid, and how many there are.
@@ -108,19 +95,14 @@ pub fn list_missing(entries: &[u32], cause: &[u32], missing: &mut [u32]) -> usiz
     requires { Listable (entries_of entries.now) cause.now missing.old }
     ensures { Listed (entries_of entries.now) cause.now missing.new result }
 {
-    let count = entries.len() / 3;
     let mut n = 0;
-    let mut i = 0;
-    while i < count {
+    for i in 0..entries.len() / 3 {
         let e = records::entry_at(entries, i);
-        let from = lists::index(e.first);
-        let to = from + lists::index(e.span);
+        let from = e.first as usize;
+        let to = from + e.span as usize;
         if none_shown(&cause[from..to]) {
             missing[n] = i as u32;
             n += 1;
-            i += 1;
-        } else {
-            i += 1;
         }
     }
     n

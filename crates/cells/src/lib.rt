@@ -53,12 +53,8 @@ pub fn end_row(rows: &mut [u32], i: usize, end: u32)
     requires { i < length rows.old / 2 }
     ensures { RowEnded i end (row_lines_of rows.old) (row_ends_of rows.old) (row_lines_of rows.new) (row_ends_of rows.new) }
 {
-    let row = records::row_at(rows, i);
-    let ended = Row {
-        line: row.line,
-        end: end,
-    };
-    records::put_row(rows, i, ended);
+    let line = records::row_at(rows, i).line;
+    records::put_row(rows, i, Row { line, end });
 }
 
 // A row's sum: every cell's cols, 0 as 1. It is the sum in `num_columns` of `tbody_to_render_tree`.
@@ -67,11 +63,9 @@ fn row_sum(cells: &[u32]) -> u32
     ensures { result ≡ row_sum (bare (spans_of cells.now)) }
 {
     let mut sum: u32 = 0;
-    let mut i = 0;
-    while i < cells.len() / 3 {
+    for i in 0..cells.len() / 3 {
         let c = cell_at(cells, i);
-        sum += lists::larger(c.span, 1);
-        i += 1;
+        sum += c.span.max(1);
     }
     sum
 }
@@ -88,10 +82,11 @@ fn rows_within(rows: u32, left: u32) -> u32
     requires { left < max_lines }
     ensures { result ≡ taken left rows }
 {
-    if rows == 0 {
-        return left + 1;
+    if rows == 0 || left < rows {
+        left + 1
+    } else {
+        rows
     }
-    if left < rows { left + 1 } else { rows }
 }
 
 // Resolves a row's cells: puts `instead` in the place of each 0 of their cols, and cuts their rows to the rows that are left.
@@ -101,8 +96,7 @@ fn resolve_row(cells: &mut [u32], instead: u32, left: u32)
         (lines_of cells.old) (spans_of cells.old) (rowspans_of cells.old)
         (lines_of cells.new) (spans_of cells.new) (rowspans_of cells.new) }
 {
-    let mut i = 0;
-    while i < cells.len() / 3 {
+    for i in 0..cells.len() / 3 {
         let c = cell_at(cells, i);
         let resolved = Cell {
             line: c.line,
@@ -110,7 +104,6 @@ fn resolve_row(cells: &mut [u32], instead: u32, left: u32)
             rows: rows_within(c.rows, left),
         };
         put_cell(cells, i, resolved);
-        i += 1;
     }
 }
 
@@ -122,13 +115,11 @@ fn widest_row(cells: &[u32], rows: &[u32], first: usize) -> u32
 {
     let mut most: u32 = 0;
     let mut from = first;
-    let mut j = 0;
-    while j < rows.len() / 2 {
+    for j in 0..rows.len() / 2 {
         let row = records::row_at(rows, j);
         let to = row.end as usize;
-        most = lists::larger(most, row_sum(&cells[3 * from..3 * to]));
+        most = most.max(row_sum(&cells[3 * from..3 * to]));
         from = to;
-        j += 1;
     }
     most
 }
@@ -144,15 +135,13 @@ fn resolve_rows(cells: &mut [u32], rows: &[u32], first: usize, most: u32)
 {
     let count = rows.len() / 2;
     let mut from = first;
-    let mut j = 0;
-    while j < count {
+    for j in 0..count {
         let row = records::row_at(rows, j);
         let to = row.end as usize;
         let sum = row_sum(&cells[3 * from..3 * to]);
         let left = (count - j - 1) as u32;
         resolve_row(&mut cells[3 * from..3 * to], most - sum + 1, left);
         from = to;
-        j += 1;
     }
 }
 
@@ -173,11 +162,7 @@ fn resolve_body(cells: &mut [u32], rows: &[u32], from: usize, to: usize, first: 
 pub fn below(lines: &[u32], i: usize, d: u32) -> bool
     ensures { result ≡ ltb d (get_or (kepts_of lines.now) i no_kept).depth }
 {
-    if i < records::count(lines) {
-        let line = records::kept_at(lines, i);
-        return d < line.depth;
-    }
-    false
+    i < records::count(lines) && d < records::kept_at(lines, i).depth
 }
 
 // The row of the line at the place i, up to which there are n cells.
@@ -199,7 +184,7 @@ fn cell_of(i: usize, cols: u32, rows: u32) -> Cell
     Cell {
         line: (i + 1) as u32,
         span: cols,
-        rows: rows,
+        rows,
     }
 }
 
@@ -212,33 +197,29 @@ pub fn list_rows(lines: &[u32], at: usize, cells: &mut [u32], rows: &mut [u32]) 
         (lines_of cells.old) (spans_of cells.old) (rowspans_of cells.old) (row_lines_of rows.old) (row_ends_of rows.old)
         (lines_of cells.new) (spans_of cells.new) (rowspans_of cells.new) (row_lines_of rows.new) (row_ends_of rows.new) result.cells result.rows }
 {
-    let table = records::kept_at(lines, at);
-    let d = table.depth;
+    let d = records::kept_at(lines, at).depth;
     // the cells and the rows listed, and how many of them stand before the last body
     let mut n = 0;
     let mut r = 0;
     let mut first_cell = 0;
     let mut first_row = 0;
-    let mut i = at + 1;
-    while below(lines, i, d) {
+    for i in at + 1..records::count(lines) {
         let line = records::kept_at(lines, i);
         let e = line.depth;
+        if e <= d {
+            break;
+        }
         if e == d + 1 {
             resolve_body(cells, rows, first_row, r, first_cell);
             first_cell = n;
             first_row = r;
-            i += 1;
         } else if e == d + 2 {
             records::put_row(rows, r, row_of(i, n));
             r += 1;
-            i += 1;
         } else if e == d + 3 {
             put_cell(cells, n, cell_of(i, line.cols, line.rows));
             n += 1;
             end_row(rows, r - 1, n as u32);
-            i += 1;
-        } else {
-            i += 1;
         }
     }
     resolve_body(cells, rows, first_row, r, first_cell);

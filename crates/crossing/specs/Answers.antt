@@ -1,29 +1,17 @@
 -- What crosses to C, by the answer inside: number 0 and line 0 if the call is accepted, and the refusal with zeros if it is not.
 -- These are definitions; nothing is assumed.
-use Rattle.std.specs.Prelude.{Bool, not, ℕ, eqb}
-use Rattle.lists.specs.declared.Verdict.{Verdict}
-use Rattle.lists.specs.declared.Verdict.TheVariants as verdict
-use Rattle.text.specs.declared.Measured.{Measured}
-use Rattle.text.specs.declared.Measured.TheVariants as measured
-use Rattle.answers.specs.declared.Estimated.{Estimated}
-use Rattle.answers.specs.declared.Estimated.TheVariants as estimated
-use Rattle.answers.specs.declared.Gridded.{Gridded}
-use Rattle.answers.specs.declared.Gridded.TheVariants as gridded
-use Rattle.answers.specs.declared.LaidOut.{LaidOut}
-use Rattle.answers.specs.declared.LaidOut.TheVariants as laid_out
-use Rattle.answers.specs.declared.Explained.{Explained}
-use Rattle.answers.specs.declared.Explained.TheVariants as explained
-use Rattle.answers.specs.Numbers.{way_number, what_number, joint_number}
-use Rattle.answers.specs.declared.Pointed.{Pointed}
-use Rattle.answers.specs.declared.Pointed.TheVariants as pointed
-use Rattle.answers.specs.declared.Listed.{Listed}
-use Rattle.answers.specs.declared.Listed.TheVariants as listed
-use Rattle.answers.specs.declared.Joined.{Joined}
-use Rattle.answers.specs.declared.Joined.TheVariants as joined
-use Rattle.answers.specs.declared.Walked.{Walked}
-use Rattle.answers.specs.declared.Walked.TheVariants as walked
-use Rattle.answers.specs.declared.NestedLayout.{NestedLayout}
-use Rattle.answers.specs.declared.NestedLayout.TheVariants as nested
+use Rattle.std.specs.Prelude.{Bool, not, ℕ, eqb, Option, Some, None, Result, Ok, Err}
+use Rattle.lists.specs.declared.Refusal.{Refusal}
+use Rattle.lists.specs.Refusals.{reason_number}
+use Rattle.text.specs.declared.Estimate.{Estimate}
+use Rattle.answers.specs.Numbers.{way_number, under_number, joint_number}
+use Rattle.answers.specs.declared.Grid.{Grid}
+use Rattle.answers.specs.declared.Layout.{Layout}
+use Rattle.answers.specs.declared.Causes.{Causes}
+use Rattle.answers.specs.declared.Under.{Under}
+use Rattle.answers.specs.declared.Under.TheVariants.{Cell, Gap, Nothing}
+use Rattle.answers.specs.declared.Joint.{Joint}
+use Rattle.answers.specs.declared.Nested.{Nested}
 use Rattle.crossing.specs.declared.CheckResult.{CheckResult}
 use Rattle.crossing.specs.declared.MeasureResult.{MeasureResult}
 use Rattle.crossing.specs.declared.EstimatesResult.{EstimatesResult}
@@ -36,54 +24,54 @@ use Rattle.crossing.specs.declared.JoiningResult.{JoiningResult}
 use Rattle.crossing.specs.declared.WalkResult.{WalkResult}
 use Rattle.crossing.specs.declared.NestedResult.{NestedResult}
 
-unfoldable pub check_result : Verdict → CheckResult
-check_result verdict.Accepted = record { number = 0; line = 0 }
-check_result (verdict.Refused number line) = record { number = number; line = line }
-
 -- 0 is text or svg, any other number img
 abbrev pub as_img : ℕ → Bool
 as_img img = not (eqb img 0)
 
-unfoldable pub measure_result : Measured → MeasureResult
-measure_result (measured.Figures e) = record { number = 0; line = 0; size = e.size; least = e.least; prefix = e.prefix }
-measure_result (measured.Refused number line) = record { number = number; line = line; size = 0; least = 0; prefix = 0 }
+unfoldable pub check_result : Result (Unit {0}) Refusal → CheckResult
+check_result (Ok tt) = record { number = 0; line = 0 }
+check_result (Err why) = record { number = reason_number why.reason; line = why.line }
 
-unfoldable pub estimates_result : Estimated → EstimatesResult
-estimates_result (estimated.Lines n) = record { number = 0; line = 0; lines = n }
-estimates_result (estimated.Refused number line) = record { number = number; line = line; lines = 0 }
+unfoldable pub measure_result : Result Estimate Refusal → MeasureResult
+measure_result (Ok e) = record { number = 0; line = 0; size = e.size; least = e.least; prefix = e.prefix }
+measure_result (Err why) = record { number = reason_number why.reason; line = why.line; size = 0; least = 0; prefix = 0 }
 
-unfoldable pub grid_result : Gridded → GridResult
-grid_result (gridded.Grid rows entries columns) = record { number = 0; line = 0; rows = rows; entries = entries; columns = columns }
-grid_result (gridded.Refused number line) = record { number = number; line = line; rows = 0; entries = 0; columns = 0 }
+unfoldable pub estimates_result : Result ℕ Refusal → EstimatesResult
+estimates_result (Ok n) = record { number = 0; line = 0; lines = n }
+estimates_result (Err why) = record { number = reason_number why.reason; line = why.line; lines = 0 }
 
-unfoldable pub layout_result : LaidOut → LayoutResult
-layout_result (laid_out.Layout way entries columns width) = record { number = 0; line = 0; way = way_number way; columns = columns; width = width }
-layout_result (laid_out.Refused number line) = record { number = number; line = line; way = 0; columns = 0; width = 0 }
+unfoldable pub grid_result : Result Grid Refusal → GridResult
+grid_result (Ok g) = record { number = 0; line = 0; rows = g.rows; entries = g.entries; columns = g.columns }
+grid_result (Err why) = record { number = reason_number why.reason; line = why.line; rows = 0; entries = 0; columns = 0 }
 
-unfoldable pub missing_result : Explained → MissingResult
-missing_result (explained.Causes count columns) = record { number = 0; line = 0; count = count; columns = columns }
-missing_result (explained.Refused number line) = record { number = number; line = line; count = 0; columns = 0 }
+unfoldable pub layout_result : Result Layout Refusal → LayoutResult
+layout_result (Ok t) = record { number = 0; line = 0; way = way_number t.way; columns = t.columns; width = t.width }
+layout_result (Err why) = record { number = reason_number why.reason; line = why.line; way = 0; columns = 0; width = 0 }
 
-unfoldable pub at_result : Pointed → AtResult
-at_result (pointed.Cell entry) = record { number = 0; line = 0; what = what_number (pointed.Cell entry); entry = entry }
-at_result pointed.Gap = record { number = 0; line = 0; what = what_number pointed.Gap; entry = 0 }
-at_result pointed.Nothing = record { number = 0; line = 0; what = what_number pointed.Nothing; entry = 0 }
-at_result (pointed.Refused number line) = record { number = number; line = line; what = 0; entry = 0 }
+unfoldable pub missing_result : Result Causes Refusal → MissingResult
+missing_result (Ok t) = record { number = 0; line = 0; count = t.count; columns = t.columns }
+missing_result (Err why) = record { number = reason_number why.reason; line = why.line; count = 0; columns = 0 }
 
-unfoldable pub within_result : Listed → WithinResult
-within_result (listed.Entries count) = record { number = 0; line = 0; count = count }
-within_result (listed.Refused number line) = record { number = number; line = line; count = 0 }
+unfoldable pub at_result : Result (Under ℕ) Refusal → AtResult
+at_result (Ok (Cell entry)) = record { number = 0; line = 0; what = under_number (Cell entry); entry = entry }
+at_result (Ok Gap) = record { number = 0; line = 0; what = under_number {T = ℕ} Gap; entry = 0 }
+at_result (Ok Nothing) = record { number = 0; line = 0; what = under_number {T = ℕ} Nothing; entry = 0 }
+at_result (Err why) = record { number = reason_number why.reason; line = why.line; what = 0; entry = 0 }
 
-unfoldable pub joining_result : Joined → JoiningResult
-joining_result (joined.Character joint) = record { number = 0; line = 0; joint = joint_number joint }
-joining_result (joined.Refused number line) = record { number = number; line = line; joint = 0 }
+unfoldable pub within_result : Result ℕ Refusal → WithinResult
+within_result (Ok count) = record { number = 0; line = 0; count = count }
+within_result (Err why) = record { number = reason_number why.reason; line = why.line; count = 0 }
 
-unfoldable pub walk_result : Walked → WalkResult
-walk_result (walked.Lines n) = record { number = 0; line = 0; lines = n }
-walk_result (walked.Refused number line) = record { number = number; line = line; lines = 0 }
+unfoldable pub joining_result : Result Joint Refusal → JoiningResult
+joining_result (Ok joint) = record { number = 0; line = 0; joint = joint_number joint }
+joining_result (Err why) = record { number = reason_number why.reason; line = why.line; joint = 0 }
+
+unfoldable pub walk_result : Result ℕ Refusal → WalkResult
+walk_result (Ok n) = record { number = 0; line = 0; lines = n }
+walk_result (Err why) = record { number = reason_number why.reason; line = why.line; lines = 0 }
 
 -- given 1 and the width at which the table is laid out; all zeros if the walk gives it none
-unfoldable pub nested_result : NestedLayout → NestedResult
-nested_result (nested.Table at way entries columns width) = record { number = 0; line = 0; given = 1; at = at; way = way_number way; columns = columns; width = width }
-nested_result nested.Missing = record { number = 0; line = 0; given = 0; at = 0; way = 0; columns = 0; width = 0 }
-nested_result (nested.Refused number line) = record { number = number; line = line; given = 0; at = 0; way = 0; columns = 0; width = 0 }
+unfoldable pub nested_result : Result (Option Nested) Refusal → NestedResult
+nested_result (Ok (Some t)) = record { number = 0; line = 0; given = 1; at = t.at; way = way_number t.layout.way; columns = t.layout.columns; width = t.layout.width }
+nested_result (Ok None) = record { number = 0; line = 0; given = 0; at = 0; way = 0; columns = 0; width = 0 }
+nested_result (Err why) = record { number = reason_number why.reason; line = why.line; given = 0; at = 0; way = 0; columns = 0; width = 0 }

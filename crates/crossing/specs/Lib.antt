@@ -1,2 +1,2 @@
--- The definitions that the contracts of this crate cite. Assumes nothing.
+-- What crosses, by the answer inside.
 pub mod Answers

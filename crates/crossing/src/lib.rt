@@ -1,27 +1,23 @@
-// What crosses to C: `#[repr(C)]` structs of numbers alone, and a function for each that turns an answer of the calls inside into it.
-#![tactic(auto)]
+// What crosses to C: `#[repr(C)]` structs of numbers alone, each made from what the call inside answers: number 0 and line 0 if it is accepted; else the
+// refusal's number and line, and zeros.
+#![tactic(auto, unfolding(crate::specs::Answers::check_result, crate::specs::Answers::measure_result, crate::specs::Answers::estimates_result, crate::specs::Answers::grid_result, crate::specs::Answers::layout_result, crate::specs::Answers::missing_result, crate::specs::Answers::at_result, crate::specs::Answers::within_result, crate::specs::Answers::joining_result, crate::specs::Answers::walk_result, crate::specs::Answers::nested_result, answers::specs::Numbers::under_number))]
 
 ghost use Rattle.std.specs.Prelude.{◌≡◌};
-ghost use Rattle.answers.specs.Numbers.{way_number, joint_number};
-ghost use Rattle.crossing.specs.Answers.{check_result, as_img, measure_result, estimates_result, grid_result, layout_result, missing_result, at_result, within_result, joining_result, walk_result, nested_result};
+ghost use Rattle.crossing.specs.Answers.{as_img, check_result, measure_result, estimates_result, grid_result, layout_result, missing_result, at_result, within_result, joining_result, walk_result, nested_result};
 
-use answers::{
-    Estimated, Explained, Gridded, Joined, Joint, LaidOut, Listed, NestedLayout, Pointed, Walked,
-    Way,
-};
-use lists::Verdict;
-use text::Measured;
+use answers::{Causes, Grid, Joint, Layout, Nested, Under};
+use lists::Refusal;
+use text::Estimate;
 
-// In each result: number 0 and line 0 if the call is accepted; else the refusal, its line, and zeros.
 #[repr(C)]
-#[derive(Clone, Copy)]
+#[derive(Clone, Copy, Debug, PartialEq, Eq)]
 pub struct CheckResult {
     pub number: u32,
     pub line: u32,
 }
 
 #[repr(C)]
-#[derive(Clone, Copy)]
+#[derive(Clone, Copy, Debug, PartialEq, Eq)]
 pub struct MeasureResult {
     pub number: u32,
     pub line: u32,
@@ -31,7 +27,7 @@ pub struct MeasureResult {
 }
 
 #[repr(C)]
-#[derive(Clone, Copy)]
+#[derive(Clone, Copy, Debug, PartialEq, Eq)]
 pub struct EstimatesResult {
     pub number: u32,
     pub line: u32,
@@ -39,7 +35,7 @@ pub struct EstimatesResult {
 }
 
 #[repr(C)]
-#[derive(Clone, Copy)]
+#[derive(Clone, Copy, Debug, PartialEq, Eq)]
 pub struct GridResult {
     pub number: u32,
     pub line: u32,
@@ -50,7 +46,7 @@ pub struct GridResult {
 
 // way: 0 sideways, 1 down.
 #[repr(C)]
-#[derive(Clone, Copy)]
+#[derive(Clone, Copy, Debug, PartialEq, Eq)]
 pub struct LayoutResult {
     pub number: u32,
     pub line: u32,
@@ -60,7 +56,7 @@ pub struct LayoutResult {
 }
 
 #[repr(C)]
-#[derive(Clone, Copy)]
+#[derive(Clone, Copy, Debug, PartialEq, Eq)]
 pub struct MissingResult {
     pub number: u32,
     pub line: u32,
@@ -70,7 +66,7 @@ pub struct MissingResult {
 
 // what: 0 nothing, 1 gap, 2 cell; entry is 0 unless it is a cell.
 #[repr(C)]
-#[derive(Clone, Copy)]
+#[derive(Clone, Copy, Debug, PartialEq, Eq)]
 pub struct AtResult {
     pub number: u32,
     pub line: u32,
@@ -79,7 +75,7 @@ pub struct AtResult {
 }
 
 #[repr(C)]
-#[derive(Clone, Copy)]
+#[derive(Clone, Copy, Debug, PartialEq, Eq)]
 pub struct WithinResult {
     pub number: u32,
     pub line: u32,
@@ -88,7 +84,7 @@ pub struct WithinResult {
 
 // joint: 0 plain, 1 up, 2 down, 3 both.
 #[repr(C)]
-#[derive(Clone, Copy)]
+#[derive(Clone, Copy, Debug, PartialEq, Eq)]
 pub struct JoiningResult {
     pub number: u32,
     pub line: u32,
@@ -96,7 +92,7 @@ pub struct JoiningResult {
 }
 
 #[repr(C)]
-#[derive(Clone, Copy)]
+#[derive(Clone, Copy, Debug, PartialEq, Eq)]
 pub struct WalkResult {
     pub number: u32,
     pub line: u32,
@@ -105,7 +101,7 @@ pub struct WalkResult {
 
 // given: 1 if the walk gives the table a width, and at which it is laid out; else all are 0.
 #[repr(C)]
-#[derive(Clone, Copy)]
+#[derive(Clone, Copy, Debug, PartialEq, Eq)]
 pub struct NestedResult {
     pub number: u32,
     pub line: u32,
@@ -116,16 +112,6 @@ pub struct NestedResult {
     pub width: u32,
 }
 
-// The answer of `check`.
-pub fn check_result(told: Verdict) -> CheckResult
-    ensures { result ≡ check_result told }
-{
-    match told {
-        Verdict::Accepted => CheckResult { number: 0, line: 0 },
-        Verdict::Refused { number, line } => CheckResult { number, line },
-    }
-}
-
 // Whether a number says img: every one but 0 does.
 pub fn as_img(img: u32) -> bool
     ensures { result ≡ as_img img }
@@ -133,264 +119,262 @@ pub fn as_img(img: u32) -> bool
     img != 0
 }
 
+// The answer of `check`.
+impl From<Result<(), Refusal>> for CheckResult {
+    ghost from_gives = { λ told r. r ≡ check_result told };
+
+    fn from(told: Result<(), Refusal>) -> CheckResult {
+        match told {
+            Ok(()) => CheckResult { number: 0, line: 0 },
+            Err(why) => CheckResult {
+                number: why.reason.number(),
+                line: why.line,
+            },
+        }
+    }
+}
+
 // The answer of `measure`.
-pub fn measure_result(told: Measured) -> MeasureResult
-    ensures { result ≡ measure_result told }
-{
-    match told {
-        Measured::Figures(e) => MeasureResult {
-            number: 0,
-            line: 0,
-            size: e.size,
-            least: e.least,
-            prefix: e.prefix,
-        },
-        Measured::Refused { number, line } => MeasureResult {
-            number,
-            line,
-            size: 0,
-            least: 0,
-            prefix: 0,
-        },
+impl From<Result<Estimate, Refusal>> for MeasureResult {
+    ghost from_gives = { λ told r. r ≡ measure_result told };
+
+    fn from(told: Result<Estimate, Refusal>) -> MeasureResult {
+        match told {
+            Ok(e) => MeasureResult {
+                number: 0,
+                line: 0,
+                size: e.size,
+                least: e.least,
+                prefix: e.prefix,
+            },
+            Err(why) => MeasureResult {
+                number: why.reason.number(),
+                line: why.line,
+                size: 0,
+                least: 0,
+                prefix: 0,
+            },
+        }
     }
 }
 
 // The answer of `estimates`.
-pub fn estimates_result(told: Estimated) -> EstimatesResult
-    ensures { result ≡ estimates_result told }
-{
-    match told {
-        Estimated::Lines(lines) => EstimatesResult {
-            number: 0,
-            line: 0,
-            lines,
-        },
-        Estimated::Refused { number, line } => EstimatesResult {
-            number,
-            line,
-            lines: 0,
-        },
+impl From<Result<u32, Refusal>> for EstimatesResult {
+    ghost from_gives = { λ told r. r ≡ estimates_result told };
+
+    fn from(told: Result<u32, Refusal>) -> EstimatesResult {
+        match told {
+            Ok(lines) => EstimatesResult {
+                number: 0,
+                line: 0,
+                lines,
+            },
+            Err(why) => EstimatesResult {
+                number: why.reason.number(),
+                line: why.line,
+                lines: 0,
+            },
+        }
     }
 }
 
 // The answer of `grid`.
-pub fn grid_result(told: Gridded) -> GridResult
-    ensures { result ≡ grid_result told }
-{
-    match told {
-        Gridded::Grid {
-            rows,
-            entries,
-            columns,
-        } => GridResult {
-            number: 0,
-            line: 0,
-            rows,
-            entries,
-            columns,
-        },
-        Gridded::Refused { number, line } => GridResult {
-            number,
-            line,
-            rows: 0,
-            entries: 0,
-            columns: 0,
-        },
-    }
-}
+impl From<Result<Grid, Refusal>> for GridResult {
+    ghost from_gives = { λ told r. r ≡ grid_result told };
 
-// A way in numbers.
-fn way_number(way: Way) -> u32
-    ensures { result ≡ way_number way }
-{
-    match way {
-        Way::Sideways => 0,
-        Way::Down => 1,
+    fn from(told: Result<Grid, Refusal>) -> GridResult {
+        match told {
+            Ok(grid) => GridResult {
+                number: 0,
+                line: 0,
+                rows: grid.rows,
+                entries: grid.entries,
+                columns: grid.columns,
+            },
+            Err(why) => GridResult {
+                number: why.reason.number(),
+                line: why.line,
+                rows: 0,
+                entries: 0,
+                columns: 0,
+            },
+        }
     }
 }
 
 // The answer of `layout`.
-pub fn layout_result(told: LaidOut) -> LayoutResult
-    ensures { result ≡ layout_result told }
-{
-    match told {
-        LaidOut::Layout {
-            way,
-            entries: _,
-            columns,
-            width,
-        } => LayoutResult {
-            number: 0,
-            line: 0,
-            way: way_number(way),
-            columns,
-            width,
-        },
-        LaidOut::Refused { number, line } => LayoutResult {
-            number,
-            line,
-            way: 0,
-            columns: 0,
-            width: 0,
-        },
+impl From<Result<Layout, Refusal>> for LayoutResult {
+    ghost from_gives = { λ told r. r ≡ layout_result told };
+
+    fn from(told: Result<Layout, Refusal>) -> LayoutResult {
+        match told {
+            Ok(layout) => LayoutResult {
+                number: 0,
+                line: 0,
+                way: layout.way.number(),
+                columns: layout.columns,
+                width: layout.width,
+            },
+            Err(why) => LayoutResult {
+                number: why.reason.number(),
+                line: why.line,
+                way: 0,
+                columns: 0,
+                width: 0,
+            },
+        }
     }
 }
 
 // The answer of `missing`.
-pub fn missing_result(told: Explained) -> MissingResult
-    ensures { result ≡ missing_result told }
-{
-    match told {
-        Explained::Causes { count, columns } => MissingResult {
-            number: 0,
-            line: 0,
-            count,
-            columns,
-        },
-        Explained::Refused { number, line } => MissingResult {
-            number,
-            line,
-            count: 0,
-            columns: 0,
-        },
+impl From<Result<Causes, Refusal>> for MissingResult {
+    ghost from_gives = { λ told r. r ≡ missing_result told };
+
+    fn from(told: Result<Causes, Refusal>) -> MissingResult {
+        match told {
+            Ok(causes) => MissingResult {
+                number: 0,
+                line: 0,
+                count: causes.count,
+                columns: causes.columns,
+            },
+            Err(why) => MissingResult {
+                number: why.reason.number(),
+                line: why.line,
+                count: 0,
+                columns: 0,
+            },
+        }
     }
 }
 
 // The answer of `at`.
-pub fn at_result(told: Pointed) -> AtResult
-    ensures { result ≡ at_result told }
-{
-    match told {
-        Pointed::Cell { entry } => AtResult {
-            number: 0,
-            line: 0,
-            what: 2,
-            entry,
-        },
-        Pointed::Gap => AtResult {
-            number: 0,
-            line: 0,
-            what: 1,
-            entry: 0,
-        },
-        Pointed::Nothing => AtResult {
-            number: 0,
-            line: 0,
-            what: 0,
-            entry: 0,
-        },
-        Pointed::Refused { number, line } => AtResult {
-            number,
-            line,
-            what: 0,
-            entry: 0,
-        },
+impl From<Result<Under<u32>, Refusal>> for AtResult {
+    ghost from_gives = { λ told r. r ≡ at_result told };
+
+    fn from(told: Result<Under<u32>, Refusal>) -> AtResult {
+        match told {
+            Ok(Under::Cell(entry)) => AtResult {
+                number: 0,
+                line: 0,
+                what: 2,
+                entry,
+            },
+            Ok(Under::Gap) => AtResult {
+                number: 0,
+                line: 0,
+                what: 1,
+                entry: 0,
+            },
+            Ok(Under::Nothing) => AtResult {
+                number: 0,
+                line: 0,
+                what: 0,
+                entry: 0,
+            },
+            Err(why) => AtResult {
+                number: why.reason.number(),
+                line: why.line,
+                what: 0,
+                entry: 0,
+            },
+        }
     }
 }
 
 // The answer of `within`.
-pub fn within_result(told: Listed) -> WithinResult
-    ensures { result ≡ within_result told }
-{
-    match told {
-        Listed::Entries { count } => WithinResult {
-            number: 0,
-            line: 0,
-            count,
-        },
-        Listed::Refused { number, line } => WithinResult {
-            number,
-            line,
-            count: 0,
-        },
-    }
-}
+impl From<Result<u32, Refusal>> for WithinResult {
+    ghost from_gives = { λ told r. r ≡ within_result told };
 
-// A joining character in numbers.
-fn joint_number(joint: Joint) -> u32
-    ensures { result ≡ joint_number joint }
-{
-    match joint {
-        Joint::Plain => 0,
-        Joint::Up => 1,
-        Joint::Down => 2,
-        Joint::Both => 3,
+    fn from(told: Result<u32, Refusal>) -> WithinResult {
+        match told {
+            Ok(count) => WithinResult {
+                number: 0,
+                line: 0,
+                count,
+            },
+            Err(why) => WithinResult {
+                number: why.reason.number(),
+                line: why.line,
+                count: 0,
+            },
+        }
     }
 }
 
 // The answer of `joining`.
-pub fn joining_result(told: Joined) -> JoiningResult
-    ensures { result ≡ joining_result told }
-{
-    match told {
-        Joined::Character(joint) => JoiningResult {
-            number: 0,
-            line: 0,
-            joint: joint_number(joint),
-        },
-        Joined::Refused { number, line } => JoiningResult {
-            number,
-            line,
-            joint: 0,
-        },
+impl From<Result<Joint, Refusal>> for JoiningResult {
+    ghost from_gives = { λ told r. r ≡ joining_result told };
+
+    fn from(told: Result<Joint, Refusal>) -> JoiningResult {
+        match told {
+            Ok(joint) => JoiningResult {
+                number: 0,
+                line: 0,
+                joint: joint.number(),
+            },
+            Err(why) => JoiningResult {
+                number: why.reason.number(),
+                line: why.line,
+                joint: 0,
+            },
+        }
     }
 }
 
 // The answer of `walk`.
-pub fn walk_result(told: Walked) -> WalkResult
-    ensures { result ≡ walk_result told }
-{
-    match told {
-        Walked::Lines(n) => WalkResult {
-            number: 0,
-            line: 0,
-            lines: n,
-        },
-        Walked::Refused { number, line } => WalkResult {
-            number,
-            line,
-            lines: 0,
-        },
+impl From<Result<u32, Refusal>> for WalkResult {
+    ghost from_gives = { λ told r. r ≡ walk_result told };
+
+    fn from(told: Result<u32, Refusal>) -> WalkResult {
+        match told {
+            Ok(lines) => WalkResult {
+                number: 0,
+                line: 0,
+                lines,
+            },
+            Err(why) => WalkResult {
+                number: why.reason.number(),
+                line: why.line,
+                lines: 0,
+            },
+        }
     }
 }
 
 // The answer of `nested`.
-pub fn nested_result(told: NestedLayout) -> NestedResult
-    ensures { result ≡ nested_result told }
-{
-    match told {
-        NestedLayout::Table {
-            at,
-            way,
-            entries: _,
-            columns,
-            width,
-        } => NestedResult {
-            number: 0,
-            line: 0,
-            given: 1,
-            at,
-            way: way_number(way),
-            columns,
-            width,
-        },
-        NestedLayout::Missing => NestedResult {
-            number: 0,
-            line: 0,
-            given: 0,
-            at: 0,
-            way: 0,
-            columns: 0,
-            width: 0,
-        },
-        NestedLayout::Refused { number, line } => NestedResult {
-            number,
-            line,
-            given: 0,
-            at: 0,
-            way: 0,
-            columns: 0,
-            width: 0,
-        },
+impl From<Result<Option<Nested>, Refusal>> for NestedResult {
+    ghost from_gives = { λ told r. r ≡ nested_result told };
+
+    fn from(told: Result<Option<Nested>, Refusal>) -> NestedResult {
+        match told {
+            Ok(Some(nested)) => NestedResult {
+                number: 0,
+                line: 0,
+                given: 1,
+                at: nested.at,
+                way: nested.layout.way.number(),
+                columns: nested.layout.columns,
+                width: nested.layout.width,
+            },
+            Ok(None) => NestedResult {
+                number: 0,
+                line: 0,
+                given: 0,
+                at: 0,
+                way: 0,
+                columns: 0,
+                width: 0,
+            },
+            Err(why) => NestedResult {
+                number: why.reason.number(),
+                line: why.line,
+                given: 0,
+                at: 0,
+                way: 0,
+                columns: 0,
+                width: 0,
+            },
+        }
     }
 }

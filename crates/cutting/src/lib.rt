@@ -11,21 +11,11 @@ ghost use Rattle.cutting.specs.inner.Fill.{Summed, Cuttable, Roomy, place, width
 // At most so many characters are taken one by one, with a look at every column for each: to find the level takes as many looks or more.
 const FEW: u64 = 16;
 
-// The same number in 64 bits.
-pub fn to_u64(x: u32) -> u64
-    ensures { result ≡ x }
-{
-    x as u64
-}
-
 // The gaps between n columns.
 pub fn gaps_of(n: usize) -> u64
     ensures { result ≡ gaps n }
 {
-    if n == 0 {
-        return 0;
-    }
-    (n - 1) as u64
+    n.saturating_sub(1) as u64
 }
 
 // The sum of the columns' figures, in 64 bits: the sizes of many columns pass 32.
@@ -33,13 +23,7 @@ pub fn total(figures: &[u32]) -> u64
     requires { length figures.now ≤ max_lines }
     ensures { Summed figures.now result }
 {
-    let mut t: u64 = 0;
-    let mut i = 0;
-    while i < figures.len() {
-        t += to_u64(figures[i]);
-        i += 1;
-    }
-    t
+    figures.iter().map(|x| u64::from(*x)).sum()
 }
 
 // A width y of the excess f is cut rather than a width x of the excess e.
@@ -54,22 +38,19 @@ fn pick_column(leasts: &[u32], wide: &[u32]) -> usize
     requires { Below leasts.now wide.now }
     ensures { result ≡ pick leasts.now wide.now (length wide.now) }
 {
-    if wide.len() == 0 {
+    if wide.is_empty() {
         return 0;
     }
     let mut best = 0;
     let mut x = wide[0];
     let mut e = x - leasts[0];
-    let mut i = 0;
-    while i < wide.len() {
-        let y = wide[i];
-        let f = y - leasts[i];
-        if beaten(e, x, f, y) {
+    for (i, y) in wide.iter().enumerate() {
+        let f = *y - leasts[i];
+        if beaten(e, x, f, *y) {
             best = i;
-            x = y;
+            x = *y;
             e = f;
         }
-        i += 1;
     }
     best
 }
@@ -80,11 +61,9 @@ fn cut_one_by_one(leasts: &[u32], room: u64, all: u64, wide: &mut [u32])
     requires summed { Summed wide.old all }
     ensures { wide.new ≡ cut leasts.now wide.old (room + gaps (length wide.old)) }
 {
-    let mut t = all;
-    while t > room {
+    for _ in room..all {
         let p = pick_column(leasts, wide);
         wide[p] -= 1;
-        t -= 1;
     }
 }
 
@@ -93,7 +72,7 @@ fn place_of(least: u32, i: usize) -> u64
     requires { i < max_lines }
     ensures { result ≡ place least i }
 {
-    to_u64(least) * 4096 + (4095 - i) as u64
+    u64::from(least) * 4096 + (4095 - i) as u64
 }
 
 // The width of column i at a level; one more, if its share has it, where its place is below the bound.
@@ -118,10 +97,8 @@ fn total_at(leasts: &[u32], shares: &[u32], level: u32, bound: u64) -> u64
     ensures { result ≡ sum (filled leasts.now shares.now level bound) }
 {
     let mut t: u64 = 0;
-    let mut i = 0;
-    while i < shares.len() {
-        t += to_u64(width_at(i, leasts[i], shares[i], level, bound));
-        i += 1;
+    for (i, share) in shares.iter().enumerate() {
+        t += u64::from(width_at(i, leasts[i], *share, level, bound));
     }
     t
 }
@@ -134,9 +111,10 @@ fn find_level(leasts: &[u32], shares: &[u32], room: u32) -> u32
 {
     let mut lo: u32 = 0;
     let mut hi = room;
+    // A while: each turn halves what is left between the two, so no range or list gives the turns.
     while lo < hi {
         let mid = hi - (hi - lo) / 2;
-        if total_at(leasts, shares, mid, 0) <= to_u64(room) {
+        if total_at(leasts, shares, mid, 0) <= u64::from(room) {
             lo = mid;
         } else {
             hi = mid - 1;
@@ -152,9 +130,10 @@ fn find_bound(leasts: &[u32], shares: &[u32], room: u32, level: u32) -> u64
     requires level_value { level ≡ level_of leasts.now shares.now (room + gaps (length shares.now)) }
     ensures { sum (filled leasts.now shares.now level result) ≡ room }
 {
-    let full = to_u64(room);
+    let full = u64::from(room);
     let mut lo: u64 = 0;
     let mut hi = full * 4096 + 4096;
+    // A while: it halves too, and it can end where the room is met.
     while lo + 1 < hi {
         let mid = lo + (hi - lo) / 2;
         let t = total_at(leasts, shares, level, mid);
@@ -176,10 +155,8 @@ fn fill_widths(leasts: &[u32], level: u32, bound: u64, wide: &mut [u32])
     requires wide_len_bound { length wide.old ≤ max_lines }
     ensures { wide.new ≡ filled leasts.now wide.old level bound }
 {
-    let mut i = 0;
-    while i < wide.len() {
-        wide[i] = width_at(i, leasts[i], wide[i], level, bound);
-        i += 1;
+    for (i, w) in wide.iter_mut().enumerate() {
+        *w = width_at(i, leasts[i], *w, level, bound);
     }
 }
 
@@ -199,7 +176,7 @@ pub fn cut_widths(leasts: &[u32], width: u32, wide: &mut [u32])
     requires { Cuttable leasts.now wide.old width }
     ensures { wide.new ≡ cut leasts.now wide.old width }
 {
-    let room = to_u64(width) - gaps_of(wide.len());
+    let room = u64::from(width) - gaps_of(wide.len());
     let t = total(wide);
     if t <= room + FEW {
         cut_one_by_one(leasts, room, t, wide);

@@ -1,6 +1,7 @@
 -- What an accepted sheet has passed: its lines nest, its tables are sound, and the walk's own checks pass. Assumes nothing.
+use Rattle.std.specs.Prelude.{Err, Ok, None}
 use mathlib.Core.Path.{◌≡◌, sym, ◌∙◌}
-use mathlib.Core.Bool.{true, false}
+use mathlib.Core.Bool.{true}
 use mathlib.Core.List.{List}
 use Prim.Native.Nat.{ℕ, ◌+◌, ◌<◌}
 use native.Mathlib.Numerals.{add-one}
@@ -11,34 +12,33 @@ use Rattle.kinds.specs.Kinds.{table_kind}
 use Rattle.records.specs.Kept.{no_kept}
 use Rattle.sheet.specs.Sheet.{sheet_checks, sheet_lines}
 use Rattle.sheet.specs.Reading.{reading_of}
-use Rattle.sheet.specs.declared.Reading.TheVariants.{Lines, Refused}
 use Rattle.sheet.proofs.First.{both_true, first_passes, passes_append}
 use Rattle.cells.specs.Listed.{table_rows}
 use Rattle.grid.specs.Grid.{tables_checks}
 use Rattle.grid.specs.Facts.{Sound}
 use Rattle.grid.proofs.GridFacts.{sound_passes}
 use Rattle.estimates.specs.Sheet.{Sheet}
-use Rattle.opening.specs.Opening.{kept_lines, asked, open_checks}
+use Rattle.opening.specs.Opening.{kept_lines, after_reading, open_checks}
 use Rattle.opening.proofs.Measurable.{sheet_of}
 use Rattle.teaching.proofs.Tables.{table_passes}
 use Rattle.passing.specs.Walk.{narrow_checks}
 use Rattle.pacing.specs.inner.Found.{walked_checks}
 
-module _ (s : List ℕ) (wrap raw width overflow : ℕ) (p : passes (walked_checks false s 0 wrap raw width overflow) ≡ true) where
-  both : (passes (open_checks false s 0) ≡ true) × (passes (narrow_checks wrap raw width overflow (kept_lines s)) ≡ true)
+module _ (s : List ℕ) (wrap raw width overflow : ℕ) (p : passes (walked_checks None s wrap raw width overflow) ≡ true) where
+  both : (passes (open_checks None s) ≡ true) × (passes (narrow_checks wrap raw width overflow (kept_lines s)) ≡ true)
   both =
-      both_true (passes (open_checks false s 0)) (passes (narrow_checks wrap raw width overflow (kept_lines s)))
-      (sym (passes_append (open_checks false s 0) (narrow_checks wrap raw width overflow (kept_lines s))) ∙ p)
+      both_true (passes (open_checks None s)) (passes (narrow_checks wrap raw width overflow (kept_lines s)))
+      (sym (passes_append (open_checks None s) (narrow_checks wrap raw width overflow (kept_lines s))) ∙ p)
 
   opens : (passes (sheet_checks s) ≡ true) × (passes (tables_checks 1 (kept_lines s)) ≡ true)
-  unfolding asked
+  unfolding after_reading
   opens =
       both_true (passes (sheet_checks s)) (passes (tables_checks 1 (kept_lines s)))
       (sym (passes_append (sheet_checks s) (tables_checks 1 (kept_lines s))) ∙ both.0)
 
-  reads : reading_of s ≡ Lines (length (sheet_lines s))
+  reads : reading_of s ≡ Ok (length (sheet_lines s))
   unfolding reading_of
-  reads = first_passes Refused (Lines (length (sheet_lines s))) (sheet_checks s) opens.0
+  reads = first_passes Err (Ok (length (sheet_lines s))) (sheet_checks s) opens.0
 
   pub sheet : Sheet (kept_lines s)
   sheet = sheet_of s (length (sheet_lines s)) reads

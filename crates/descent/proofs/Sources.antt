@@ -1,5 +1,6 @@
 -- Where a line's width comes from: the first line has the page's; any other what its parent passes on, but a cell what its table gives it, and the
 -- cell's parent, a row, has its table's width. Assumes nothing.
+use Rattle.std.specs.Prelude.{None, Option, Some}
 use mathlib.Core.Path.{◌≡◌, refl, sym, ap, ◌∙◌}
 use mathlib.Core.Bool.{false}
 use mathlib.Core.List.{List}
@@ -17,18 +18,16 @@ use Rattle.estimates.specs.Estimates.{none, estimates}
 use Rattle.estimates.specs.Sheet.{Sheet}
 use Rattle.estimates.proofs.Nesting.{may, parent}
 use Rattle.passing.specs.Walk.{takes_off, passed_on, cell_width, passed_by, line_width, walk_to, walk}
-use Rattle.passing.specs.declared.Width.{Width}
-use Rattle.passing.specs.declared.Width.TheVariants.{Wide, Without}
 use Rattle.walking.specs.inner.Steps.{CellIn}
 use Rattle.walking.proofs.Lines.{walk_last, walk_stays, nearest_is, InTable, cell_table, cell_nearest}
 use Rattle.descent.specs.Descent.{StandsIn}
 use Rattle.descent.proofs.Standing.{of_parent, stands_on}
 
 -- a line that takes off nothing passes on what it has
-all_on : (kind : ℕ) (e : Estimate) (w : Width) → takes_off kind ≡ false → passed_on kind e w ≡ w
+all_on : (kind : ℕ) (e : Estimate) (w : Option ℕ) → takes_off kind ≡ false → passed_on kind e w ≡ w
 unfolding passed_on
-all_on kind e Without n = refl
-all_on kind e (Wide w) n = rw n
+all_on kind e None n = refl
+all_on kind e (Some w) n = rw n
 
 off_table : (kind : ℕ) → kind ≡ table_kind → takes_off kind ≡ false
 unfolding takes_off
@@ -39,24 +38,24 @@ unfolding takes_off
 off_body kind e = rw e
 
 module _ (wrap raw root : ℕ) {ks : List Kept} (w : Sheet ks) where
-  abbrev W : ℕ → Width
-  W i = get_or (walk wrap raw root ks) i Without
+  abbrev W : ℕ → Option ℕ
+  W i = get_or (walk wrap raw root ks) i None
 
-  abbrev F : ℕ → List Width
+  abbrev F : ℕ → List (Option ℕ)
   F i = walk_to wrap raw root ks i
 
-  front : (i k : ℕ) → k < i → i ≤ length ks → get_or (walk_to wrap raw root ks i) k Without ≡ get_or (walk wrap raw root ks) k Without
+  front : (i k : ℕ) → k < i → i ≤ length ks → get_or (walk_to wrap raw root ks i) k None ≡ get_or (walk wrap raw root ks) k None
   front i k a b = sym (walk_stays wrap raw root ks (length ks) i k a b)
 
-  own : (i : ℕ) → i < length ks → get_or (walk wrap raw root ks) i Without ≡ line_width wrap raw root ks (walk_to wrap raw root ks i) i
+  own : (i : ℕ) → i < length ks → get_or (walk wrap raw root ks) i None ≡ line_width wrap raw root ks (walk_to wrap raw root ks i) i
   own i h = walk_stays wrap raw root ks (length ks) (suc i) i (omega arith) h ∙ walk_last wrap raw root ks i
 
-  pub page_width : get_or (walk wrap raw root ks) 0 Without ≡ Wide root
+  pub page_width : get_or (walk wrap raw root ks) 0 None ≡ Some root
   unfolding line_width
   page_width = own 0 w.some
 
   pub from_parent : (p i : ℕ) → Parent ks p i → ((get_or ks i no_kept).kind ≡ cell_kind → ⊥)
-      → get_or (walk wrap raw root ks) i Without ≡ passed_on (get_or ks p no_kept).kind (get_or (estimates wrap ks) p none) (get_or (walk wrap raw root ks) p Without)
+      → get_or (walk wrap raw root ks) i None ≡ passed_on (get_or ks p no_kept).kind (get_or (estimates wrap ks) p none) (get_or (walk wrap raw root ks) p None)
   unfolding line_width
   from_parent p i r n =
       own i r.within
@@ -66,14 +65,14 @@ module _ (wrap raw root : ℕ) {ks : List Kept} (w : Sheet ks) where
       ∙ ap (passed_on (get_or ks p no_kept).kind (get_or (estimates wrap ks) p none)) (front i p r.before (omega (arith, r.within))))
 
   pub from_table : (i : ℕ) → (get_or ks i no_kept).kind ≡ cell_kind → (c : InTable ks i)
-      → get_or (walk wrap raw root ks) i Without ≡ cell_width wrap raw ks c.table (get_or (walk wrap raw root ks) c.table Without) i
+      → get_or (walk wrap raw root ks) i None ≡ cell_width wrap raw ks c.table (get_or (walk wrap raw root ks) c.table None) i
   unfolding line_width
   from_table i e c =
       let o = c.cell.1 in
       own i o.within
       ∙ rw (ne_eqb i 0 (λ e. omega (arith, o.before)), eq-eqb (get_or ks i no_kept).kind cell_kind e)
-      (cell_nearest w (λ t. cell_width wrap raw ks t (get_or (F i) t Without) i) i c
-      ∙ ap (λ (v : Width). cell_width wrap raw ks c.table v i) (front i c.table o.before (omega (arith, o.within))))
+      (cell_nearest w (λ t. cell_width wrap raw ks t (get_or (F i) t None) i) i c
+      ∙ ap (λ (v : Option ℕ). cell_width wrap raw ks c.table v i) (front i c.table o.before (omega (arith, o.within))))
 
   -- the row, the body and the table of a cell have one width
   module _ (p i t : ℕ) (r : Parent ks p i) (c : CellIn ks t i) where
@@ -103,7 +102,7 @@ module _ (wrap raw root : ℕ) {ks : List Kept} (w : Sheet ks) where
     row_kind_lem : (get_or ks p no_kept).kind ≡ row_kind
     row_kind_lem = (may w body.0 p body.1).in_body body_kind_lem
 
-    pub row_width : get_or (walk wrap raw root ks) p Without ≡ get_or (walk wrap raw root ks) t Without
+    pub row_width : get_or (walk wrap raw root ks) p None ≡ get_or (walk wrap raw root ks) t None
     row_width =
         from_parent body.0 p body.1 (λ e. omega (arith, row_kind_lem))
         ∙ all_on (get_or ks body.0 no_kept).kind (get_or (estimates wrap ks) body.0 none) (W body.0) (off_body (get_or ks body.0 no_kept).kind body_kind_lem)
@@ -111,14 +110,14 @@ module _ (wrap raw root : ℕ) {ks : List Kept} (w : Sheet ks) where
         ∙ all_on (get_or ks t no_kept).kind (get_or (estimates wrap ks) t none) (W t) (off_table (get_or ks t no_kept).kind c.0)
 
   -- what has no width passes on none
-  pub none_on : (p i : ℕ) → Parent ks p i → get_or (walk wrap raw root ks) p Without ≡ Without → get_or (walk wrap raw root ks) i Without ≡ Without
+  pub none_on : (p i : ℕ) → Parent ks p i → get_or (walk wrap raw root ks) p None ≡ None → get_or (walk wrap raw root ks) i None ≡ None
   unfolding passed_on cell_width
   none_on p i r q = go (ℕ_discrete (get_or ks i no_kept).kind cell_kind)
     where
-      go : Dec ((get_or ks i no_kept).kind ≡ cell_kind) → W i ≡ Without
+      go : Dec ((get_or ks i no_kept).kind ≡ cell_kind) → W i ≡ None
       go (yes c) =
           let t = cell_table w i r.within c in
           from_table i c t
-          ∙ ap (λ (u : Width). cell_width wrap raw ks t.table u i) (sym (row_width p i t.table r t.cell) ∙ q)
+          ∙ ap (λ (u : Option ℕ). cell_width wrap raw ks t.table u i) (sym (row_width p i t.table r t.cell) ∙ q)
       go (no c) =
           from_parent p i r c ∙ ap (passed_on (get_or ks p no_kept).kind (get_or (estimates wrap ks) p none)) q

@@ -1,6 +1,6 @@
 -- What holds of the walk of every accepted sheet: how wide what stands in a line can be, and what has no width. These are statements; proofs/Descent.antt
 -- has their proofs. Place k holds line k + 1.
-use Rattle.std.specs.Prelude.{◌≡◌, true, false, List, ◌⊎◌, ℕ, ◌≤◌, ◌<◌, length, get_or}
+use Rattle.std.specs.Prelude.{◌≡◌, true, List, ◌⊎◌, ℕ, ◌≤◌, ◌<◌, length, get_or, None, Some}
 use Rattle.lists.specs.Refusals.{passes}
 use Rattle.kinds.specs.Kinds.{cell_kind}
 use Rattle.records.specs.Kept.{no_kept}
@@ -8,7 +8,6 @@ use Rattle.records.specs.declared.Kept.{Kept}
 use Rattle.grid.specs.Facts.{CellOf}
 use Rattle.opening.specs.Opening.{kept_lines}
 use Rattle.passing.specs.Walk.{cell_width, walk}
-use Rattle.passing.specs.declared.Width.TheVariants.{Wide, Without}
 use Rattle.pacing.specs.inner.Found.{walked_checks}
 
 -- the line at place i stands in the line at place c: it comes later, and every line from there on up to it is deeper
@@ -23,8 +22,8 @@ pub record MissingCell (wrap raw root : ℕ) (ks : List Kept) (c : ℕ) : Type 0
   pub table : ℕ
   pub of_table : CellOf ks table c
   pub width : ℕ
-  pub table_width : get_or (walk wrap raw root ks) table Without ≡ Wide width
-  pub left_out : cell_width wrap raw ks table (Wide width) c ≡ Without
+  pub table_width : get_or (walk wrap raw root ks) table None ≡ Some width
+  pub left_out : cell_width wrap raw ks table (Some width) c ≡ None
 
 -- the line at place i is a missing cell, or stands in one
 pub record InMissing (wrap raw root : ℕ) (ks : List Kept) (i : ℕ) : Type 0 where
@@ -34,16 +33,16 @@ pub record InMissing (wrap raw root : ℕ) (ks : List Kept) (i : ℕ) : Type 0 w
 
 -- with overflow off: no line is wider than one that it stands in, a nested table no wider than its cell; and none is wider than the page
 pub record Narrowing (wrap raw root : ℕ) (ks : List Kept) : Type 0 where
-  pub inside : (c i v w : ℕ) → StandsIn ks c i → get_or (walk wrap raw root ks) c Without ≡ Wide v → get_or (walk wrap raw root ks) i Without ≡ Wide w → w ≤ v
-  pub page : (i w : ℕ) → get_or (walk wrap raw root ks) i Without ≡ Wide w → w ≤ root
+  pub inside : (c i v w : ℕ) → StandsIn ks c i → get_or (walk wrap raw root ks) c None ≡ Some v → get_or (walk wrap raw root ks) i None ≡ Some w → w ≤ v
+  pub page : (i w : ℕ) → get_or (walk wrap raw root ks) i None ≡ Some w → w ≤ root
 
 -- a line has no width exactly if it stands in a missing cell, or is one
 pub record WithoutWidth (wrap raw root : ℕ) (ks : List Kept) : Type 0 where
-  pub then_missing : (i : ℕ) → i < length ks → get_or (walk wrap raw root ks) i Without ≡ Without → InMissing wrap raw root ks i
-  pub if_missing : (i : ℕ) → InMissing wrap raw root ks i → get_or (walk wrap raw root ks) i Without ≡ Without
+  pub then_missing : (i : ℕ) → i < length ks → get_or (walk wrap raw root ks) i None ≡ None → InMissing wrap raw root ks i
+  pub if_missing : (i : ℕ) → InMissing wrap raw root ks i → get_or (walk wrap raw root ks) i None ≡ None
 
 -- of every sheet that is accepted
 pub record Descent : Type 0 where
-  pub narrowing : (s : List ℕ) (wrap raw width : ℕ) → passes (walked_checks false s 0 wrap raw width 0) ≡ true → Narrowing wrap raw width (kept_lines s)
-  pub without_width : (s : List ℕ) (wrap raw width overflow : ℕ) → passes (walked_checks false s 0 wrap raw width overflow) ≡ true
+  pub narrowing : (s : List ℕ) (wrap raw width : ℕ) → passes (walked_checks None s wrap raw width 0) ≡ true → Narrowing wrap raw width (kept_lines s)
+  pub without_width : (s : List ℕ) (wrap raw width overflow : ℕ) → passes (walked_checks None s wrap raw width overflow) ≡ true
       → WithoutWidth wrap raw width (kept_lines s)

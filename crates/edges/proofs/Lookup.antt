@@ -9,7 +9,7 @@ use native.Mathlib.Omega.{arith}
 use lib.Count.{ones}
 use lib.ListN.{get_or}
 use Rattle.lists.specs.Limits.{max_position}
-use Rattle.edges.specs.declared.Edge.TheVariants.{At, Missing}
+use Rattle.std.specs.Prelude.{Some, None}
 use Rattle.edges.specs.Edges.{is_edge, count_below, edge_at}
 use Rattle.edges.specs.Lookup.{ones_before, ones_below, plain_at, counted_at, Words, Counted}
 use Rattle.edges.proofs.Counts.{count_le}
@@ -36,19 +36,19 @@ unfolding counted_at plain_at
 counted_plain {ws} {counts} z p h = pick (is_edge ws p) refl
   where
     pick : (b : Bool) → is_edge ws p ≡ b
-        → cond b (At (get_or counts (p / 64) 0 + ones_below ws p)) Missing ≡ cond b (At (ones_before ws (p / 64) + ones_below ws p)) Missing
-    pick true e = ap (λ (n : ℕ). At (n + ones_below ws p)) (z.each p h e)
+        → cond b (Some (get_or counts (p / 64) 0 + ones_below ws p)) None ≡ cond b (Some (ones_before ws (p / 64) + ones_below ws p)) None
+    pick true e = ap (λ (n : ℕ). Some (n + ones_below ws p)) (z.each p h e)
     pick false e = refl
 
 pub plain_edge : {ws : List ℕ} → Words ws → (p : ℕ) → p ≤ max_position → plain_at ws p ≡ edge_at ws p
 unfolding plain_at edge_at
-plain_edge {ws} z p h = ap (λ (n : ℕ). cond (is_edge ws p) (At n) Missing) (ones_edges z p h)
+plain_edge {ws} z p h = ap (λ (n : ℕ). cond (is_edge ws p) (Some n) None) (ones_edges z p h)
 
 -- ---- what `find` answers at an edge
 
-pub counted_at_lem : (ws counts : List ℕ) (p : ℕ) → is_edge ws p ≡ true → At (get_or counts (p / 64) 0 + ones_below ws p) ≡ counted_at ws counts p
+pub counted_at_lem : (ws counts : List ℕ) (p : ℕ) → is_edge ws p ≡ true → Some (get_or counts (p / 64) 0 + ones_below ws p) ≡ counted_at ws counts p
 unfolding counted_at
-counted_at_lem ws counts p e = sym (ap (λ (b : Bool). cond b (At (get_or counts (p / 64) 0 + ones_below ws p)) Missing) e)
+counted_at_lem ws counts p e = sym (ap (λ (b : Bool). cond b (Some (get_or counts (p / 64) 0 + ones_below ws p)) None) e)
 
 -- which is small
 pub counted_le : {ws counts : List ℕ} → Counted ws counts → (p : ℕ) → p ≤ max_position → is_edge ws p ≡ true → get_or counts (p / 64) 0 + ones_below ws p ≤ p

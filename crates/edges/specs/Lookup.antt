@@ -1,10 +1,8 @@
 -- Two ways to look up the number of an edge: counting ones through all words, and by a running count beside each word that has an edge.
 -- Both are proved to give what `edge_at` says. These are definitions; nothing is assumed.
-use Rattle.std.specs.Prelude.{◌≡◌, true, cond, List, ℕ, zero, suc, ◌+◌, ◌/◌, ◌%◌, ◌^◌, ◌≤◌, ◌<◌, length, get_or}
+use Rattle.std.specs.Prelude.{◌≡◌, true, cond, List, ℕ, zero, suc, ◌+◌, ◌/◌, ◌%◌, ◌^◌, ◌≤◌, ◌<◌, length, get_or, Option, Some, None}
 use Rattle.std.specs.Int.Count.{ones}
 use Rattle.lists.specs.Limits.{max_position}
-use Rattle.edges.specs.declared.Edge.{Edge}
-use Rattle.edges.specs.declared.Edge.TheVariants.{At, Missing}
 use Rattle.edges.specs.Edges.{is_edge}
 
 -- the ones of the first i words
@@ -17,12 +15,12 @@ abbrev pub ones_below : List ℕ → ℕ → ℕ
 ones_below ws p = ones (get_or ws (p / 64) 0 % 2 ^ (p % 64))
 
 -- the plain lookup counts through all words before p's
-unfoldable pub plain_at : List ℕ → ℕ → Edge
-plain_at ws p = cond (is_edge ws p) (At (ones_before ws (p / 64) + ones_below ws p)) Missing
+unfoldable pub plain_at : List ℕ → ℕ → Option ℕ
+plain_at ws p = cond (is_edge ws p) (Some (ones_before ws (p / 64) + ones_below ws p)) None
 
 -- the counted one reads the count beside p's word
-unfoldable pub counted_at : List ℕ → List ℕ → ℕ → Edge
-counted_at ws counts p = cond (is_edge ws p) (At (get_or counts (p / 64) 0 + ones_below ws p)) Missing
+unfoldable pub counted_at : List ℕ → List ℕ → ℕ → Option ℕ
+counted_at ws counts p = cond (is_edge ws p) (Some (get_or counts (p / 64) 0 + ones_below ws p)) None
 
 -- 65 words of 64 bits
 pub record Words (ws : List ℕ) : Type 0 where

@@ -10,6 +10,7 @@ use lib.Dec.{eqb}
 use lib.ListN.{length, take, drop}
 use lib.Seq.{drop-cons}
 use borrow.Author.Tests.{le-leb}
+use Rattle.std.specs.Prelude.{Some}
 use Rattle.lists.specs.Limits.{max_cols, max_rows}
 use Rattle.lists.specs.Lists.{All}
 use Rattle.records.specs.Kept.{kept_with}
@@ -27,11 +28,6 @@ use Rattle.line.proofs.OneDigit.{Name, line_is, bare_is}
 use Rattle.eights.specs.inner.Briefs.{InBrief}
 use Rattle.eights.specs.inner.Bytes.{Digit, Bare, Cell, Texts, ending}
 use Rattle.eights.specs.declared.Brief.{Brief}
-use Rattle.eights.specs.declared.Common.TheVariants.{Line, Other}
-
--- nothing is told of another line
-pub untold : (b : Brief) → Other ≡ Line b → ⊥
-untold b e = let z : ◌≡◌ {A = ℕ} 0 1 = cc in omega arith
 
 -- ` cell 0 `, ` row 0 0`, ` body 0 `, ` table 0` and ` text 0 `, and `t 0 0 0 `
 
@@ -56,7 +52,7 @@ text_end = 116 ∷ 32 ∷ 48 ∷ 32 ∷ 48 ∷ 32 ∷ 48 ∷ 32 ∷ []
 -- a number that is ` 0 0 0 ` and a line feed with one digit more for cols and one for rows
 pub cell_ends : {s : List ℕ} {at depth r : ℕ} → Eight s at r → 729636054438522912 ≤ r → (r - 729636054438522912) % 16777216 ≡ 0
     → (r - 729636054438522912) / 16777216 % 65536 ≤ 9 → (r - 729636054438522912) / 16777216 / 65536 ≤ 9 → (b : Brief)
-    → Line (record { depth = depth; kind = cell_kind; figure = (r - 729636054438522912) / 16777216; next = at + 8 }) ≡ Line b → Cell s at depth b
+    → Some (record { depth = depth; kind = cell_kind; figure = (r - 729636054438522912) / 16777216; next = at + 8 }) ≡ Some b → Cell s at depth b
 unfolding All
 cell_ends {r = r} w h m p q b e =
     let figure = (r - 729636054438522912) / 16777216 in

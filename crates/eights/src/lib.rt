@@ -2,13 +2,13 @@
 // crate line, which reads all.
 #![tactic(auto)]
 
-ghost use Rattle.std.specs.Prelude.{◌≡◌, ◌+◌, ◌≤◌, length};
+ghost use Rattle.std.specs.Prelude.{◌≡◌, ◌+◌, ◌≤◌, length, Some};
 ghost use Rattle.lists.specs.Limits.{max_bytes};
-ghost use Rattle.text.specs.Bytes.{Classes};
 ghost use Rattle.eights.specs.inner.Briefs.{Tells};
 ghost use Rattle.eights.specs.inner.Bytes.{Digit, Bare, Cell, Texts};
 ghost use Rattle.eights.specs.declared.Brief.{Brief};
-ghost use Rattle.eights.specs.declared.Common.TheVariants.{Line};
+
+use text::bytes::Classes;
 
 // A line as it is kept: its depth, its kind, the one figure that its kind has, and the place where the next line starts.
 #[derive(Clone, Copy)]
@@ -17,13 +17,6 @@ pub struct Brief {
     pub kind: u32,
     pub figure: u32,
     pub next: usize,
-}
-
-// What the comparisons tell: the line, or nothing.
-#[derive(Clone, Copy)]
-pub enum Common {
-    Line(Brief),
-    Other,
 }
 
 // ` cell 0 `, ` text 0 `, ` row 0 0`, ` body 0 ` and ` table 0` as `octets::eight` takes them: what follows a depth of one digit.
@@ -53,16 +46,16 @@ const ROWS_STEP: u64 = 65536;
 const LONGEST: usize = 15;
 
 // A line without a text. The space before its n stands at a place, and the line ends seven bytes on, if n, cols and rows are 0.
-fn bare_line(bytes: &[u8], depth: u32, kind: u32, at: usize) -> Common
+fn bare_line(bytes: &[u8], depth: u32, kind: u32, at: usize) -> Option<Brief>
     requires { at + 8 ≤ length bytes.now }
-    ensures { (b : Brief) → result ≡ Line b → Bare bytes.now at depth kind b }
+    ensures { (b : Brief) → result ≡ Some b → Bare bytes.now at depth kind b }
 {
     if octets::eight(bytes, at) != ZEROS {
-        return Common::Other;
+        return None;
     }
-    Common::Line(Brief {
-        depth: depth,
-        kind: kind,
+    Some(Brief {
+        depth,
+        kind,
         figure: 0,
         next: at + 8,
     })
@@ -70,27 +63,21 @@ fn bare_line(bytes: &[u8], depth: u32, kind: u32, at: usize) -> Common
 
 // A cell whose cols and rows have one digit: the eight bytes from the space before its n, which stands at a place, differ from ` 0 0 0 ` and a line feed in
 // these digits alone.
-fn cell_line(bytes: &[u8], depth: u32, at: usize) -> Common
+fn cell_line(bytes: &[u8], depth: u32, at: usize) -> Option<Brief>
     requires { at + 8 ≤ length bytes.now }
-    ensures { (b : Brief) → result ≡ Line b → Cell bytes.now at depth b }
+    ensures { (b : Brief) → result ≡ Some b → Cell bytes.now at depth b }
 {
     let end = octets::eight(bytes, at);
     if end < ZEROS {
-        return Common::Other;
+        return None;
     }
     let more = end - ZEROS;
-    if more % COLS_STEP != 0 {
-        return Common::Other;
-    }
     let figure = more / COLS_STEP;
-    if figure % ROWS_STEP > 9 {
-        return Common::Other;
+    if more % COLS_STEP != 0 || figure % ROWS_STEP > 9 || figure / ROWS_STEP > 9 {
+        return None;
     }
-    if figure / ROWS_STEP > 9 {
-        return Common::Other;
-    }
-    Common::Line(Brief {
-        depth: depth,
+    Some(Brief {
+        depth,
         kind: kinds::CELL,
         figure: figure as u32,
         next: at + 8,
@@ -98,22 +85,18 @@ fn cell_line(bytes: &[u8], depth: u32, at: usize) -> Common
 }
 
 // A text, which starts at a place.
-fn text_line(classes: &[u8], bytes: &[u8], depth: u32, from: usize) -> Common
-    requires classes { Classes classes.now }
+fn text_line(classes: &Classes, bytes: &[u8], depth: u32, from: usize) -> Option<Brief>
     requires bytes_len_bound { length bytes.now ≤ max_bytes }
     requires from_in_bounds { from ≤ length bytes.now }
-    ensures { (b : Brief) → result ≡ Line b → Texts bytes.now from depth b }
+    ensures { (b : Brief) → result ≡ Some b → Texts bytes.now from depth b }
 {
     let front = text::scan_front(classes, bytes, from, b'\n');
     let to = front.end;
-    if to >= bytes.len() {
-        return Common::Other;
+    if to >= bytes.len() || bytes[to] != b'\n' {
+        return None;
     }
-    if bytes[to] != b'\n' {
-        return Common::Other;
-    }
-    Common::Line(Brief {
-        depth: depth,
+    Some(Brief {
+        depth,
         kind: kinds::TEXT,
         figure: front.size,
         next: to + 1,
@@ -121,19 +104,19 @@ fn text_line(classes: &[u8], bytes: &[u8], depth: u32, from: usize) -> Common
 }
 
 // The line at a place, where its depth stands as one digit.
-fn line_with(classes: &[u8], bytes: &[u8], at: usize, depth: u32) -> Common
-    requires classes { Classes classes.now }
+fn line_with(classes: &Classes, bytes: &[u8], at: usize, depth: u32) -> Option<Brief>
     requires bytes_len_bound { length bytes.now ≤ max_bytes }
     requires digit { Digit bytes.now at depth }
     ensures { Tells bytes.now at result }
 {
     let front = octets::eight(bytes, at + 1);
+    // Not a match: the commonest front is compared first.
     if front == CELL_FRONT {
         return cell_line(bytes, depth, at + 6);
     }
     if front == TEXT_FRONT {
         if octets::eight(bytes, at + 5) != TEXT_END {
-            return Common::Other;
+            return None;
         }
         return text_line(classes, bytes, depth, at + 13);
     }
@@ -146,27 +129,16 @@ fn line_with(classes: &[u8], bytes: &[u8], at: usize, depth: u32) -> Common
     if front == TABLE_FRONT {
         return bare_line(bytes, depth, kinds::TABLE, at + 7);
     }
-    Common::Other
+    None
 }
 
 // The line at a place, if it is one of the commonest.
-pub fn common_line(classes: &[u8], bytes: &[u8], at: usize) -> Common
-    requires classes { Classes classes.now }
+pub fn common_line(classes: &Classes, bytes: &[u8], at: usize) -> Option<Brief>
     requires bytes_len_bound { length bytes.now ≤ max_bytes }
     ensures { Tells bytes.now at result }
 {
-    if bytes.len() < LONGEST {
-        return Common::Other;
+    if bytes.len() < LONGEST || at > bytes.len() - LONGEST || !bytes[at].is_ascii_digit() {
+        return None;
     }
-    if at > bytes.len() - LONGEST {
-        return Common::Other;
-    }
-    let digit = bytes[at];
-    if digit < b'0' {
-        return Common::Other;
-    }
-    if digit > b'9' {
-        return Common::Other;
-    }
-    line_with(classes, bytes, at, (digit - b'0') as u32)
+    line_with(classes, bytes, at, (bytes[at] - b'0') as u32)
 }

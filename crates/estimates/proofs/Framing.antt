@@ -2,7 +2,7 @@
 -- over its columns. Assumes nothing.
 use mathlib.Core.Path.{◌≡◌, sym, ap, ◌∙◌}
 use mathlib.Core.Bool.{Bool, false}
-use mathlib.Core.List.{List, map}
+use mathlib.Core.List.{List}
 use Prim.Native.Nat.{ℕ, suc, ◌+◌, ◌-◌, ◌/◌, ◌≤◌, ◌<◌}
 use native.Mathlib.Omega.{arith}
 use native.Mathlib.Decide.{dec_lt, ℕ_discrete}
@@ -31,9 +31,9 @@ use Rattle.estimates.specs.Sheet.{Sheet, line_at}
 use Rattle.estimates.specs.Meets.{Bounded, CellsMeasured}
 use Rattle.estimates.specs.inner.Figures.{figures_of}
 use Rattle.estimates.specs.inner.Spread.{spread_cells, tabled_by, entry_boxes, records_at, FiguresReady, Tabulated}
-use Rattle.estimates.specs.inner.Cycle.{NodeReady, Ends, Passed, FilledAt, Holder, CellMeets, TableMeets, est_at, done_of, held_at, weight}
+use Rattle.estimates.specs.inner.Cycle.{NodeReady, Ends, Passed, FilledAt, Holder, CellsPassed, CellMeets, TableMeets, est_at, done_of, held_at, weight, size_in, sizes_of, sizes_from}
 use Rattle.estimates.specs.declared.Part.{Part}
-use Rattle.estimates.proofs.Laws.{cells_from, cells_stop, cells_skip, cells_cell}
+use Rattle.estimates.proofs.Laws.{cells_stop, cells_skip, cells_cell}
 use Rattle.estimates.proofs.ByKind.{body_est, row_est, table_est, holder_est, cell_plain}
 use Rattle.estimates.proofs.Fillers.{spread_sizes}
 use Rattle.estimates.proofs.Made.{figured}
@@ -42,16 +42,6 @@ use Rattle.estimates.proofs.Weighing.{weight_more, fits}
 use Rattle.estimates.proofs.Tabling.{tabled_small}
 use Rattle.estimates.proofs.Passing.{step, stored, begin}
 use Rattle.estimates.proofs.Children.{cell_start, cell_end}
-
--- the sizes of lines, and those of the cells from place i on of a table of depth d together
-abbrev size_in : ℕ → List Kept → ℕ → ℕ
-size_in wrap ls line = (est_at (done_of wrap ls) (line - 1)).size
-
-abbrev sizes_of : ℕ → List Kept → List ℕ → ℕ
-sizes_of wrap ls lines = sum (map (size_in wrap ls) lines)
-
-abbrev sizes_from : ℕ → List Kept → ℕ → ℕ → ℕ
-sizes_from wrap ls d i = sizes_of wrap ls (cells_from ls d i)
 
 -- at line i: the cells passed weigh no more than the lines passed
 pub record TableLoop (wrap : ℕ) (ls : List Kept) (b c : List Estimate) (at i : ℕ) : Type 0 where
@@ -156,15 +146,21 @@ module _ {wrap : ℕ} {ls : List Kept} {b : List Estimate} {at : ℕ} (w : Sheet
         go (yes k) = table_bare k (f.bare e k) s
         go (no k) = rw s (table_frame k)
 
-  -- the end: the table's cells are measured
-  module _ {c : List Estimate} {i : ℕ} (l : TableLoop wrap ls b c at i) (ends : Ends ls (line_at ls at).depth i) where
+  -- the end: all below the table is passed
+  pub table_stop : {c : List Estimate} {i : ℕ} → TableLoop wrap ls b c at i → Ends ls (line_at ls at).depth i → CellsPassed wrap ls b c at i
+  unfolding sum
+  table_stop {i = i} l ends =
+      record { passed = l.passed; ends = ends; small = omega (arith, l.small, ap (sizes_of wrap ls) (cells_stop ls (line_at ls at).depth i ends)) }
+
+  -- the table's cells are measured
+  module _ {c : List Estimate} {i : ℕ} (l : CellsPassed wrap ls b c at i) where
     before_end : (k : ℕ) → CellOf ls at k → k < i
     before_end k o = go (dec_lt k i) (ℕ_discrete k i)
       where
         go : Dec (k < i) → Dec (k ≡ i) → k < i
         go (yes x) y = x
-        go (no x) (yes y) = absurd (omega (arith, o.deeper, rw (← y) at (ends (omega (arith, o.within)))))
-        go (no x) (no y) = absurd (omega (arith, ends (omega (arith, o.within)), o.between i l.passed.after (omega arith)))
+        go (no x) (yes y) = absurd (omega (arith, o.deeper, rw (← y) at (l.ends (omega (arith, o.within)))))
+        go (no x) (no y) = absurd (omega (arith, l.ends (omega (arith, o.within)), o.between i l.passed.after (omega arith)))
 
     cell_done : (k : ℕ) → CellOf ls at k → get_or c k none ≡ est_at (done_of wrap ls) k
     cell_done k o = l.passed.done k (omega (arith, o.before)) (before_end k o)
@@ -191,7 +187,7 @@ module _ {wrap : ℕ} {ls : List Kept} {b : List Estimate} {at : ℕ} (w : Sheet
           let s = spread_sizes c (size_in wrap ls) entries
           (all_weaken (IsCell ls at) (λ e. e.filler ≡ false → (get_or c (e.owner - 1) none).size ≡ size_in wrap ls e.owner)
           (λ e o h. ap (λ (x : Estimate). x.size) (cell_done (e.owner - 1) (o h).1)) entries (entries_cells z at a)) in
-          omega (arith, s, ap (sizes_of wrap ls) (held_owners z at a), l.small, ap (sizes_of wrap ls) (cells_stop ls (line_at ls at).depth i ends))
+          omega (arith, s, ap (sizes_of wrap ls) (held_owners z at a), l.small)
 
       figures_ready : {scratch m n : ℕ} → max_position ≤ scratch → entry_count (all_rows (table_rows ls at)) ≤ m → length ls ≤ n → FiguresReady ls at c scratch m n
       figures_ready p q r = record {
@@ -218,7 +214,7 @@ module _ {wrap : ℕ} {ls : List Kept} {b : List Estimate} {at : ℕ} (w : Sheet
           let y : r.size ≡ (tabled_by n bs).size = ap (λ (x : Estimate). x.size) m.est in
           record {
             passed = rw m.after l.passed;
-            ends = rw m.after ends;
+            ends = rw m.after l.ends;
             est = figured z a g c (suc at) (drop (suc at) (done_of wrap ls)) after_table m ∙ table_est wrap ls at a t;
             small = rw m.after (omega (arith, y, tabled_small n bs, grid_columns (table_rows ls at) g, bounded, weight_more ls at));
             least_size = m.least_size;
@@ -226,12 +222,12 @@ module _ {wrap : ℕ} {ls : List Kept} {b : List Estimate} {at : ℕ} (w : Sheet
 
 -- what the table's figures take, in slices
 pub table_ready : {wrap : ℕ} {lines figures₀ leasts₀ entries₀ rows₀ : List ℕ} {b : List Estimate} {at i scratch : ℕ} (figures es rs : List ℕ)
-    → NodeReady lines figures₀ leasts₀ entries₀ rows₀ at → (line_at (kepts_of lines) at).kind ≡ table_kind → TableLoop wrap (kepts_of lines) b (figures_of figures) at i
-    → Ends (kepts_of lines) (line_at (kepts_of lines) at).depth i → scratch ≡ length leasts₀ → length es ≡ length entries₀ → length rs ≡ length rows₀
+    → NodeReady lines figures₀ leasts₀ entries₀ rows₀ at → (line_at (kepts_of lines) at).kind ≡ table_kind → CellsPassed wrap (kepts_of lines) b (figures_of figures) at i
+    → scratch ≡ length leasts₀ → length es ≡ length entries₀ → length rs ≡ length rows₀
     → FiguresReady (kepts_of lines) at (figures_of figures) scratch (length (entries_of es)) (length (rows_of rs))
-table_ready {lines = lines} {entries₀ = entries₀} {rows₀ = rows₀} {at = at} figures es rs r t l e f g h =
+table_ready {lines = lines} {entries₀ = entries₀} {rows₀ = rows₀} {at = at} figures es rs r t l f g h =
     let a : at < length (kepts_of lines) = omega (arith, length_kepts lines, r.within) in
     let x : length (entries_of es) ≡ length entries₀ / 3 = length_of 3 entry_by es ∙ ap (λ (k : ℕ). k / 3) g in
     let y : length (rows_of rs) ≡ length rows₀ / 2 = length_of 2 row_by rs ∙ ap (λ (k : ℕ). k / 2) h in
-    figures_ready r.sheet l e r.lined (r.tables.sound at a t) a (omega (arith, r.scratch)) (omega (arith, r.tables.room at a t))
+    figures_ready r.sheet l r.lined (r.tables.sound at a t) a (omega (arith, r.scratch)) (omega (arith, r.tables.room at a t))
     (omega (arith, r.row_room, length_kepts lines))

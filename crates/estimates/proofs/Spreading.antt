@@ -1,15 +1,14 @@
--- The loops of `total` and `spread_entries` on plain lists: what is passed, with the entries that are left, comes to the whole, in the sum and in
+-- The loop of `spread_entries` on plain lists: what is passed, with the entries that are left, comes to the whole, in the sum and in
 -- each column. Assumes nothing.
 use mathlib.Core.Path.{◌≡◌, ap, ◌∙◌}
-use mathlib.Core.List.{List, [], ◌∷◌, ◌++◌, map}
+use mathlib.Core.List.{List, ◌∷◌, ◌++◌, map}
 use Prim.Native.Nat.{ℕ, ◌+◌, ◌-◌, ◌*◌, ◌/◌, ◌≤◌, ◌<◌, ◌^◌, max}
 use native.Mathlib.Numerals.{add-one}
 use native.Mathlib.Decide.{dec_lt}
 use native.Mathlib.Omega.{arith}
-use lib.ListN.{length, get_or, take, drop, length-replicate, get_or-replicate, drop_of_length-le, get_or-eq_default}
+use lib.ListN.{length, get_or, take, drop, replicate, length-replicate, get_or-replicate, drop_of_length-le, get_or-eq_default}
 use lib.Seq.{drop-cons}
 use borrow.Author.Tests.{eq-eqb, ne_eqb}
-use Rattle.lists.specs.Lists.{sum, padded}
 use Rattle.lists.specs.Limits.{max_position}
 use Rattle.text.specs.declared.Estimate.{Estimate}
 use Rattle.records.specs.Kept.{no_entry}
@@ -21,11 +20,6 @@ use Rattle.columns.proofs.Mapped.{in_part, length_in_part, part_before, part_in,
 use Rattle.columns.proofs.Largest.{gives_before, gives_in, gives_after}
 use Rattle.estimates.specs.Estimates.{none}
 use Rattle.estimates.specs.inner.Spread.{spread_cells, Spreads, entry_box, entry_boxes, EntryFits}
-
--- a sum from place i on
-pub sum_from : (xs : List ℕ) (i : ℕ) → i < length xs → sum (drop i xs) ≡ get_or xs i 0 + sum (drop (i + 1) xs)
-unfolding sum
-sum_from xs i h = rw (add-one, drop-cons xs i 0 h)
 
 -- raising the columns of a box to its quotient
 module _ (b : Box) (xs : List ℕ) (fits : b.first + b.span ≤ length xs) where
@@ -47,20 +41,20 @@ pub record SpreadLoop (es : List Estimate) (xs : List Entry) (n all i : ℕ) (co
   pub whole : all + spread_cells (entry_boxes es (drop i xs)) ≡ spread_cells (entry_boxes es xs)
   pub most : (j : ℕ) → max (get_or columns j 0) (largest_at least_of (entry_boxes es (drop i xs)) j) ≡ largest_at least_of (entry_boxes es xs) j
 
-pub spread_start : (es : List Estimate) (xs : List Entry) (n : ℕ) (columns : List ℕ) → columns ≡ padded n [] → SpreadLoop es xs n 0 0 columns
+pub spread_start : (es : List Estimate) (xs : List Entry) (n : ℕ) (columns : List ℕ) → columns ≡ replicate n 0 → SpreadLoop es xs n 0 0 columns
 spread_start es xs n columns e = record {
   place = omega arith;
-  long = ap length e ∙ length-replicate {A = ℕ} (n - 0) 0 ∙ omega arith;
+  long = ap length e ∙ length-replicate {A = ℕ} n 0;
   whole = omega arith;
   most = λ j. omega (arith, zero_at j);
 }
   where
     zero_at : (j : ℕ) → get_or columns j 0 ≡ 0
-    zero_at j = rw e (go (dec_lt j (n - 0)))
+    zero_at j = rw e (go (dec_lt j n))
       where
-        go : Dec (j < n - 0) → get_or (padded n []) j 0 ≡ 0
-        go (yes p) = get_or-replicate (n - 0) j 0 0 p
-        go (no p) = get_or-eq_default (padded n []) 0 {n = j} (omega (arith, length-replicate {A = ℕ} (n - 0) 0))
+        go : Dec (j < n) → ◌≡◌ {A = ℕ} (get_or (replicate n 0) j 0) 0
+        go (yes p) = get_or-replicate n j 0 0 p
+        go (no p) = get_or-eq_default (replicate n 0) 0 {n = j} (omega (arith, length-replicate {A = ℕ} n 0))
 
 module _ {es : List Estimate} {xs : List Entry} {n all i : ℕ} {columns : List ℕ} (z : SpreadLoop es xs n all i columns) where
   pub spread_stop : length xs ≤ i → Spreads (entry_boxes es xs) n all columns

@@ -9,10 +9,11 @@ pub mod spread;
 ghost use Rattle.std.specs.Prelude.{◌≡◌, ◌<◌, length, get_or};
 ghost use Rattle.kinds.specs.Kinds.{table_kind};
 ghost use Rattle.records.specs.Kept.{kepts_of, kept_count, no_kept, entries_of, rows_of};
+ghost use Rattle.estimates.specs.Estimates.{estimate};
 ghost use Rattle.estimates.specs.Sheet.{line_at};
 ghost use Rattle.estimates.specs.Meets.{Lent, Measured, CellsMeasured};
 ghost use Rattle.estimates.specs.inner.Figures.{figures_of};
-ghost use Rattle.estimates.specs.inner.Cycle.{NodeReady, Plain, Holder, FilledAt, NodeMeets, CellMeets, TableMeets};
+ghost use Rattle.estimates.specs.inner.Cycle.{NodeReady, Plain, Holder, FilledAt, CellsPassed, NodeMeets, CellMeets, TableMeets};
 
 use kinds::is_leaf;
 
@@ -24,6 +25,26 @@ pub struct Part {
     pub least: u32,
     pub children: u32,
 }
+
+impl Part {
+    // The estimate of a line that adds nothing to those below it.
+    fn estimate(self) -> text::Estimate
+        ensures { result ≡ estimate self.size self.least 0 }
+    {
+        text::Estimate {
+            size: self.size,
+            least: self.least,
+            prefix: 0,
+        }
+    }
+}
+
+// The estimate of a line that has neither text nor children.
+pub const NONE: text::Estimate = text::Estimate {
+    size: 0,
+    least: 0,
+    prefix: 0,
+};
 
 // Measures the line at `at` and all below it, and returns the line after those. Ports `RenderNode::calc_size_estimate`.
 #[cycle(cell_node_table)]
@@ -47,12 +68,7 @@ fn node(
         at + 1
     } else if line.kind == kinds::TABLE {
         let p = table(lines, figures, leasts, entries, rows, wrap, at);
-        let e = text::Estimate {
-            size: p.size,
-            least: p.least,
-            prefix: 0,
-        };
-        packed::put_estimate(figures, at, e);
+        packed::put_estimate(figures, at, p.estimate());
         p.after
     } else {
         let p = cell(lines, figures, leasts, entries, rows, wrap, at);
@@ -68,15 +84,46 @@ fn is_filled(lines: &[u32], i: usize) -> bool
     ensures { FilledAt (kepts_of lines.now) i result }
 {
     let line = records::kept_at(lines, i);
-    if line.kind != kinds::CELL {
-        return false;
+    line.kind == kinds::CELL
+        && i + 1 < records::count(lines)
+        && line.depth < records::kept_at(lines, i + 1).depth
+}
+
+// Measures all below the table at `at`, and returns the line after those.
+#[cycle(cell_node_table)]
+fn below_table(
+    lines: &[u32],
+    figures: &mut [u32],
+    leasts: &mut [u32],
+    entries: &mut [u32],
+    rows: &mut [u32],
+    wrap: u32,
+    at: usize,
+) -> usize
+    requires node_ready { NodeReady lines.now figures.old leasts.old entries.old rows.old at }
+    requires at_table { (line_at (kepts_of lines.now) at).kind ≡ table_kind }
+    ensures { CellsPassed wrap (kepts_of lines.now) (figures_of figures.old) (figures_of figures.new) at result }
+{
+    let top = records::kept_at(lines, at);
+    let n = records::count(lines);
+    let mut i = at + 1;
+    // A while: a turn moves on by the lines that its call passes.
+    while i < n {
+        let line = records::kept_at(lines, i);
+        if line.depth <= top.depth {
+            break;
+        }
+        if is_filled(lines, i) {
+            let p = cell(lines, figures, leasts, entries, rows, wrap, i);
+            packed::put_estimate(figures, i, p.estimate());
+            i = p.after;
+        } else {
+            // a body, a row, or a cell that holds nothing, which needs no call
+            packed::put_estimate(figures, i, NONE);
+            i += 1;
+        }
     }
-    let next = i + 1;
-    if next >= records::count(lines) {
-        return false;
-    }
-    let after = records::kept_at(lines, next);
-    line.depth < after.depth
+    i
 }
 
 // Measures all below the table at `at`, and returns the table's own figures, by its grid: this is made when all below is measured, so that no
@@ -95,35 +142,8 @@ fn table(
     requires at_table { (line_at (kepts_of lines.now) at).kind ≡ table_kind }
     ensures { TableMeets wrap (kepts_of lines.now) (figures_of figures.old) (figures_of figures.new) at result }
 {
-    let top = records::kept_at(lines, at);
-    let n = records::count(lines);
-    let mut i = at + 1;
-    while i < n {
-        let line = records::kept_at(lines, i);
-        if line.depth <= top.depth {
-            break;
-        }
-        if is_filled(lines, i) {
-            let p = cell(lines, figures, leasts, entries, rows, wrap, i);
-            let e = text::Estimate {
-                size: p.size,
-                least: p.least,
-                prefix: 0,
-            };
-            packed::put_estimate(figures, i, e);
-            i = p.after;
-        } else {
-            // a body, a row, or a cell that holds nothing, which needs no call
-            let e = text::Estimate {
-                size: 0,
-                least: 0,
-                prefix: 0,
-            };
-            packed::put_estimate(figures, i, e);
-            i += 1;
-        }
-    }
-    spread::table_figures(lines, at, i, figures, leasts, entries, rows)
+    let end = below_table(lines, figures, leasts, entries, rows, wrap, at);
+    spread::table_figures(lines, at, end, figures, leasts, entries, rows)
 }
 
 // Measures all below the line at `at`, and returns its children combined. Ports `RenderTableCell::get_size_estimate`, and the folds over
@@ -148,6 +168,7 @@ fn cell(
     let mut most: u32 = 0;
     let mut children: u32 = 0;
     let mut i = at + 1;
+    // A while: a turn moves on by the lines that its call passes.
     while i < n {
         let line = records::kept_at(lines, i);
         if line.depth <= top.depth {
@@ -158,14 +179,14 @@ fn cell(
             let e = single::leaf(line, wrap);
             packed::put_estimate(figures, i, e);
             sum += e.size;
-            most = lists::larger(most, e.least);
+            most = most.max(e.least);
             children += 1;
             i += 1;
         } else {
             let next = node(lines, figures, leasts, entries, rows, wrap, i);
             let child = packed::estimate_at(figures, i);
             sum += child.size;
-            most = lists::larger(most, child.least);
+            most = most.max(child.least);
             children += 1;
             i = next;
         }
@@ -174,7 +195,7 @@ fn cell(
         after: i,
         size: sum,
         least: most,
-        children: children,
+        children,
     }
 }
 
@@ -208,31 +229,5 @@ pub fn measure_below(
     requires at_table { (get_or (kepts_of lines.now) at no_kept).kind ≡ table_kind }
     ensures { CellsMeasured wrap (kepts_of lines.now) at (figures_of figures.old) (figures_of figures.new) }
 {
-    let top = records::kept_at(lines, at);
-    let n = records::count(lines);
-    let mut i = at + 1;
-    while i < n {
-        let line = records::kept_at(lines, i);
-        if line.depth <= top.depth {
-            break;
-        }
-        if is_filled(lines, i) {
-            let p = cell(lines, figures, leasts, entries, rows, wrap, i);
-            let e = text::Estimate {
-                size: p.size,
-                least: p.least,
-                prefix: 0,
-            };
-            packed::put_estimate(figures, i, e);
-            i = p.after;
-        } else {
-            let e = text::Estimate {
-                size: 0,
-                least: 0,
-                prefix: 0,
-            };
-            packed::put_estimate(figures, i, e);
-            i += 1;
-        }
-    }
+    below_table(lines, figures, leasts, entries, rows, wrap, at);
 }

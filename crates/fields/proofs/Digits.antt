@@ -11,12 +11,11 @@ use lib.Dec.{eqb, leb}
 use lib.ListN.{length, get_or, drop, length-drop, drop_of_length-le}
 use lib.Seq.{drop-cons}
 use borrow.Author.Tests.{eq-eqb, ne_eqb, eqb-true, le-leb, lt-leb, leb-true, leb-false}
+use Rattle.std.specs.Prelude.{None}
 use Rattle.text.specs.Decimal.{plain, minus}
 use Rattle.fields.specs.Numbers.{numeral, unwritten, is_digit, all_digits, value_from, is_natural, natural_of, negative_of, number_of, up_to, magnitude}
 use Rattle.fields.specs.Blanks.{field, longer, until_blank, blank}
-use Rattle.fields.specs.Reading.{on_field, on_numeral, number_read, digits_read, is_lone}
-use Rattle.fields.specs.declared.FieldRead.{FieldRead}
-use Rattle.fields.specs.declared.FieldRead.TheVariants.{Sound, Unsound}
+use Rattle.fields.specs.Reading.{FieldRead, sound, on_field, on_numeral, number_read, digits_read, is_lone}
 use Rattle.fields.proofs.OnField.{on_longer, on_same, on_unsound, and_fails, and_0, and_1}
 
 pub digit_from : (b : ℕ) → is_digit b ≡ true → 48 ≤ b
@@ -37,22 +36,22 @@ module _ (most v i : ℕ) (s : List ℕ) where
   abbrev w : ℕ
   w = v * 10 + (b - 48)
 
-  pub digits_out : length s ≤ i → here ≡ Unsound
+  pub digits_out : length s ≤ i → here ≡ None
   unfolding digits_read
   digits_out h = rw (drop_of_length-le s h)
 
   module _ (h : i < length s) where
-    pub digits_end : b ≡ blank → here ≡ Sound v (i + 1)
+    pub digits_end : b ≡ blank → here ≡ sound v (i + 1)
     unfolding digits_read
     digits_end e = rw (drop-cons s i 0 h, eq-eqb _ _ e)
 
     module _ (n : b ≡ blank → ⊥) where
-      pub digits_other : is_digit b ≡ false → here ≡ Unsound
+      pub digits_other : is_digit b ≡ false → here ≡ None
       unfolding digits_read
       digits_other d = rw (drop-cons s i 0 h, ne_eqb _ _ n, d)
 
       module _ (d : is_digit b ≡ true) where
-        pub digits_past : most < w → here ≡ Unsound
+        pub digits_past : most < w → here ≡ None
         unfolding digits_read
         digits_past g = rw (drop-cons s i 0 h, ne_eqb _ _ n, d, lt-leb _ _ g)
 
@@ -68,7 +67,7 @@ value_grows v (b ∷ f) = omega (arith, value_grows (v * 10 + (b - 48)) f)
 
 -- what the loop reads, by the field
 abbrev digits_in : ℕ → ℕ → ℕ → List ℕ → FieldRead
-digits_in most v at f = cond (all_digits f && leb (value_from v f) most) (Sound (value_from v f) (at + length f + 1)) Unsound
+digits_in most v at f = cond (all_digits f && leb (value_from v f) most) (sound (value_from v f) (at + length f + 1)) None
 
 digits_field : (most v at : ℕ) (s : List ℕ) → v ≤ most → digits_read most v at s ≡ on_field (until_blank s) (digits_in most v at)
 unfolding digits_read until_blank all_digits value_from
@@ -81,7 +80,7 @@ digits_field most v at (b ∷ bs) h =
 
     go : (t d l : Bool) → is_digit b ≡ d → leb w most ≡ l
         → (w ≤ most → digits_read most w (at + 1) bs ≡ on_field (until_blank bs) (digits_in most w (at + 1)))
-        → cond t (Sound v (at + 1)) (cond (d && l) (digits_read most w (at + 1) bs) Unsound)
+        → cond t (sound v (at + 1)) (cond (d && l) (digits_read most w (at + 1) bs) None)
         ≡ on_field (cond t (field [] bs) (longer b (until_blank bs))) (digits_in most v at)
     go true d l c e more = rw (le-leb v most h, add-zero)
     go false false l c e more = sym (on_longer b (until_blank bs) _ ∙ on_unsound (until_blank bs) _ (λ f. rw c))
@@ -101,7 +100,7 @@ digits_field most v at (b ∷ bs) h =
 -- a number from 0 to most, by the field
 
 abbrev pub natural_in : ℕ → ℕ → List ℕ → FieldRead
-natural_in most at f = cond (is_natural f && leb (value_from 0 f) most) (Sound (value_from 0 f) (at + length f + 1)) Unsound
+natural_in most at f = cond (is_natural f && leb (value_from 0 f) most) (sound (value_from 0 f) (at + length f + 1)) None
 
 -- a byte before digits: no digit, no number
 pub natural_first : (b : ℕ) (f : List ℕ) → is_digit b ≡ false → is_natural (b ∷ f) ≡ false
@@ -119,7 +118,7 @@ unfolding is_natural
 natural_zero c f = refl
 
 natural_in_lem : (most at : ℕ) (f : List ℕ)
-    → on_numeral (number_of f) (λ n. cond (up_to most n) (Sound (magnitude n) (at + length f + 1)) Unsound) ≡ natural_in most at f
+    → on_numeral (number_of f) (λ n. cond (up_to most n) (sound (magnitude n) (at + length f + 1)) None) ≡ natural_in most at f
 unfolding number_of negative_of natural_of is_natural
 natural_in_lem most at [] = refl
 natural_in_lem most at (b ∷ f) = go (eqb b 45) refl
@@ -128,18 +127,18 @@ natural_in_lem most at (b ∷ f) = go (eqb b 45) refl
     place = at + suc (length f) + 1
 
     sign : (t : Bool) (v : ℕ)
-        → on_numeral (cond t (numeral (minus v)) unwritten) (λ n. cond (up_to most n) (Sound (magnitude n) place) Unsound) ≡ Unsound
+        → on_numeral (cond t (numeral (minus v)) unwritten) (λ n. cond (up_to most n) (sound (magnitude n) place) None) ≡ None
     sign true v = refl
     sign false v = refl
 
     digits : (t : Bool) (v : ℕ)
-        → on_numeral (cond t (numeral (plain v)) unwritten) (λ n. cond (up_to most n) (Sound (magnitude n) place) Unsound)
-        ≡ cond (t && leb v most) (Sound v place) Unsound
+        → on_numeral (cond t (numeral (plain v)) unwritten) (λ n. cond (up_to most n) (sound (magnitude n) place) None)
+        ≡ cond (t && leb v most) (sound v place) None
     digits true v = refl
     digits false v = refl
 
     go : (t : Bool) → eqb b 45 ≡ t
-        → on_numeral (cond t (negative_of f) (natural_of (b ∷ f))) (λ n. cond (up_to most n) (Sound (magnitude n) place) Unsound)
+        → on_numeral (cond t (negative_of f) (natural_of (b ∷ f))) (λ n. cond (up_to most n) (sound (magnitude n) place) None)
         ≡ natural_in most at (b ∷ f)
     go true e = sign (is_natural f && not (eqb (value_from 0 f) 0)) (value_from 0 f) ∙ sym (rw (natural_first b f (ap is_digit (eqb-true b 45 e))))
     go false e = digits (is_natural (b ∷ f)) (value_from 0 (b ∷ f))
@@ -150,7 +149,7 @@ natural_field most at s = on_same (until_blank s) _ _ (natural_in_lem most at)
 
 -- a single digit
 natural_one : (most at b c : ℕ) (bs : List ℕ) → is_lone (b ∷ c ∷ bs) ≡ true
-    → on_field (until_blank (b ∷ c ∷ bs)) (natural_in most at) ≡ cond (leb (b - 48) most) (Sound (b - 48) (at + 2)) Unsound
+    → on_field (until_blank (b ∷ c ∷ bs)) (natural_in most at) ≡ cond (leb (b - 48) most) (sound (b - 48) (at + 2)) None
 unfolding is_lone until_blank is_natural value_from
 natural_one most at b c bs e =
     let digit : is_digit b ≡ true = and_0 (is_digit b) (eqb c blank) e in
@@ -160,7 +159,7 @@ natural_one most at b c bs e =
     rw (ne_eqb b blank other, and_1 (is_digit b) (eqb c blank) e, digit, n, v)
 
 -- after a 0 that is none there are more bytes, or no space
-natural_after : (most at : ℕ) (bs : List ℕ) → is_lone (48 ∷ bs) ≡ false → on_field (until_blank (48 ∷ bs)) (natural_in most at) ≡ Unsound
+natural_after : (most at : ℕ) (bs : List ℕ) → is_lone (48 ∷ bs) ≡ false → on_field (until_blank (48 ∷ bs)) (natural_in most at) ≡ None
 unfolding is_lone until_blank is_natural
 natural_after most at [] e = refl
 natural_after most at (c ∷ bs) e =
@@ -216,11 +215,11 @@ module _ (most at : ℕ) (s : List ℕ) where
   abbrev found : FieldRead
   found = number_read (up_to most) magnitude at (drop at s)
 
-  pub natural_out : length s ≤ at → found ≡ Unsound
+  pub natural_out : length s ≤ at → found ≡ None
   unfolding number_read until_blank
   natural_out h = rw (drop_of_length-le s h)
 
-  pub natural_lone : is_lone (drop at s) ≡ true → found ≡ cond (leb (get_or s at 0 - 48) most) (Sound (get_or s at 0 - 48) (at + 2)) Unsound
+  pub natural_lone : is_lone (drop at s) ≡ true → found ≡ cond (leb (get_or s at 0 - 48) most) (sound (get_or s at 0 - 48) (at + 2)) None
   natural_lone e =
       let h = (lone s at e).inside in
       let two : drop at s ≡ get_or s at 0 ∷ get_or s (at + 1) 0 ∷ drop (suc (at + 1)) s =
@@ -230,11 +229,11 @@ module _ (most at : ℕ) (s : List ℕ) where
       ∙ natural_one most at (get_or s at 0) (get_or s (at + 1) 0) (drop (suc (at + 1)) s) (rw two at e))
 
   module _ (h : at < length s) where
-    pub natural_blank : get_or s at 0 ≡ blank → found ≡ Unsound
+    pub natural_blank : get_or s at 0 ≡ blank → found ≡ None
     unfolding number_read until_blank number_of
     natural_blank e = rw (drop-cons s at 0 h, eq-eqb _ _ e)
 
-    pub natural_more : get_or s at 0 ≡ 48 → is_lone (drop at s) ≡ false → found ≡ Unsound
+    pub natural_more : get_or s at 0 ≡ 48 → is_lone (drop at s) ≡ false → found ≡ None
     natural_more e n =
         rw (drop-cons s at 0 h, e)
         (natural_field most at (48 ∷ drop (suc at) s)

@@ -11,35 +11,34 @@ use lib.Dec.{eqb, ltb, leb}
 use lib.ListN.{length, get_or, drop, drop_of_length-le}
 use lib.Seq.{drop-cons}
 use borrow.Author.Tests.{eq-eqb, ne_eqb, eqb-true, lt-ltb, le-ltb, lt-leb, leb-true}
+use Rattle.std.specs.Prelude.{Option, Some, None}
 use Rattle.kinds.specs.Kinds.{same, place, kind_of, kind_names, kind_count}
 use Rattle.fields.specs.Blanks.{field, longer, until_blank, blank}
-use Rattle.fields.specs.Reading.{on_field, kind_read, is_letter, nine_letters, no_key, key_from, key_of, key_place, kind_keys}
+use Rattle.fields.specs.Reading.{on_field, kind_read, FieldRead, sound, is_letter, nine_letters, key_from, key_of, key_place, kind_keys, kind_named}
 use Rattle.fields.specs.declared.naming.Key.{Key}
-use Rattle.fields.specs.declared.FieldRead.{FieldRead}
-use Rattle.fields.specs.declared.FieldRead.TheVariants.{Sound, Unsound}
 use Rattle.fields.proofs.OnField.{on_longer, on_same, on_unsound, and_0, and_1}
 
 -- the turns of `key_at`
 module _ (k i : ℕ) (s : List ℕ) where
-  abbrev here : Key
+  abbrev here : Option Key
   here = key_from k i (drop i s)
 
-  pub key_out : length s ≤ i → here ≡ no_key
+  pub key_out : length s ≤ i → here ≡ None
   unfolding key_from
   key_out h = rw (drop_of_length-le s h)
 
   module _ (h : i < length s) where
-    pub key_end : get_or s i 0 ≡ blank → here ≡ record { key = k; next = i + 1 }
+    pub key_end : get_or s i 0 ≡ blank → here ≡ Some (record { key = k; next = i + 1 })
     unfolding key_from
     key_end e = rw (drop-cons s i 0 h, eq-eqb _ _ e)
 
     module _ (n : get_or s i 0 ≡ blank → ⊥) where
-      pub key_other : is_letter (get_or s i 0) ≡ false → here ≡ no_key
+      pub key_other : is_letter (get_or s i 0) ≡ false → here ≡ None
       unfolding key_from
       key_other d = rw (drop-cons s i 0 h, ne_eqb _ _ n, d)
 
       module _ (d : is_letter (get_or s i 0) ≡ true) where
-        pub key_long : nine_letters ≤ k → here ≡ no_key
+        pub key_long : nine_letters ≤ k → here ≡ None
         unfolding key_from
         key_long g = rw (drop-cons s i 0 h, ne_eqb _ _ n, d, le-ltb _ _ g)
 
@@ -52,20 +51,22 @@ unfoldable pub named : ℕ → List ℕ → Bool
 named k [] = true
 named k (b ∷ f) = (is_letter b && ltb k nine_letters) && named (k * 32 + (b - 96)) f
 
-abbrev name_key : ℕ → ℕ → List ℕ → Key
-name_key k at f = cond (named k f) (record { key = key_of k f; next = at + length f + 1 }) no_key
+abbrev name_key : ℕ → ℕ → List ℕ → Option Key
+name_key k at f = cond (named k f) (Some (record { key = key_of k f; next = at + length f + 1 })) None
 
--- the kind of a key
-abbrev pub kind_with : Key → FieldRead
-kind_with r = cond (ltb (key_place r.key kind_keys) kind_count) (Sound (key_place r.key kind_keys) r.next) Unsound
+-- the kind of a key, and where the next field starts
 
-no_kind : kind_with no_key ≡ Unsound
-unfolding key_place kind_keys key_of
-no_kind = refl
+abbrev pub kind_until : ℕ → Option ℕ → FieldRead
+kind_until next None = None
+kind_until next (Some kind) = sound kind next
+
+abbrev pub kind_with : Option Key → FieldRead
+kind_with None = None
+kind_with (Some r) = kind_until r.next (kind_named (key_place r.key kind_keys))
 
 key_field : (k at : ℕ) (s : List ℕ) → kind_with (key_from k at s) ≡ on_field (until_blank s) (λ f. kind_with (name_key k at f))
 unfolding key_from until_blank named key_of
-key_field k at [] = no_kind
+key_field k at [] = refl
 key_field k at (b ∷ bs) = go (eqb b blank) (is_letter b && ltb k nine_letters) refl (key_field w (at + 1) bs)
   where
     w : ℕ
@@ -73,10 +74,10 @@ key_field k at (b ∷ bs) = go (eqb b blank) (is_letter b && ltb k nine_letters)
 
     go : (t d : Bool) → (is_letter b && ltb k nine_letters) ≡ d
         → kind_with (key_from w (at + 1) bs) ≡ on_field (until_blank bs) (λ f. kind_with (name_key w (at + 1) f))
-        → kind_with (cond t (record { key = k; next = at + 1 }) (cond d (key_from w (at + 1) bs) no_key))
+        → kind_with (cond t (Some (record { key = k; next = at + 1 })) (cond d (key_from w (at + 1) bs) None))
         ≡ on_field (cond t (field [] bs) (longer b (until_blank bs))) (λ f. kind_with (name_key k at f))
     go true d e more = rw add-zero
-    go false false e more = no_kind ∙ sym (on_longer b (until_blank bs) _ ∙ on_unsound (until_blank bs) _ (λ f. rw e no_kind))
+    go false false e more = sym (on_longer b (until_blank bs) _ ∙ on_unsound (until_blank bs) _ (λ f. rw e))
     go false true e more =
         more
         ∙ sym
@@ -192,15 +193,20 @@ place_none f (m ∷ ms) e g = go (same f m) refl (place_none f ms e (and_1 (name
     go false s ih = ap suc ih
 
 -- a kind is found by its key
-kind_name : (at : ℕ) (f : List ℕ) → cond (ltb (kind_of f) kind_count) (Sound (kind_of f) (at + length f + 1)) Unsound
+
+until_cond : (t : Bool) (kind next : ℕ) → cond t (sound kind next) None ≡ kind_until next (cond t (Some kind) None)
+until_cond true kind next = refl
+until_cond false kind next = refl
+
+kind_name : (at : ℕ) (f : List ℕ) → cond (ltb (kind_of f) kind_count) (sound (kind_of f) (at + length f + 1)) None
     ≡ kind_with (name_key 1 at f)
 unfolding kind_of kind_keys
 kind_name at f = go (named 1 f) refl
   where
-    go : (t : Bool) → named 1 f ≡ t → cond (ltb (place f kind_names) kind_count) (Sound (place f kind_names) (at + length f + 1)) Unsound
-        ≡ kind_with (cond t (record { key = key_of 1 f; next = at + length f + 1 }) no_key)
-    go true e = rw (place_key f kind_names e names_named)
-    go false e = rw (place_none f kind_names e names_named) (sym no_kind)
+    go : (t : Bool) → named 1 f ≡ t → cond (ltb (place f kind_names) kind_count) (sound (place f kind_names) (at + length f + 1)) None
+        ≡ kind_with (cond t (Some (record { key = key_of 1 f; next = at + length f + 1 })) None)
+    go true e = rw (place_key f kind_names e names_named) (until_cond _ _ _)
+    go false e = rw (place_none f kind_names e names_named)
 
 pub kind_key : (at : ℕ) (s : List ℕ) → kind_read at s ≡ kind_with (key_from 1 at s)
 unfolding kind_read

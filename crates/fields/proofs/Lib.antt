@@ -3,3 +3,4 @@ pub mod Digits
 pub mod Signs
 pub mod Keys
 pub mod Names
+pub mod Words

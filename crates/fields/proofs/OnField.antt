@@ -4,12 +4,11 @@ use mathlib.Core.Path.{◌≡◌, refl, sym}
 use mathlib.Core.Bool.{Bool, true, false, ◌&&◌}
 use mathlib.Core.List.{List, ◌∷◌}
 use Prim.Native.Nat.{ℕ}
+use Rattle.std.specs.Prelude.{None}
 use Rattle.text.specs.Decimal.{Number}
 use Rattle.fields.specs.Blanks.{Field, field, endless, longer}
 use Rattle.fields.specs.Numbers.{Numeral, numeral, unwritten}
-use Rattle.fields.specs.Reading.{on_field, on_numeral}
-use Rattle.fields.specs.declared.FieldRead.{FieldRead}
-use Rattle.fields.specs.declared.FieldRead.TheVariants.{Unsound}
+use Rattle.fields.specs.Reading.{FieldRead, on_field, on_numeral}
 
 pub on_longer : (b : ℕ) (x : Field) (g : List ℕ → FieldRead) → on_field (longer b x) g ≡ on_field x (λ f. g (b ∷ f))
 on_longer b (field f r) g = refl
@@ -19,7 +18,7 @@ pub on_same : (x : Field) (g h : List ℕ → FieldRead) → ((f : List ℕ) →
 on_same (field f r) g h e = e f
 on_same endless g h e = refl
 
-pub on_unsound : (x : Field) (g : List ℕ → FieldRead) → ((f : List ℕ) → g f ≡ Unsound) → on_field x g ≡ Unsound
+pub on_unsound : (x : Field) (g : List ℕ → FieldRead) → ((f : List ℕ) → g f ≡ None) → on_field x g ≡ None
 on_unsound (field f r) g e = e f
 on_unsound endless g e = refl
 
@@ -39,12 +38,12 @@ and_1 false true e = refl
 and_1 false false e = e
 
 -- a function that leaves nothing where there was nothing goes inside
-pub on_map : (h : FieldRead → FieldRead) → h Unsound ≡ Unsound → (x : Field) (g : List ℕ → FieldRead) → on_field x (λ f. h (g f))
+pub on_map : (h : FieldRead → FieldRead) → h None ≡ None → (x : Field) (g : List ℕ → FieldRead) → on_field x (λ f. h (g f))
     ≡ h (on_field x g)
 on_map h e (field f r) g = refl
 on_map h e endless g = sym e
 
-pub on_number : (h : FieldRead → FieldRead) → h Unsound ≡ Unsound → (x : Numeral) (g k : Number → FieldRead)
+pub on_number : (h : FieldRead → FieldRead) → h None ≡ None → (x : Numeral) (g k : Number → FieldRead)
     → ((n : Number) → k n ≡ h (g n)) → on_numeral x k ≡ h (on_numeral x g)
 on_number h e (numeral n) g k p = p n
 on_number h e unwritten g k p = sym e

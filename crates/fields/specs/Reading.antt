@@ -1,21 +1,28 @@
 -- Reading one field at a place of the sheet: what the reader's inner functions answer. These are definitions; nothing is assumed.
-use Rattle.std.specs.Prelude.{◌≡◌, Bool, false, cond, ◌&&◌, List, [], ◌∷◌, map, ℕ, suc, ◌+◌, ◌-◌, ◌*◌, ◌/◌, ◌%◌, ◌≤◌, leb, ltb, eqb, length, drop}
+use Rattle.std.specs.Prelude.{◌≡◌, Bool, false, cond, ◌&&◌, List, [], ◌∷◌, map, ℕ, suc, ◌+◌, ◌-◌, ◌*◌, ◌/◌, ◌%◌, ◌≤◌, leb, ltb, eqb, length, drop, Option, Some, None}
 use Rattle.text.specs.Decimal.{Number, plain, minus}
 use Rattle.kinds.specs.Kinds.{kind_of, kind_names, kind_count}
 use Rattle.fields.specs.Numbers.{Numeral, numeral, unwritten, number_of, is_digit}
 use Rattle.fields.specs.Blanks.{Field, field, endless, until_blank, blank}
-use Rattle.fields.specs.declared.FieldRead.{FieldRead}
-use Rattle.fields.specs.declared.FieldRead.TheVariants.{Sound, Unsound}
+use Rattle.fields.specs.declared.Field as declared
 use Rattle.fields.specs.declared.naming.Key.{Key}
+
+-- what reading a field answers, and a field that is read
+
+abbrev pub FieldRead : Type 0
+FieldRead = Option declared.Field
+
+abbrev pub sound : ℕ → ℕ → FieldRead
+sound value next = Some (record { value = value; next = next })
 
 -- the bytes up to the first space, if there is one
 abbrev pub on_field : Field → (List ℕ → FieldRead) → FieldRead
 on_field (field f r) g = g f
-on_field endless g = Unsound
+on_field endless g = None
 
 abbrev pub on_numeral : Numeral → (Number → FieldRead) → FieldRead
 on_numeral (numeral n) g = g n
-on_numeral unwritten g = Unsound
+on_numeral unwritten g = None
 
 -- from one number to another
 abbrev pub from_to : ℕ → ℕ → Number → Bool
@@ -26,19 +33,19 @@ from_to least most (minus v) = false
 unfoldable pub number_read : (Number → Bool) → (Number → ℕ) → ℕ → List ℕ → FieldRead
 number_read allowed kept at s =
     on_field (until_blank s)
-    (λ f. on_numeral (number_of f) (λ n. cond (allowed n) (Sound (kept n) (at + length f + 1)) Unsound))
+    (λ f. on_numeral (number_of f) (λ n. cond (allowed n) (sound (kept n) (at + length f + 1)) None))
 
 -- the kind at the front of bytes that stand at a place, likewise
 unfoldable pub kind_read : ℕ → List ℕ → FieldRead
 kind_read at s =
-    on_field (until_blank s) (λ f. cond (ltb (kind_of f) kind_count) (Sound (kind_of f) (at + length f + 1)) Unsound)
+    on_field (until_blank s) (λ f. cond (ltb (kind_of f) kind_count) (sound (kind_of f) (at + length f + 1)) None)
 
 -- digits and the space after them, after digits of value v; a value above most is left at once
 unfoldable pub digits_read : ℕ → ℕ → ℕ → List ℕ → FieldRead
-digits_read most v at [] = Unsound
+digits_read most v at [] = None
 digits_read most v at (b ∷ bs) =
-    cond (eqb b blank) (Sound v (at + 1))
-    (cond (is_digit b && leb (v * 10 + (b - 48)) most) (digits_read most (v * 10 + (b - 48)) (at + 1) bs) Unsound)
+    cond (eqb b blank) (sound v (at + 1))
+    (cond (is_digit b && leb (v * 10 + (b - 48)) most) (digits_read most (v * 10 + (b - 48)) (at + 1) bs) None)
 
 -- a single digit, and the space after it
 unfoldable pub is_lone : List ℕ → Bool
@@ -53,15 +60,12 @@ is_letter b = leb 97 b && leb b 122
 abbrev pub nine_letters : ℕ
 nine_letters = 35184372088832
 
-abbrev pub no_key : Key
-no_key = record { key = 0; next = 0 }
-
 -- the key of the name at the front of bytes that stand at a place, after letters of key k, and where the next field starts
-unfoldable pub key_from : ℕ → ℕ → List ℕ → Key
-key_from k at [] = no_key
+unfoldable pub key_from : ℕ → ℕ → List ℕ → Option Key
+key_from k at [] = None
 key_from k at (b ∷ bs) =
-    cond (eqb b blank) (record { key = k; next = at + 1 })
-    (cond (is_letter b && ltb k nine_letters) (key_from (k * 32 + (b - 96)) (at + 1) bs) no_key)
+    cond (eqb b blank) (Some (record { key = k; next = at + 1 }))
+    (cond (is_letter b && ltb k nine_letters) (key_from (k * 32 + (b - 96)) (at + 1) bs) None)
 
 -- the key of a name, after letters of key k
 unfoldable pub key_of : ℕ → List ℕ → ℕ
@@ -72,6 +76,10 @@ key_of k (b ∷ bs) = key_of (k * 32 + (b - 96)) bs
 unfoldable pub key_place : ℕ → List ℕ → ℕ
 key_place k [] = 0
 key_place k (m ∷ ms) = cond (eqb k m) 0 (suc (key_place k ms))
+
+-- the kind at a place among them, if there is one
+abbrev pub kind_named : ℕ → Option ℕ
+kind_named kind = cond (ltb kind kind_count) (Some kind) None
 
 -- the keys of the kinds' names
 unfoldable pub kind_keys : List ℕ
@@ -92,4 +100,4 @@ pub record Spelt (four : ℕ) (s : List ℕ) (at next : ℕ) (rest : List ℕ) :
 -- the field at a place names a kind, and the next field starts at another place of the sheet, or at its end
 pub record Named (kind : ℕ) (s : List ℕ) (at next : ℕ) : Type 0 where
   pub inside : next ≤ length s
-  pub is : kind_read at (drop at s) ≡ Sound kind next
+  pub is : kind_read at (drop at s) ≡ sound kind next

@@ -13,11 +13,7 @@ fn are_four(a: u8, b: u8, c: u8, d: u8, four: u32) -> bool
 pub fn four_at(bytes: &[u8], at: usize, four: u32) -> bool
     ensures { result ≡ true → Spelt four bytes.now at (at + 4) (drop (at + 4) bytes.now) }
 {
-    if bytes.len() < 4 {
-        return false;
-    }
-    if at > bytes.len() - 4 {
-        return false;
-    }
-    are_four(bytes[at], bytes[at + 1], bytes[at + 2], bytes[at + 3], four)
+    bytes.len() >= 4
+        && at <= bytes.len() - 4
+        && are_four(bytes[at], bytes[at + 1], bytes[at + 2], bytes[at + 3], four)
 }

@@ -2,10 +2,10 @@
 ghost use Rattle.std.specs.Prelude.{◌≡◌, true, ◌∷◌, ◌+◌, ◌-◌, ◌*◌, ◌≤◌, ◌<◌, drop};
 ghost use Rattle.kinds.specs.Kinds.{table_kind};
 ghost use Rattle.fields.specs.Blanks.{blank};
-ghost use Rattle.fields.specs.Reading.{Spelt, Named, nine_letters, key_from, key_place, kind_keys, kind_read};
+ghost use Rattle.fields.specs.Reading.{Spelt, Named, nine_letters, key_from, key_place, kind_keys, kind_named, kind_read};
 
+use super::Field;
 use super::fours::four_at;
-use super::{FieldRead, between};
 
 // `text`, `cell`, `body`, `row` with its space, and `table` with its space in two parts that overlap, as `four_at` takes them.
 const TEXT_NAME: u32 = 1954047348;
@@ -23,7 +23,7 @@ const TABLE_END: u32 = 543517794;
 // The least key of nine letters, which the longest name has.
 const NINE_LETTERS: u64 = 35184372088832;
 
-// A name as a number, 0 where there is none, and the place after the space that follows it.
+// A name as a number, and the place after the space that follows it.
 #[derive(Clone, Copy)]
 struct Key {
     pub key: u64,
@@ -40,36 +40,29 @@ fn longer(key: u64, letter: u8) -> u64
 }
 
 // Letters up to a space, as a number: 1, and then each letter as a digit of base 32.
-fn key_at(bytes: &[u8], at: usize) -> Key
+fn key_at(bytes: &[u8], at: usize) -> Option<Key>
     ensures { result ≡ key_from 1 at (drop at bytes.now) }
 {
     let mut key = 1u64;
-    let mut i = at;
-    while i < bytes.len() {
+    for i in at..bytes.len() {
         let b = bytes[i];
         if b == b' ' {
-            return Key {
-                key: key,
-                next: i + 1,
-            };
+            return Some(Key { key, next: i + 1 });
         }
-        if !between(b'a', b, b'z') {
-            return Key { key: 0, next: 0 };
-        }
-        if key >= NINE_LETTERS {
-            return Key { key: 0, next: 0 };
+        if !b.is_ascii_lowercase() || key >= NINE_LETTERS {
+            return None;
         }
         key = longer(key, b);
-        i += 1;
     }
-    Key { key: 0, next: 0 }
+    None
 }
 
 // The kind whose name has the key.
-fn kind_of(key: u64) -> u32
-    ensures { result ≡ key_place key kind_keys }
+#[tactic(auto, unfolding(crate::specs::Reading::key_of, crate::specs::Reading::key_place, crate::specs::Reading::kind_keys))]
+fn kind_of(key: u64) -> Option<u32>
+    ensures { result ≡ kind_named (key_place key kind_keys) }
 {
-    match key {
+    let kind = match key {
         1709844 => 0, // text
         42407 => 1, // img
         52935 => 2, // svg
@@ -97,57 +90,42 @@ fn kind_of(key: u64) -> u32
         1364141 => 24, // item
         52912 => 25, // sup
         1148291 => 26, // calc
-        _ => kinds::KINDS,
-    }
+        _ => return None,
+    };
+    Some(kind)
 }
 
 // Whether these four bytes and a space stand at a place.
 fn name_at(bytes: &[u8], at: usize, four: u32) -> bool
     ensures { result ≡ true → Spelt four bytes.now at (at + 5) (blank ∷ drop (at + 5) bytes.now) }
 {
-    if !four_at(bytes, at, four) {
-        return false;
-    }
-    let end = at + 4;
-    if end >= bytes.len() {
-        return false;
-    }
-    bytes[end] == b' '
+    four_at(bytes, at, four) && at + 4 < bytes.len() && bytes[at + 4] == b' '
 }
 
 // Whether `table` and a space stand at a place.
 fn table_at(bytes: &[u8], at: usize) -> bool
     ensures { result ≡ true → Named table_kind bytes.now at (at + 6) }
 {
-    if !four_at(bytes, at, TABLE_FRONT) {
-        return false;
-    }
-    four_at(bytes, at + 2, TABLE_END)
+    four_at(bytes, at, TABLE_FRONT) && four_at(bytes, at + 2, TABLE_END)
 }
 
 // The kind that the field at a place names. The commonest names are looked for first.
-pub fn kind_at(bytes: &[u8], at: usize) -> FieldRead
+pub fn kind_at(bytes: &[u8], at: usize) -> Option<Field>
     ensures { result ≡ kind_read at (drop at bytes.now) }
 {
-    if name_at(bytes, at, CELL_NAME) {
-        return FieldRead::Sound(kinds::CELL, at + 5);
-    }
-    if name_at(bytes, at, TEXT_NAME) {
-        return FieldRead::Sound(kinds::TEXT, at + 5);
-    }
-    if four_at(bytes, at, ROW_NAME) {
-        return FieldRead::Sound(kinds::ROW, at + 4);
-    }
-    if name_at(bytes, at, BODY_NAME) {
-        return FieldRead::Sound(kinds::BODY, at + 5);
-    }
-    if table_at(bytes, at) {
-        return FieldRead::Sound(kinds::TABLE, at + 6);
-    }
-    let k = key_at(bytes, at);
-    let kind = kind_of(k.key);
-    if kind >= kinds::KINDS {
-        return FieldRead::Unsound;
-    }
-    FieldRead::Sound(kind, k.next)
+    let (value, next) = if name_at(bytes, at, CELL_NAME) {
+        (kinds::CELL, at + 5)
+    } else if name_at(bytes, at, TEXT_NAME) {
+        (kinds::TEXT, at + 5)
+    } else if four_at(bytes, at, ROW_NAME) {
+        (kinds::ROW, at + 4)
+    } else if name_at(bytes, at, BODY_NAME) {
+        (kinds::BODY, at + 5)
+    } else if table_at(bytes, at) {
+        (kinds::TABLE, at + 6)
+    } else {
+        let k = key_at(bytes, at)?;
+        (kind_of(k.key)?, k.next)
+    };
+    Some(Field { value, next })
 }

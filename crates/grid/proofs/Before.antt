@@ -8,7 +8,8 @@ use lib.Dec.{eqb, ltb}
 use borrow.Author.Tests.{eqb-true}
 use Rattle.lists.specs.Limits.{max_entries}
 use Rattle.lists.specs.Refusals.{Check, check, first_answer, verdict_of}
-use Rattle.lists.specs.declared.Verdict.TheVariants.{Accepted, Refused}
+use Rattle.lists.specs.declared.Reason.TheVariants.{RowEnd, TooManyEntries, ColumnEdge}
+use Rattle.std.specs.Prelude.{Ok, Err}
 use Rattle.lists.specs.Lists.{All}
 use Rattle.kinds.specs.Kinds.{table_kind}
 use Rattle.records.specs.declared.Kept.{Kept}
@@ -57,16 +58,16 @@ module _ (bs : List (List cells.Row)) (e : All Ending bs) where
   pub checks_same : (t : ℕ) (rest : List Check) → verdict_of (checks_before t (resolved_before bs) ++ rest) ≡ verdict_of (table_checks t (resolved bs) ++ rest)
   unfolding verdict_of first_answer checks_before table_checks ends_of all_at
   checks_same t rest =
-      ap₂ (λ (rs qs : List Row). first_answer Refused Accepted
-      (check (ends_past rs) 5 t ∷ check (ltb max_entries (entry_count (rs ++ qs))) 6 t ∷ check (not (all_at (is_column_edge rs) (ends_of qs))) 7 t ∷ rest)) rows_before none_before
-      ∙ ap (λ (rs : List Row). first_answer Refused Accepted (check (ends_past (all_rows (resolved bs))) 5 t ∷ check (ltb max_entries (entry_count rs)) 6 t ∷ rest)) (append-nil (all_rows (resolved bs)))
+      ap₂ (λ (rs qs : List Row). first_answer Err (Ok tt)
+      (check (ends_past rs) RowEnd t ∷ check (ltb max_entries (entry_count (rs ++ qs))) TooManyEntries t ∷ check (not (all_at (is_column_edge rs) (ends_of qs))) ColumnEdge t ∷ rest)) rows_before none_before
+      ∙ ap (λ (rs : List Row). first_answer Err (Ok tt) (check (ends_past (all_rows (resolved bs))) RowEnd t ∷ check (ltb max_entries (entry_count rs)) TooManyEntries t ∷ rest)) (append-nil (all_rows (resolved bs)))
 
 -- ---- every table of a sheet
 
 then_rest : (cs xs ys : List Check) → verdict_of xs ≡ verdict_of ys → verdict_of (cs ++ xs) ≡ verdict_of (cs ++ ys)
 unfolding verdict_of first_answer
 then_rest [] xs ys e = e
-then_rest (c ∷ cs) xs ys e = ap (cond c.applies (Refused c.number c.line)) (then_rest cs xs ys e)
+then_rest (c ∷ cs) xs ys e = ap (cond c.applies (Err c.refusal)) (then_rest cs xs ys e)
 
 pub tables_same : (t : ℕ) (ls : List Kept) → AllEnding t ls → verdict_of (tables_before t ls) ≡ verdict_of (tables_checks t ls)
 unfolding tables_before tables_checks

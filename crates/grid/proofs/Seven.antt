@@ -4,13 +4,11 @@ use mathlib.Core.Path.{◌≡◌, sym, ap, ◌∙◌}
 use mathlib.Core.Bool.{Bool, true, cond}
 use mathlib.Core.List.{List}
 use Prim.Native.Nat.{ℕ}
-use native.Mathlib.Omega.{arith}
 use lib.Dec.{eqb}
 use Rattle.lists.specs.Lists.{mem}
 use Rattle.records.specs.declared.Entry.{Entry}
 use Rattle.edges.specs.Edges.{all_at, rows_ends}
-use Rattle.edges.specs.declared.Numbered.{Numbered}
-use Rattle.edges.specs.declared.Numbered.TheVariants.{Done, Missing}
+use Rattle.std.specs.Prelude.{Option, Some, None}
 use Rattle.edges.proofs.Columns.{all_mem}
 use Rattle.cells.specs.Cells as cells
 use Rattle.positions.specs.Positions.{Row, all_rows}
@@ -28,11 +26,10 @@ pub seven_never : (table : List cells.Row) → all_at (is_column_edge (all_rows 
 seven_never table = own_edges (all_rows table)
 
 -- so where rows are numbered by their own edges, none is missing
-pub never_missing : {rs : List (List ℕ)} {line : List ℕ} {answer : Numbered} {es : List Entry} → RowsNumbered (edge_of_rows rs) rs line answer es → answer ≡ Missing → ⊥
+pub never_missing : {rs : List (List ℕ)} {line : List ℕ} {answer : Option ℕ} {es : List Entry} → RowsNumbered (edge_of_rows rs) rs line answer es → answer ≡ None → ⊥
 unfolding mem numbered_rows
 never_missing {rs} w e =
     let a : all_at (edge_of_rows rs) (rows_ends rs) ≡ true = all_mem (edge_of_rows rs) (rows_ends rs) (λ q m. or_right (eqb q 0) (mem q (rows_ends rs)) m) in
-    let d : Missing ≡ Done (most_columns (edge_of_rows rs) rs) =
-    sym e ∙ w.told ∙ ap (λ (b : Bool). cond b (Done (most_columns (edge_of_rows rs) rs)) Missing) a in
-    let z : ◌≡◌ {A = ℕ} 0 1 = cc in
-    omega arith
+    let d : None ≡ Some (most_columns (edge_of_rows rs) rs) =
+    sym e ∙ w.told ∙ ap (λ (b : Bool). cond b (Some (most_columns (edge_of_rows rs) rs)) None) a in
+    cc

@@ -3,6 +3,7 @@
 use Rattle.std.specs.Prelude.{◌≡◌, not, cond, List, [], ◌∷◌, ◌++◌, map, ℕ, zero, suc, ◌-◌, min, ltb, eqb, length}
 use Rattle.lists.specs.Limits.{max_entries}
 use Rattle.lists.specs.Refusals.{Check, check}
+use Rattle.lists.specs.declared.Reason.TheVariants.{RowEnd, TooManyEntries, ColumnEdge}
 use Rattle.lists.specs.Lists.{All}
 use Rattle.kinds.specs.Kinds.{table_kind}
 use Rattle.records.specs.declared.Kept.{Kept}
@@ -56,9 +57,9 @@ columns_before table = longest (original_rows table) (original_rows table)
 -- 5, 6, and 7: an entry of an extra row ended at no column edge
 unfoldable pub checks_before : ℕ → List cells.Row → List Check
 checks_before t table =
-    check (ends_past (original_rows table)) 5 t
-    ∷ check (ltb max_entries (entry_count (original_rows table ++ extra_rows table))) 6 t
-    ∷ check (not (all_at (is_column_edge (original_rows table)) (ends_of (extra_rows table)))) 7 t
+    check (ends_past (original_rows table)) RowEnd t
+    ∷ check (ltb max_entries (entry_count (original_rows table ++ extra_rows table))) TooManyEntries t
+    ∷ check (not (all_at (is_column_edge (original_rows table)) (ends_of (extra_rows table)))) ColumnEdge t
     ∷ []
 
 -- each table in turn, from line t on

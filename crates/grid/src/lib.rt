@@ -2,9 +2,8 @@
 // 8,192 entries.
 #![tactic(auto)]
 
-ghost use Rattle.std.specs.Prelude.{◌≡◌, true, ◌-◌, ◌<◌, max, length};
+ghost use Rattle.std.specs.Prelude.{◌≡◌, true, ◌-◌, ◌<◌, length};
 ghost use Rattle.edges.specs.Edges.{is_edge, rows_from, RowsFit};
-ghost use Rattle.edges.specs.Lookup.{Counted};
 ghost use Rattle.records.specs.Kept.{kepts_of, entries_of};
 ghost use Rattle.cells.specs.Held.{row_lines_of, row_ends_of, entry_cells_of, entry_spans_of};
 ghost use Rattle.cells.specs.Listed.{table_rows};
@@ -14,62 +13,49 @@ ghost use Rattle.grid.specs.Judging.{Lined};
 ghost use Rattle.grid.specs.Facts.{Sound};
 ghost use Rattle.grid.specs.inner.Placing.{edge_of_rows, RowsReady, PlacedNumbered, TablePlaced, Room};
 
-use edges::Numbered;
+use edges::Numbers;
 use positions::Positions;
-
-// The larger of two counts.
-fn longer(a: usize, b: usize) -> usize
-    ensures { result ≡ max a b }
-{
-    if a < b { b } else { a }
-}
 
 // All rows' entries in columns, in the place of the same entries in positions; a row's record says how many entries there are up to and including
 // it. The columns of the longest row, or that an entry ends at no edge.
-fn number_rows(words: &[u64], counts: &[u32], rows: &[u32], entries: &mut [u32]) -> Numbered
-    requires counted { Counted words.now counts.now }
-    requires words_value { is_edge words.now 0 ≡ true }
+fn number_rows(numbers: &Numbers, rows: &[u32], entries: &mut [u32]) -> Option<usize>
+    requires words_value { is_edge numbers.now.words 0 ≡ true }
     requires rows_fit { RowsFit 0 (row_ends_of rows.now) (entry_spans_of entries.old) }
-    ensures { RowsNumbered (is_edge words.now) (rows_from 0 (row_ends_of rows.now) (entry_spans_of entries.old)) (entry_cells_of entries.old) result (entries_of entries.new) }
+    ensures { RowsNumbered (is_edge numbers.now.words) (rows_from 0 (row_ends_of rows.now) (entry_spans_of entries.old)) (entry_cells_of entries.old) result (entries_of entries.new) }
 {
     let mut columns: usize = 0;
     let mut start: usize = 0;
-    let mut r = 0;
-    while r < rows.len() / 2 {
+    for r in 0..rows.len() / 2 {
         let row = records::row_at(rows, r);
         let end = row.end as usize;
-        let Numbered::Done(n) = edges::renumber(words, counts, start, end, entries) else {
-            return Numbered::Missing;
-        };
-        columns = longer(columns, n);
+        let n = numbers.renumber(start, end, entries)?;
+        columns = columns.max(n);
         start = end;
-        r += 1;
     }
-    Numbered::Done(columns)
+    Some(columns)
 }
 
 // The same by the edges of these rows.
-fn number_table(rows: &[u32], entries: &mut [u32]) -> Numbered
+fn number_table(rows: &[u32], entries: &mut [u32]) -> Option<usize>
     requires { RowsFit 0 (row_ends_of rows.now) (entry_spans_of entries.old) }
     ensures { RowsNumbered (edge_of_rows (rows_from 0 (row_ends_of rows.now) (entry_spans_of entries.old))) (rows_from 0 (row_ends_of rows.now) (entry_spans_of entries.old)) (entry_cells_of entries.old) result (entries_of entries.new) }
 {
     let none = edges::Edges::new();
     let start = none.with(0);
-    let marked = edges::mark_rows(start, entries, rows);
-    let words = marked.words;
-    let counts = marked.counts;
-    number_rows(&words, &counts, rows, entries)
+    let numbers = edges::mark_rows(start, entries, rows);
+    number_rows(&numbers, rows, entries)
 }
 
 // The grid of rows by positions, in the place of their entries: how many columns it has. That an entry ends at no edge, refusal 7, is never found:
 // the edges are those of all rows.
+#[tactic(auto, using(crate::proofs::GridLists::rows_long, crate::proofs::GridLists::spans_long))]
 pub fn placed_grid(placed: Positions, rows: &[u32], entries: &mut [u32]) -> usize
     requires { RowsReady placed.rows placed.entries (entry_spans_of entries.old) (row_ends_of rows.now) }
     ensures { PlacedNumbered placed.rows placed.entries (entry_spans_of entries.old) (entry_cells_of entries.old) (row_ends_of rows.now) result (entries_of entries.new) }
 {
     let r = 2 * placed.rows;
     let n = 3 * placed.entries;
-    let Numbered::Done(columns) = number_table(&rows[..r], &mut entries[..n]) else {
+    let Some(columns) = number_table(&rows[..r], &mut entries[..n]) else {
         return 0;
     };
     columns

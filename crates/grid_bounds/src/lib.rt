@@ -21,19 +21,7 @@ pub fn has_room(cols: u32, rows: u32, end: u32, entries: u32, most: u32) -> bool
     requires { (end ≤ max_position) × (entries ≤ most) }
     ensures { result ≡ true → Room cols rows end entries most }
 {
-    if cols == 0 {
-        return false;
-    }
-    if rows == 0 {
-        return false;
-    }
-    if MAX_POSITION as u32 - end < cols {
-        return false;
-    }
-    if most - entries < rows {
-        return false;
-    }
-    true
+    cols != 0 && rows != 0 && cols <= MAX_POSITION as u32 - end && rows <= most - entries
 }
 
 // How wide a cell hangs into the rows after its own.
@@ -54,9 +42,11 @@ pub fn table_fits(lines: &[u32], at: usize) -> bool
     let mut hung: u32 = 0;
     let mut end: u32 = 0;
     let mut entries: u32 = 0;
-    let mut i = at + 1;
-    while cells::below(lines, i, d) {
+    for i in at + 1..records::count(lines) {
         let line = records::kept_at(lines, i);
+        if line.depth <= d {
+            break;
+        }
         let e = line.depth - d;
         if e == 3 {
             if !has_room(line.cols, line.rows, end, entries, MOST_ENTRIES) {
@@ -65,16 +55,11 @@ pub fn table_fits(lines: &[u32], at: usize) -> bool
             hung += hung_by(line.cols, line.rows);
             end += line.cols;
             entries += line.rows;
-            i += 1;
         } else if e == 2 {
             end = hung;
-            i += 1;
         } else if e == 1 {
             hung = 0;
             end = 0;
-            i += 1;
-        } else {
-            i += 1;
         }
     }
     true

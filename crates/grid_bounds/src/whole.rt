@@ -12,21 +12,17 @@ pub fn sheet_fits(lines: &[u32], most: u32) -> bool
     requires { most ≤ max_entries }
     ensures { result ≡ true → SheetBound most (kepts_of lines.now) }
 {
-    let n = records::count(lines);
     let mut end: u32 = 0;
     let mut entries: u32 = 0;
-    let mut i = 0;
-    while i < n {
+    for i in 0..records::count(lines) {
         let line = records::kept_at(lines, i);
-        if line.kind == kinds::CELL {
+        let is_cell = line.kind == kinds::CELL;
+        if is_cell {
             if !super::has_room(line.cols, line.rows, end, entries, most) {
                 return false;
             }
             end += line.cols;
             entries += line.rows;
-            i += 1;
-        } else {
-            i += 1;
         }
     }
     true
@@ -36,19 +32,12 @@ pub fn sheet_fits(lines: &[u32], most: u32) -> bool
 fn most_of(entries: usize) -> u32
     ensures { (result ≤ entries) × (result ≤ max_entries) }
 {
-    if entries < MAX_ENTRIES {
-        return entries as u32;
-    }
-    super::MOST_ENTRIES
+    entries.min(MAX_ENTRIES) as u32
 }
 
 // Whether so many records of entries and of rows suffice for the grid of any table of the sheet.
 pub fn suffice(lines: &[u32], entries: usize, rows: usize) -> bool
     ensures { result ≡ true → Suffice entries rows (kepts_of lines.now) }
 {
-    if records::count(lines) > rows {
-        return false;
-    }
-    let most = most_of(entries);
-    sheet_fits(lines, most)
+    records::count(lines) <= rows && sheet_fits(lines, most_of(entries))
 }

@@ -3,7 +3,7 @@
 use mathlib.Core.Path.{◌≡◌, refl, sym, ap, subst, ◌∙◌}
 use mathlib.Core.Bool.{Bool, true, false, cond}
 use mathlib.Core.List.{List, [], ◌∷◌, ◌++◌}
-use Prim.Native.Nat.{ℕ, zero, suc, ◌+◌, ◌-◌, ◌≤◌, ◌<◌}
+use Prim.Native.Nat.{ℕ, zero, suc, ◌+◌, ◌≤◌, ◌<◌}
 use native.Mathlib.Numerals.{add-one}
 use native.Mathlib.Decide.{ℕ_discrete}
 use native.Mathlib.Omega.{arith}
@@ -11,9 +11,10 @@ use lib.Dec.{eqb}
 use lib.ListN.{length, get_or, drop, drop_of_length-le}
 use lib.Seq.{drop-cons}
 use borrow.Author.Tests.{eq-eqb, ne_eqb}
-use Rattle.lists.specs.Refusals.{first_answer, verdict_of}
-use Rattle.lists.specs.declared.Verdict.{Verdict}
-use Rattle.lists.specs.declared.Verdict.TheVariants.{Accepted, Refused}
+use Rattle.std.specs.Prelude.{Result, Ok, Err}
+use Rattle.lists.specs.Refusals.{refusal, first_answer, verdict_of}
+use Rattle.lists.specs.declared.Reason.{Reason}
+use Rattle.lists.specs.declared.Refusal.{Refusal}
 use Rattle.kinds.specs.Kinds.{table_kind}
 use Rattle.records.specs.Kept.{no_kept}
 use Rattle.records.specs.declared.Kept.{Kept}
@@ -22,7 +23,7 @@ use Rattle.grid.specs.Grid.{table_checks, tables_checks}
 use Rattle.grid.specs.Facts.{Sound}
 use Rattle.grid_check.specs.Checking.{refusal_of, TablesChecked}
 use Rattle.grid_bounds.specs.Sheets.{AllSound}
-use Rattle.grid_check.proofs.Numbers.{fits_none, none_sound, verdict_number}
+use Rattle.grid_check.proofs.Reasons.{or_rest, fits_none, none_sound, verdict_reason}
 
 module _ (ks : List Kept) (t : ℕ) (h : t < length ks) where
   abbrev here : Kept
@@ -31,7 +32,7 @@ module _ (ks : List Kept) (t : ℕ) (h : t < length ks) where
   lines_here : drop t ks ≡ here ∷ drop (t + 1) ks
   lines_here = rw (add-one, drop-cons ks t no_kept)
 
-  abbrev rest : Verdict
+  abbrev rest : Result (Unit {0}) Refusal
   rest = verdict_of (tables_checks (t + 1 + 1) (drop (t + 1) ks))
 
   checks_here : (b : Bool) → eqb here.kind table_kind ≡ b
@@ -44,17 +45,17 @@ module _ (ks : List Kept) (t : ℕ) (h : t < length ks) where
   verdict_other : (here.kind ≡ table_kind → ⊥) → verdict_of (tables_checks (t + 1) (drop t ks)) ≡ rest
   verdict_other n = ap verdict_of (checks_here false (ne_eqb here.kind table_kind n))
 
-  module _ (e : here.kind ≡ table_kind) (r : ℕ) (j : r ≡ refusal_of (table_rows ks t)) where
-    verdict_table : verdict_of (tables_checks (t + 1) (drop t ks)) ≡ cond (eqb r 0) rest (Refused r (t + 1))
+  module _ (e : here.kind ≡ table_kind) (r : Result (Unit {0}) Reason) (j : r ≡ refusal_of (table_rows ks t)) where
+    verdict_table : verdict_of (tables_checks (t + 1) (drop t ks)) ≡ or_rest r (t + 1) rest
     verdict_table =
-        ap verdict_of (checks_here true (eq-eqb here.kind table_kind e)) ∙ verdict_number (table_rows ks t) (t + 1) (tables_checks (t + 1 + 1) (drop (t + 1) ks))
-        ∙ ap (λ (x : ℕ). cond (eqb x 0) rest (Refused x (t + 1))) (sym j)
+        ap verdict_of (checks_here true (eq-eqb here.kind table_kind e)) ∙ verdict_reason (table_rows ks t) (t + 1) (tables_checks (t + 1 + 1) (drop (t + 1) ks))
+        ∙ ap (λ (x : Result (Unit {0}) Reason). or_rest x (t + 1) rest) (sym j)
 
-    verdict_none : r ≡ 0 → verdict_of (tables_checks (t + 1) (drop t ks)) ≡ rest
-    verdict_none z = verdict_table ∙ ap (λ (b : Bool). cond b rest (Refused r (t + 1))) (eq-eqb r 0 z)
+    verdict_none : r ≡ Ok tt → verdict_of (tables_checks (t + 1) (drop t ks)) ≡ rest
+    verdict_none z = verdict_table ∙ ap (λ (x : Result (Unit {0}) Reason). or_rest x (t + 1) rest) z
 
-    verdict_refused : (r ≡ 0 → ⊥) → verdict_of (tables_checks (t + 1) (drop t ks)) ≡ Refused r (t + 1)
-    verdict_refused z = verdict_table ∙ ap (λ (b : Bool). cond b rest (Refused r (t + 1))) (ne_eqb r 0 z)
+    verdict_refused : (why : Reason) → r ≡ Err why → verdict_of (tables_checks (t + 1) (drop t ks)) ≡ Err (refusal why (t + 1))
+    verdict_refused why z = verdict_table ∙ ap (λ (x : Result (Unit {0}) Reason). or_rest x (t + 1) rest) z
 
 -- ---- the loop
 
@@ -67,7 +68,7 @@ pub start : (ks : List Kept) → Sofar ks 0
 start ks = record { at = omega arith; left = refl; sound = λ u l. absurd (omega arith) }
 
 module _ {ks : List Kept} {t : ℕ} (z : Sofar ks t) where
-  pub stop : length ks ≤ t → TablesChecked ks Accepted
+  pub stop : length ks ≤ t → TablesChecked ks (Ok tt)
   unfolding tables_checks verdict_of first_answer
   stop h = record { answer = rw (drop_of_length-le ks {i = t} h) at z.left; sound = λ _. record { at = λ u l e. z.sound u (omega (arith, z.at)) e } }
 
@@ -84,17 +85,17 @@ module _ {ks : List Kept} {t : ℕ} (z : Sofar ks t) where
         each m u l e (yes v) = absurd (m (ap (λ (i : ℕ). (get_or ks i no_kept).kind) (sym v) ∙ e))
         each m u l e (no v) = z.sound u (omega arith) e
 
-    module _ (e : k.kind ≡ table_kind) (r : ℕ) (j : r ≡ refusal_of (table_rows ks t)) where
+    module _ (e : k.kind ≡ table_kind) (r : Result (Unit {0}) Reason) (j : r ≡ refusal_of (table_rows ks t)) where
       table_here : (get_or ks t no_kept).kind ≡ table_kind
       table_here = sym kind_is ∙ e
 
-      pub turn_refused : (r ≡ 0 → ⊥) → TablesChecked ks (Refused r (t + 1))
-      turn_refused n = record {
-        answer = sym (verdict_refused ks t h table_here r j n) ∙ z.left;
-        sound = λ a. let x : ◌≡◌ {A = ℕ} 0 1 = cc in absurd (omega arith);
+      pub turn_refused : (why : Reason) → r ≡ Err why → TablesChecked ks (Err (refusal why (t + 1)))
+      turn_refused why n = record {
+        answer = sym (verdict_refused ks t h table_here r j why n) ∙ z.left;
+        sound = λ a. cc;
       }
 
-      pub turn_table : r ≡ 0 → Sofar ks (t + 1)
+      pub turn_table : r ≡ Ok tt → Sofar ks (t + 1)
       turn_table n = record {
         at = omega arith;
         left = sym (verdict_none ks t h table_here r j n) ∙ z.left;
@@ -108,13 +109,13 @@ module _ {ks : List Kept} {t : ℕ} (z : Sofar ks t) where
 -- ---- a sheet each of whose tables fits
 
 module _ {ks : List Kept} (f : AllSound ks) where
-  from_fit : (n t : ℕ) → t + n ≡ length ks → Sofar ks t → TablesChecked ks Accepted
+  from_fit : (n t : ℕ) → t + n ≡ length ks → Sofar ks t → TablesChecked ks (Ok tt)
   from_fit zero t e z = stop z (omega arith)
   from_fit (suc n) t e z = go (from_fit n (t + 1) (omega arith)) (ℕ_discrete (get_or ks t no_kept).kind table_kind)
     where
-      go : (Sofar ks (t + 1) → TablesChecked ks Accepted) → Dec ((get_or ks t no_kept).kind ≡ table_kind) → TablesChecked ks Accepted
+      go : (Sofar ks (t + 1) → TablesChecked ks (Ok tt)) → Dec ((get_or ks t no_kept).kind ≡ table_kind) → TablesChecked ks (Ok tt)
       go ih (yes k) = ih (turn_table z (omega arith) (get_or ks t no_kept) refl k (refusal_of (table_rows ks t)) refl (sym (fits_none (table_rows ks t) (f.at t (omega arith) k))))
       go ih (no k) = ih (turn_other z (omega arith) (get_or ks t no_kept) refl k)
 
-  pub fit_accepted : TablesChecked ks Accepted
+  pub fit_accepted : TablesChecked ks (Ok tt)
   fit_accepted = from_fit (length ks) 0 (omega arith) (start ks)

@@ -19,10 +19,8 @@ use Rattle.positions.specs.Positions.{originals, all_rows, ends_past}
 use Rattle.positions.proofs.TableFacts.{entries}
 use Rattle.grid_bounds.proofs.Ends.{wides, wides_small, entries_end, entries_wides, nexts_end, nexts_wides}
 use Rattle.grid_bounds.proofs.Entries.{takens, takens_append, body_entries}
-use Rattle.grid_counts.specs.declared.Tally.{Tally}
-use Rattle.grid_counts.specs.declared.Tally.TheVariants as tally
-use Rattle.grid_counts.specs.declared.Entries.{Entries}
-use Rattle.grid_counts.specs.declared.Entries.TheVariants as upto
+use Rattle.std.specs.Prelude.{Ok, Err}
+use Rattle.lists.specs.declared.Reason.TheVariants.{RowEnd}
 use Rattle.grid_counts.specs.inner.Tallies.{framed, many_entries, Lines, RowSum, Surveyed, ready, cols_sum, RowReady, RowDone, BodyCounted}
 use Rattle.grid_counts.proofs.Scan.{there, rows_none, rows_more, rows_on}
 
@@ -72,12 +70,12 @@ body_start {ks} {d} {i} {n} {most} {entries₀} {ends} h f s = record {
 
 module _ {ks : List Kept} {d i n most entries₀ : ℕ} {ends₀ ends : List ℕ} {reach count q j : ℕ} (t : Lines ks d) (small : most ≤ max_lines * max_cols) (few_rows : n ≤ max_lines) (room : n ≤ length ends₀)
     (z : BodyCounting ks d i n most entries₀ ends₀ ends reach count q j) where
-  pub body_stop : (get_or ks j no_kept).depth ≤ d + 1 → BodyCounted (framed ks d i).rows entries₀ (upto.Counted count)
+  pub body_stop : (get_or ks j no_kept).depth ≤ d + 1 → BodyCounted (framed ks d i).rows entries₀ (Ok count)
   unfolding cut_body originals ends_past all_cells sum
   body_stop h =
       let e = rows_none ks d j h in
       record {
-        past = λ x. let v : ◌≡◌ {A = ℕ} 0 1 = cc in absurd (omega arith);
+        past = λ why x. cc;
         counted = λ m x.
             let a : m ≡ count = cc in
             record {
@@ -156,10 +154,12 @@ module _ {ks : List Kept} {d i n most entries₀ : ℕ} {ends₀ ends : List ℕ
       end_is : items_end X ≡ reach + cols_sum R.cells
       end_is = omega (arith, entries_end z.hs R, z.reach_is)
 
-      pub body_past : max_position < reach + cols_sum R.cells → BodyCounted (framed ks d i).rows entries₀ upto.Past
+      pub body_past : max_position < reach + cols_sum R.cells → BodyCounted (framed ks d i).rows entries₀ (Err RowEnd)
       body_past g = record {
-        past = λ _. sym past_here ∙ ap (λ (b : Bool). b || ends_past (originals (nexts X) (rest_of most rs))) (lt-ltb max_position (items_end X) (omega (arith, end_is)));
-        counted = λ m x. let v : ◌≡◌ {A = ℕ} 0 1 = cc in absurd (omega arith);
+        past = λ why x.
+            let e : RowEnd ≡ why = cc in
+            (sym e, sym past_here ∙ ap (λ (b : Bool). b || ends_past (originals (nexts X) (rest_of most rs))) (lt-ltb max_position (items_end X) (omega (arith, end_is))));
+        counted = λ m x. cc;
       }
 
       module _ {ends' : List ℕ} {o m : ℕ} (w : RowDone R.cells q (n - q - 1) reach count ends ends' o m) (same : length ends' ≡ length ends) where

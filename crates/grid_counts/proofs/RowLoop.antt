@@ -14,7 +14,8 @@ use Rattle.cells.specs.Cells.{Cell, cell, resolve_cell, cut_cell}
 use Rattle.rows.specs.Row.{item_of}
 use Rattle.grid_bounds.proofs.Ends.{wide_at, at_same, at_other}
 use Rattle.grid_counts.specs.declared.Tally.{Tally}
-use Rattle.grid_counts.specs.declared.Tally.TheVariants as tally
+use Rattle.std.specs.Prelude.{Ok, Err}
+use Rattle.lists.specs.declared.Reason.TheVariants.{RowEnd}
 use Rattle.grid_counts.specs.inner.Tallies.{framed, many_entries, Filled, Hanging, ready, cols_sum, rows_taken, wides_of, RowReady, RowCounted}
 use Rattle.grid_counts.proofs.Scan.{there, cells_none, cells_more, cells_on}
 
@@ -48,15 +49,16 @@ module _ {ks : List Kept} {d instead q left i reach₀ entries₀ : ℕ} {ends�
   }
 
   module _ {ends : List ℕ} {reach entries j : ℕ} (z : Counting ks d instead q left i reach₀ entries₀ ends₀ ends reach entries j) where
-    pub row_stop : (get_or ks j no_kept).depth ≤ d + 2 → RowCounted (ready_from ks d instead left i) q left reach₀ entries₀ ends₀ ends (tally.Counted reach entries)
+    pub row_stop : (get_or ks j no_kept).depth ≤ d + 2 → RowCounted (ready_from ks d instead left i) q left reach₀ entries₀ ends₀ ends (Ok (record { reach = reach; entries = entries }))
     unfolding sum
     row_stop h =
         let e = cells_none ks d j h in
         record {
-          past = λ x. let v : ◌≡◌ {A = ℕ} 0 1 = cc in absurd (omega arith);
-          counted = λ o n x.
-              let a : o ≡ reach = cc in
-              let b : n ≡ entries = cc in
+          past = λ why x. cc;
+          counted = λ o x.
+              let same : o ≡ record { reach = reach; entries = entries } = cc in
+              let a : o.reach ≡ reach = ap (λ (y : Tally). y.reach) same in
+              let b : o.entries ≡ entries = ap (λ (y : Tally). y.entries) same in
               record {
                 reach_is = let w = rw e at z.cols in omega arith;
                 within = omega (arith, z.within);
@@ -94,11 +96,11 @@ module _ {ks : List Kept} {d instead q left i reach₀ entries₀ : ℕ} {ends�
         cells_are = ap (ready instead left) (cells_more ks d j l p h e)
 
         -- past 4,096 already
-        pub row_past : max_position < reach + wide → (ends' : List ℕ) → RowCounted (ready_from ks d instead left i) q left reach₀ entries₀ ends₀ ends' tally.Past
+        pub row_past : max_position < reach + wide → (ends' : List ℕ) → RowCounted (ready_from ks d instead left i) q left reach₀ entries₀ ends₀ ends' (Err RowEnd)
         unfolding sum
         row_past g ends' =
             let w = rw cells_are at z.cols in
-            record { past = λ _. omega (arith, f.is); counted = λ o n x. let v : ◌≡◌ {A = ℕ} 0 1 = cc in absurd (omega arith) }
+            record { past = λ why x. let e : RowEnd ≡ why = cc in (sym e, omega (arith, f.is)); counted = λ o x. cc }
 
         module _ (g : reach + wide ≤ max_position) (hang : ℕ) (k : Hanging left l.rows hang) where
           abbrev new : List ℕ

@@ -4,7 +4,7 @@ use mathlib.Core.List.{List, [], ◌∷◌}
 use Prim.Native.Nat.{ℕ, ◌+◌, ◌-◌, ◌≤◌, ◌<◌}
 use native.Mathlib.Decide.{dec_lt, ℕ_discrete}
 use native.Mathlib.Omega.{arith}
-use lib.ListN.{length, get_or}
+use lib.ListN.{length, get_or, get_or-eq_default}
 use Rattle.records.specs.Kept.{no_kept}
 use Rattle.records.specs.declared.Kept.{Kept}
 use Rattle.cells.specs.Cells.{Cell, Row, Frame, cell, row, open_body, open_row, open_cell}
@@ -107,3 +107,7 @@ module _ (ks : List Kept) (d i : ℕ) where
 
     pub bodies_more : d < l.depth → l.depth - d ≡ 1 → (framed ks d i).bodies ≡ (framed ks d (i + 1)).rows ∷ (framed ks d (i + 1)).bodies
     bodies_more h e = ap bodies_of (body_here h e)
+
+-- past the last line there is none
+pub past_lines : (ks : List Kept) (i : ℕ) → length ks ≤ i → (get_or ks i no_kept).depth ≡ 0
+past_lines ks i h = ap (λ (k : Kept). k.depth) (get_or-eq_default ks no_kept {n = i} h)

@@ -16,7 +16,8 @@ use Rattle.cells.specs.Cells.{Row, frame, resolve_body, resolved}
 use Rattle.cells.specs.Listed.{table_rows}
 use Rattle.positions.specs.Positions.{all_rows, ends_past, entry_count}
 use Rattle.grid_bounds.proofs.Tables.{past_bodies, count_bodies, past_none, count_none}
-use Rattle.grid_counts.specs.declared.Count.TheVariants.{Fits, Past, Many}
+use Rattle.std.specs.Prelude.{Ok, Err}
+use Rattle.lists.specs.declared.Reason.TheVariants.{RowEnd, TooManyEntries}
 use Rattle.grid_counts.specs.Count.{count_of, judged_by}
 use Rattle.grid_counts.specs.inner.Tallies.{framed, many_entries, BodyDone}
 use Rattle.grid_counts.proofs.Scan.{there, bodies_none, bodies_more, bodies_on}
@@ -58,8 +59,8 @@ module _ {ks : List Kept} {at count i : ℕ} (z : TableCounting ks at count i) w
       let p : false ≡ ends_past (all_rows (table_rows ks at)) = sym past_none ∙ rw e at z.past in
       let v = rw e at z.entries_are in
       let c : count ≡ min (entry_count (all_rows (table_rows ks at))) many_entries = omega (arith, count_none, z.few) in
-      ap (λ (b : Bool). cond b Many Fits) (capped count (entry_count (all_rows (table_rows ks at))) c)
-      ∙ ap (λ (b : Bool). cond b Past (judged_by (entry_count (all_rows (table_rows ks at))))) p
+      ap (λ (b : Bool). cond b (Err TooManyEntries) (Ok tt)) (capped count (entry_count (all_rows (table_rows ks at))) c)
+      ∙ ap (λ (b : Bool). cond b (Err RowEnd) (judged_by (entry_count (all_rows (table_rows ks at))))) p
 
   module _ (l : Kept) (q : l ≡ get_or ks i no_kept) (h : d < l.depth) where
     pub table_there : i < length ks
@@ -85,11 +86,11 @@ module _ {ks : List Kept} {at count i : ℕ} (z : TableCounting ks at count i) w
       past_here : (ends_past (all_rows (resolve_body b)) || ends_past (all_rows (resolved bs))) ≡ ends_past (all_rows (table_rows ks at))
       past_here = sym (past_bodies b bs) ∙ rw (bodies_more ks d i l q h e) at z.past
 
-      pub table_past : ends_past (all_rows (resolve_body b)) ≡ true → Past ≡ count_of (table_rows ks at)
+      pub table_past : ends_past (all_rows (resolve_body b)) ≡ true → Err RowEnd ≡ count_of (table_rows ks at)
       unfolding count_of
       table_past p =
           let v : true ≡ ends_past (all_rows (table_rows ks at)) = sym (ap (λ (x : Bool). x || ends_past (all_rows (resolved bs))) p) ∙ past_here in
-          ap (λ (x : Bool). cond x Past (judged_by (entry_count (all_rows (table_rows ks at))))) v
+          ap (λ (x : Bool). cond x (Err RowEnd) (judged_by (entry_count (all_rows (table_rows ks at))))) v
 
       pub table_more : (n : ℕ) → BodyDone b count n → TableCounting ks at n (i + 1)
       table_more n w = record {

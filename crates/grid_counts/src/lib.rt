@@ -9,28 +9,13 @@ ghost use Rattle.cells.specs.Listed.{table_rows};
 ghost use Rattle.grid_counts.specs.Count.{count_of, judged_by};
 ghost use Rattle.grid_counts.specs.inner.Tallies.{framed, many_entries, Lines, RowSum, Surveyed, Filled, Hanging, ready, RowReady, RowCounted, BodyReady, BodyCounted};
 
-use lists::{MAX_ENTRIES, MAX_POSITION};
+use lists::{MAX_ENTRIES, MAX_POSITION, Reason};
 
-// What a table comes to: neither refusal; or 5, a row ends past 4,096; or 6, there are more than 8,192 entries.
+// What a row comes to: what ends with it or hangs on, and how many entries there are up to it.
 #[derive(Clone, Copy)]
-pub enum Count {
-    Fits,
-    Past,
-    Many,
-}
-
-// What a row comes to: what ends with it or hangs on, and how many entries there are up to it; or refusal 5.
-#[derive(Clone, Copy)]
-pub enum Tally {
-    Counted { reach: u32, entries: u32 },
-    Past,
-}
-
-// What a body comes to: how many entries there are up to it; or refusal 5.
-#[derive(Clone, Copy)]
-pub enum Entries {
-    Counted(u32),
-    Past,
+pub struct Tally {
+    pub reach: u32,
+    pub entries: u32,
 }
 
 // A body's rows, and their largest sum.
@@ -54,10 +39,7 @@ fn filled(cols: u32, instead: u32) -> u32
 fn hangs_within(rows: u32, left: u32) -> u32
     ensures { Hanging left rows result }
 {
-    if rows == 0 {
-        return left;
-    }
-    if left < rows { left } else { rows - 1 }
+    if rows == 0 { left } else { left.min(rows - 1) }
 }
 
 // The entries of a cell that hangs into so many rows more; no more than `MANY` are counted.
@@ -65,7 +47,7 @@ fn added(entries: u32, hangs: u32) -> u32
     requires { (entries ≤ many_entries) × (hangs < max_lines) }
     ensures { result ≡ min (entries + (hangs + 1)) many_entries }
 {
-    lists::smaller(entries + (hangs + 1), MANY)
+    (entries + (hangs + 1)).min(MANY)
 }
 
 // So much more ends at the place `at`.
@@ -73,7 +55,7 @@ fn widen(ends: &mut [u32], at: usize, wide: u32)
     requires { (at < length ends.old) × (get_or ends.old at 0 + wide < 4294967296) }
     ensures { ends.new ≡ set ends.old at (get_or ends.old at 0 + wide) }
 {
-    ends[at] = ends[at] + wide;
+    ends[at] += wide;
 }
 
 // The sum of the cols of the row whose cells stand from place i on, in a table of depth d; 0 counts as 1.
@@ -84,14 +66,13 @@ fn row_sum(lines: &[u32], i: usize, d: u32) -> u32
 {
     let row = d + 2;
     let mut sum: u32 = 0;
-    let mut j = i;
-    while cells::below(lines, j, row) {
+    for j in i..records::count(lines) {
         let line = records::kept_at(lines, j);
-        if line.depth - row == 1 {
-            sum += lists::larger(line.cols, 1);
-            j += 1;
-        } else {
-            j += 1;
+        if line.depth <= row {
+            break;
+        }
+        if line.depth == row + 1 {
+            sum += line.cols.max(1);
         }
     }
     sum
@@ -106,23 +87,22 @@ fn survey(lines: &[u32], i: usize, d: u32, ends: &mut [u32]) -> Body
     let body = d + 1;
     let mut rows = 0;
     let mut most: u32 = 0;
-    let mut j = i;
-    while cells::below(lines, j, body) {
+    for j in i..records::count(lines) {
         let line = records::kept_at(lines, j);
-        if line.depth - body == 1 {
-            most = lists::larger(most, row_sum(lines, j + 1, d));
+        if line.depth <= body {
+            break;
+        }
+        if line.depth == body + 1 {
+            most = most.max(row_sum(lines, j + 1, d));
             ends[rows] = 0;
             rows += 1;
-            j += 1;
-        } else {
-            j += 1;
         }
     }
     Body { rows, most }
 }
 
 // Counts the row whose cells stand from place i on: `instead` takes the place of cols 0, the row is row q of its body, and `left` rows follow it; `reach` hang
-// into it, and there are so many entries before it.
+// into it, and there are so many entries before it. Refusal 5 at the first cell that ends past 4,096.
 fn count_row(
     lines: &[u32],
     i: usize,
@@ -133,7 +113,7 @@ fn count_row(
     reach: u32,
     entries: u32,
     ends: &mut [u32],
-) -> Tally
+) -> Result<Tally, Reason>
     requires row_ready { RowReady (kepts_of lines.now) d instead q left reach entries ends.old }
     requires i_in_bounds { i ≤ length (kepts_of lines.now) }
     ensures { RowCounted (ready instead left (framed (kepts_of lines.now) d i).cells) q left reach entries ends.old ends.new result }
@@ -141,31 +121,37 @@ fn count_row(
     let row = d + 2;
     let mut sum = reach;
     let mut n = entries;
-    let mut j = i;
-    while cells::below(lines, j, row) {
+    for j in i..records::count(lines) {
         let line = records::kept_at(lines, j);
-        if line.depth - row == 1 {
+        if line.depth <= row {
+            break;
+        }
+        if line.depth == row + 1 {
             let wide = filled(line.cols, instead);
             sum += wide;
             if MAX_POSITION < sum as usize {
-                return Tally::Past;
+                return Err(Reason::RowEnd);
             }
             let hangs = hangs_within(line.rows, left);
             widen(ends, q + hangs as usize, wide);
             n = added(n, hangs);
-            j += 1;
-        } else {
-            j += 1;
         }
     }
-    Tally::Counted {
+    Ok(Tally {
         reach: sum,
         entries: n,
-    }
+    })
 }
 
-// Counts the body that stands from place i on, where there are so many entries before it. Row q is next, and `reach` hang into it.
-fn count_body(lines: &[u32], i: usize, d: u32, entries: u32, ends: &mut [u32]) -> Entries
+// Counts the body that stands from place i on, where there are so many entries before it: how many there are up to its end, or refusal 5. Row q is next,
+// and `reach` hang into it.
+fn count_body(
+    lines: &[u32],
+    i: usize,
+    d: u32,
+    entries: u32,
+    ends: &mut [u32],
+) -> Result<u32, Reason>
     requires body_ready { BodyReady (kepts_of lines.now) d entries ends.old }
     requires i_in_bounds { i ≤ length (kepts_of lines.now) }
     ensures { BodyCounted (framed (kepts_of lines.now) d i).rows entries result }
@@ -177,52 +163,35 @@ fn count_body(lines: &[u32], i: usize, d: u32, entries: u32, ends: &mut [u32]) -
     let mut reach: u32 = 0;
     let mut n = entries;
     let mut q = 0;
-    let mut j = i;
-    while cells::below(lines, j, body) {
+    for j in i..records::count(lines) {
         let line = records::kept_at(lines, j);
-        if line.depth - body == 1 {
+        if line.depth <= body {
+            break;
+        }
+        if line.depth == body + 1 {
             let instead = most - row_sum(lines, j + 1, d) + 1;
-            let counted = count_row(
-                lines,
-                j + 1,
-                d,
-                instead,
-                q,
-                (rows - q - 1) as u32,
-                reach,
-                n,
-                ends,
-            );
-            let Tally::Counted {
-                reach: sum,
-                entries: more,
-            } = counted
-            else {
-                return Entries::Past;
-            };
-            reach = sum - ends[q];
-            n = more;
+            let left = (rows - q - 1) as u32;
+            let counted = count_row(lines, j + 1, d, instead, q, left, reach, n, ends)?;
+            reach = counted.reach - ends[q];
+            n = counted.entries;
             q += 1;
-            j += 1;
-        } else {
-            j += 1;
         }
     }
-    Entries::Counted(n)
+    Ok(n)
 }
 
-// Whether there are more entries than a table may have.
-fn judged(entries: u32) -> Count
+// Refusal 6 if there are more entries than a table may have.
+fn judged(entries: u32) -> Result<(), Reason>
     ensures { result ≡ judged_by entries }
 {
     if MAX_ENTRIES < entries as usize {
-        return Count::Many;
+        return Err(Reason::TooManyEntries);
     }
-    Count::Fits
+    Ok(())
 }
 
 // Which of the refusals 5 and 6 applies to the table at the place `at`: 5 if a row ends past 4,096, however late, and else 6.
-pub fn count_table(lines: &[u32], at: usize, ends: &mut [u32]) -> Count
+pub fn count_table(lines: &[u32], at: usize, ends: &mut [u32]) -> Result<(), Reason>
     requires at_in_bounds { at < length (kepts_of lines.now) }
     requires body_ready { BodyReady (kepts_of lines.now) (get_or (kepts_of lines.now) at no_kept).depth 0 ends.old }
     ensures { result ≡ count_of (table_rows (kepts_of lines.now) at) }
@@ -230,18 +199,13 @@ pub fn count_table(lines: &[u32], at: usize, ends: &mut [u32]) -> Count
     let table = records::kept_at(lines, at);
     let d = table.depth;
     let mut n: u32 = 0;
-    let mut i = at + 1;
-    while cells::below(lines, i, d) {
+    for i in at + 1..records::count(lines) {
         let line = records::kept_at(lines, i);
-        if line.depth - d == 1 {
-            let counted = count_body(lines, i + 1, d, n, ends);
-            let Entries::Counted(more) = counted else {
-                return Count::Past;
-            };
-            n = more;
-            i += 1;
-        } else {
-            i += 1;
+        if line.depth <= d {
+            break;
+        }
+        if line.depth == d + 1 {
+            n = count_body(lines, i + 1, d, n, ends)?;
         }
     }
     judged(n)

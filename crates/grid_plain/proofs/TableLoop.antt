@@ -1,6 +1,7 @@
 -- The loop of `try_plain` on plain lists: the rows so far are plain, and with what the lines still to come hold they are the table's as they are written;
 -- their entries and records stand in the slices. Assumes nothing.
 use mathlib.Core.Path.{◌≡◌, refl, sym, ap, ap₂, subst, ◌∙◌}
+use mathlib.Core.Bool.{Bool, true}
 use mathlib.Core.List.{List, [], ◌∷◌, ◌++◌, map, map-append, append_assoc, append-nil}
 use Prim.{tt}
 use Prim.Native.Nat.{ℕ, suc, ◌+◌, ◌/◌, ◌≤◌, ◌<◌, max}
@@ -8,7 +9,9 @@ use native.Mathlib.Decide.{dec_lt}
 use native.Mathlib.Numerals.{add-one}
 use native.Mathlib.Omega.{arith}
 use lib.ListN.{length, get_or, set, take, drop, length-append, length-set, length-map, get_or-eq_default}
+use lib.Dec.{ltb}
 use lib.Seq.{take-suc-set}
+use borrow.Author.Tests.{ltb-true}
 use Rattle.lists.specs.Lists.{All}
 use Rattle.lists.proofs.All.{all_append}
 use Rattle.records.specs.Kept.{no_kept, entries_of, entry_by, rows_of, row_by}
@@ -27,8 +30,8 @@ use Rattle.gridding.specs.declared.Counts.{Counts}
 use Rattle.gridding.specs.Packed.{shown, ended_rows, TableReady, TableMade}
 use Rattle.gridding.specs.Packed as packing
 use Rattle.grid_plain.specs.declared.RowEnd.{RowEnd}
-use Rattle.grid_plain.specs.declared.Tried.TheVariants as tried
-use Rattle.grid_plain.specs.Plain.{Plain, PlainRow, PlainTable, plain_entries, plain_row, plain_grid, most_cells}
+use Rattle.std.specs.Prelude.{Some}
+use Rattle.grid_plain.specs.Plain.{PlainRow, PlainTable, plain_entries, plain_row, plain_grid, most_cells}
 use Rattle.grid_plain.specs.inner.Walking.{lines_from, RowReady, RowDone, TableWalked}
 use Rattle.grid_plain.proofs.Plain.{plain_grid_lem}
 use Rattle.grid_plain.proofs.Resolving.{joined, cells_joined, cells_few, resolved_plain}
@@ -96,6 +99,11 @@ step_on ks h k = at (dec_lt (k + 1) (length ks))
     at (yes g) = h k g
     at (no g) = rw (get_or-eq_default ks no_kept {n = k + 1} (omega arith)) (omega arith)
 
+-- a line that the loop's test lets pass is deeper than the table
+pub test_deep : (ks : List Kept) (at i : ℕ) {table : Kept} {b : Bool} → table ≡ get_or ks at no_kept → b ≡ ltb table.depth (get_or ks i no_kept).depth → b ≡ true
+    → (get_or ks at no_kept).depth < (get_or ks i no_kept).depth
+test_deep ks at i {table} e is t = omega (arith, ap (λ (k : Kept). k.depth) e, ltb-true table.depth (get_or ks i no_kept).depth (sym is ∙ t))
+
 -- the bodies of the table at a place, and their rows as they are written
 abbrev bodies_at : List Kept → ℕ → List (List Row)
 bodies_at ks at = (lines_from ks (get_or ks at no_kept).depth (at + 1)).bodies
@@ -121,7 +129,7 @@ pub record TableLoop (ks : List Kept) (at : ℕ) (es₀ es : List Entry) (rs₀ 
   pub same_entries : length es ≡ length es₀
   pub same_rows : length rs ≡ length rs₀
 
-found_plain : {table : List Row} {counts : Counts} {es : List Entry} {rs : List packed.Row} → TableMade table counts es rs → TableWalked table (tried.Plain counts) es rs
+found_plain : {table : List Row} {counts : Counts} {es : List Entry} {rs : List packed.Row} → TableMade table counts es rs → TableWalked table (Some counts) es rs
 found_plain {table} {counts} {es} {rs} w = record { made = λ counts' e. let q : counts ≡ counts' = cc in subst (λ (x : Counts). TableMade table x es rs) q w }
 
 module _ {ks : List Kept} {at : ℕ} {es₀ : List Entry} {rs₀ : List packed.Row} (t : TableReady ks at es₀ rs₀) where
@@ -162,7 +170,7 @@ module _ {ks : List Kept} {at : ℕ} {es₀ : List Entry} {rs₀ : List packed.R
     here = get_or ks i no_kept
 
     -- where no line of the table is left, the rows are the table's
-    pub table_stop : here.depth ≤ d → TableWalked (table_rows ks at) (tried.Plain (record { rows = r; entries = n; columns = columns })) es rs
+    pub table_stop : here.depth ≤ d → TableWalked (table_rows ks at) (Some (record { rows = r; entries = n; columns = columns })) es rs
     table_stop h =
         let w : z.rows ≡ joined (bodies_at ks at) =
         sym (append-nil z.rows) ∙ ap (λ (f : Frame). z.rows ++ still f) (sym (frame_stop ks d i h)) ∙ z.whole in

@@ -2,7 +2,7 @@
 // made in one pass over its lines and without edges: the column of an entry is its place in its row.
 #![tactic(auto)]
 
-ghost use Rattle.std.specs.Prelude.{◌≡◌, ◌&&◌, max, eqb};
+ghost use Rattle.std.specs.Prelude.{◌≡◌, ◌&&◌, eqb};
 ghost use Rattle.records.specs.Kept.{kepts_of, entries_of, rows_of};
 ghost use Rattle.cells.specs.Listed.{table_rows};
 ghost use Rattle.gridding.specs.Packed.{TableReady, TableMade};
@@ -18,50 +18,29 @@ struct RowEnd {
     cells: usize,
 }
 
-// What is found of a row that may be plain.
-#[derive(Clone, Copy)]
-enum RowFound {
-    Plain(RowEnd),
-    Spanned,
-}
-
-// What is found of a table that may be plain.
-#[derive(Clone, Copy)]
-pub enum Tried {
-    Plain(Counts),
-    Spanned,
-}
-
 // Whether a cell takes one column and one row.
 fn is_plain(cols: u32, rows: u32) -> bool
     ensures { result ≡ (eqb cols 1 && eqb rows 1) }
 {
-    if cols == 1 {
-        return rows == 1;
-    }
-    false
-}
-
-// The number of cells of the longer of two rows.
-fn longer(a: usize, b: usize) -> usize
-    ensures { result ≡ max a b }
-{
-    if a < b { b } else { a }
+    cols == 1 && rows == 1
 }
 
 // The entries of a row of a table of depth d, from entry n on, by the row's lines, which begin at the place `from`: its cells are three deeper than the
-// table, and what is still deeper stands in them. It ends at the first cell that is not plain.
-fn try_row(lines: &[u32], from: usize, d: u32, n: usize, entries: &mut [u32]) -> RowFound
+// table, and what is still deeper stands in them. None at the first cell that is not plain.
+fn try_row(lines: &[u32], from: usize, d: u32, n: usize, entries: &mut [u32]) -> Option<RowEnd>
     requires { RowReady (kepts_of lines.now) d from n (entries_of entries.old) }
     ensures { RowWalked (kepts_of lines.now) d from n result (entries_of entries.old) (entries_of entries.new) }
 {
+    let count = records::count(lines);
     let mut k = 0;
-    let mut i = from;
-    while cells::below(lines, i, d + 2) {
+    for i in from..count {
         let line = records::kept_at(lines, i);
+        if line.depth <= d + 2 {
+            return Some(RowEnd { next: i, cells: k });
+        }
         if line.depth == d + 3 {
             if !is_plain(line.cols, line.rows) {
-                return RowFound::Spanned;
+                return None;
             }
             let entry = Entry {
                 cell: (i + 1) as u32,
@@ -70,16 +49,16 @@ fn try_row(lines: &[u32], from: usize, d: u32, n: usize, entries: &mut [u32]) ->
             };
             records::put_entry(entries, n + k, entry);
             k += 1;
-            i += 1;
-        } else {
-            i += 1;
         }
     }
-    RowFound::Plain(RowEnd { next: i, cells: k })
+    Some(RowEnd {
+        next: count,
+        cells: k,
+    })
 }
 
 // The grid of the table at the place `at`, if it is plain: of each row its entries and its record. A line that is no row between rows is a body.
-fn try_plain(lines: &[u32], at: usize, entries: &mut [u32], rows: &mut [u32]) -> Tried
+fn try_plain(lines: &[u32], at: usize, entries: &mut [u32], rows: &mut [u32]) -> Option<Counts>
     requires { TableReady (kepts_of lines.now) at (entries_of entries.old) (rows_of rows.old) }
     ensures { TableWalked (table_rows (kepts_of lines.now) at) result (entries_of entries.new) (rows_of rows.new) }
 {
@@ -87,28 +66,26 @@ fn try_plain(lines: &[u32], at: usize, entries: &mut [u32], rows: &mut [u32]) ->
     let d = table.depth;
     let mut n = 0;
     let mut r = 0;
-    let mut columns = 0;
+    let mut columns: usize = 0;
     let mut i = at + 1;
+    // A while: a turn passes all lines of a row.
     while cells::below(lines, i, d) {
         let line = records::kept_at(lines, i);
+        i += 1;
         if line.depth == d + 2 {
-            let RowFound::Plain(end) = try_row(lines, i + 1, d, n, entries) else {
-                return Tried::Spanned;
-            };
+            let end = try_row(lines, i, d, n, entries)?;
             n += end.cells;
             let row = Row {
-                line: (i + 1) as u32,
+                line: i as u32,
                 end: n as u32,
             };
             records::put_row(rows, r, row);
             r += 1;
-            columns = longer(columns, end.cells);
+            columns = columns.max(end.cells);
             i = end.next;
-        } else {
-            i += 1;
         }
     }
-    Tried::Plain(Counts {
+    Some(Counts {
         rows: r,
         entries: n,
         columns,
@@ -121,7 +98,7 @@ pub fn make(lines: &[u32], at: usize, entries: &mut [u32], rows: &mut [u32]) -> 
     requires { TableReady (kepts_of lines.now) at (entries_of entries.old) (rows_of rows.old) }
     ensures { TableMade (table_rows (kepts_of lines.now) at) result (entries_of entries.new) (rows_of rows.new) }
 {
-    let Tried::Plain(counts) = try_plain(lines, at, entries, rows) else {
+    let Some(counts) = try_plain(lines, at, entries, rows) else {
         return gridding::make_sound(lines, at, entries, rows);
     };
     counts

@@ -2,7 +2,7 @@
 // the table alone: it is cleared for each table, and for a small table a short one does.
 #![tactic(auto)]
 
-ghost use Rattle.std.specs.Prelude.{◌-◌, ◌≤◌, ◌<◌, length};
+ghost use Rattle.std.specs.Prelude.{◌-◌, ◌*◌, ◌≤◌, ◌<◌, length};
 ghost use Rattle.lists.specs.Limits.{max_lines};
 ghost use Rattle.records.specs.Kept.{kepts_of, entries_of, rows_of};
 ghost use Rattle.cells.specs.Listed.{table_rows};
@@ -38,11 +38,13 @@ fn end_of(lines: &[u32], at: usize) -> usize
 {
     let table = records::kept_at(lines, at);
     let d = table.depth;
-    let mut end = at + 1;
-    while cells::below(lines, end, d) {
-        end += 1;
+    let count = records::count(lines);
+    for end in at + 1..count {
+        if records::kept_at(lines, end).depth <= d {
+            return end;
+        }
     }
-    end
+    count
 }
 
 // The grid of a table in room that does for it: for its cells, for what hangs into a row, and for what hangs into the next.
@@ -68,100 +70,47 @@ fn make_in(
     }
 }
 
-// The grid of a table of few lines.
-fn make_few(lines: &[u32], at: usize, entries: &mut [u32], rows: &mut [u32]) -> Counts
-    requires table_ready { TableReady (kepts_of lines.now) at (entries_of entries.old) (rows_of rows.old) }
-    requires at_len_bound { length (kepts_of lines.now) - at ≤ 16 }
-    ensures { TableMade (table_rows (kepts_of lines.now) at) result (entries_of entries.new) (rows_of rows.new) }
-{
-    let mut cells = [0u32; FEW];
-    let mut overhang = [0u32; FEW];
-    let mut next = [0u32; FEW];
-    make_in(
-        lines,
-        at,
-        &mut cells,
-        &mut overhang,
-        &mut next,
-        entries,
-        rows,
-    )
-}
-
-// The grid of a table of some lines.
-fn make_some(lines: &[u32], at: usize, entries: &mut [u32], rows: &mut [u32]) -> Counts
-    requires table_ready { TableReady (kepts_of lines.now) at (entries_of entries.old) (rows_of rows.old) }
-    requires at_len_bound { length (kepts_of lines.now) - at ≤ 512 }
-    ensures { TableMade (table_rows (kepts_of lines.now) at) result (entries_of entries.new) (rows_of rows.new) }
-{
-    let mut cells = [0u32; SOME];
-    let mut overhang = [0u32; SOME];
-    let mut next = [0u32; SOME];
-    make_in(
-        lines,
-        at,
-        &mut cells,
-        &mut overhang,
-        &mut next,
-        entries,
-        rows,
-    )
-}
-
-// The grid of a table of any number of lines.
-fn make_many(lines: &[u32], at: usize, entries: &mut [u32], rows: &mut [u32]) -> Counts
-    requires { TableReady (kepts_of lines.now) at (entries_of entries.old) (rows_of rows.old) }
-    ensures { TableMade (table_rows (kepts_of lines.now) at) result (entries_of entries.new) (rows_of rows.new) }
-{
-    let mut cells = [0u32; MANY];
-    let mut overhang = [0u32; MANY];
-    let mut next = [0u32; MANY];
-    make_in(
-        lines,
-        at,
-        &mut cells,
-        &mut overhang,
-        &mut next,
-        entries,
-        rows,
-    )
-}
-
-// The lines for which the next longer arrays do.
-fn next(most: usize) -> usize
-    requires { most ≤ 512 }
-    ensures { most < result }
-{
-    if most < SOME_LINES {
-        return SOME_LINES;
-    }
-    MAX_LINES
-}
-
-// The grid of a table with which the lines end: in arrays for at most so many lines if they do, and else in longer ones. It calls itself for
-// those, since a function that calls itself takes none with long arrays into its own frame: so a small table does not pay for the room of a
-// large one.
-fn make_within(
-    most: usize,
+// The grid of a table in arrays of N numbers, three for each of its lines. It is never taken into its caller's frame: so a small table does not pay
+// for the room of a large one.
+#[inline(never)]
+fn make_sized<const N: usize>(
     lines: &[u32],
     at: usize,
     entries: &mut [u32],
     rows: &mut [u32],
 ) -> Counts
+    requires table_ready { TableReady (kepts_of lines.now) at (entries_of entries.old) (rows_of rows.old) }
+    requires roomy { 3 * (length (kepts_of lines.now) - at) ≤ N }
+    requires small { N ≤ 3 * max_lines }
+    ensures { TableMade (table_rows (kepts_of lines.now) at) result (entries_of entries.new) (rows_of rows.new) }
+{
+    let mut cells = [0u32; N];
+    let mut overhang = [0u32; N];
+    let mut next = [0u32; N];
+    make_in(
+        lines,
+        at,
+        &mut cells,
+        &mut overhang,
+        &mut next,
+        entries,
+        rows,
+    )
+}
+
+// The grid of a table with which the lines end: in the shortest arrays that do for its lines.
+fn make_within(lines: &[u32], at: usize, entries: &mut [u32], rows: &mut [u32]) -> Counts
     requires { TableReady (kepts_of lines.now) at (entries_of entries.old) (rows_of rows.old) }
     ensures { TableMade (table_rows (kepts_of lines.now) at) result (entries_of entries.new) (rows_of rows.new) }
 {
-    if most > SOME_LINES {
-        return make_many(lines, at, entries, rows);
-    }
     let n = records::count(lines) - at;
-    if n <= most {
-        if most > FEW_LINES {
-            return make_some(lines, at, entries, rows);
-        }
-        return make_few(lines, at, entries, rows);
+    if n <= FEW_LINES {
+        make_sized::<FEW>(lines, at, entries, rows)
+    } else if n <= SOME_LINES {
+        make_sized::<SOME>(lines, at, entries, rows)
+    } else {
+        make_sized::<MANY>(lines, at, entries, rows)
     }
-    make_within(next(most), lines, at, entries, rows)
 }
 
 // The grid of the table at the place `at` of an opened sheet, to which no refusal applies: a record for each entry and for each row, and how many
@@ -171,5 +120,5 @@ pub fn make_sound(lines: &[u32], at: usize, entries: &mut [u32], rows: &mut [u32
     ensures { TableMade (table_rows (kepts_of lines.now) at) result (entries_of entries.new) (rows_of rows.new) }
 {
     let end = records::WIDTH * end_of(lines, at);
-    make_within(FEW_LINES, &lines[..end], at, entries, rows)
+    make_within(&lines[..end], at, entries, rows)
 }

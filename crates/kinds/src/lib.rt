@@ -43,21 +43,12 @@ pub const KINDS: u32 = 27;
 pub fn has_text(kind: u32) -> bool
     ensures { result ≡ has_text kind }
 {
-    if kind <= SVG {
-        return true;
-    }
-    kind == CALC
+    kind <= SVG || kind == CALC
 }
 
 // Those, break and frag have no children.
 pub fn is_leaf(kind: u32) -> bool
     ensures { result ≡ is_leaf kind }
 {
-    if has_text(kind) {
-        return true;
-    }
-    if kind == BREAK {
-        return true;
-    }
-    kind == FRAG
+    has_text(kind) || kind == BREAK || kind == FRAG
 }

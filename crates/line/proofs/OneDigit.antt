@@ -9,6 +9,7 @@ use lib.Dec.{eqb}
 use lib.ListN.{length, get_or, drop, length-drop}
 use lib.Seq.{drop-drop, drop-append-add, get_or-drop}
 use borrow.Author.Tests.{ne_eqb, le-leb}
+use Rattle.std.specs.Prelude.{Some, Ok}
 use Rattle.lists.specs.Limits.{max_depth, max_cols, max_rows}
 use Rattle.text.specs.Decimal.{Number, plain, shift, shifted}
 use Rattle.text.specs.Text.{text_size, with_img, begins, trim_start, trim_end, widths, runs}
@@ -17,18 +18,15 @@ use Rattle.kinds.specs.Kinds.{has_text, img_kind, calc_kind}
 use Rattle.fields.specs.Lines.{feed}
 use Rattle.fields.specs.Numbers.{up_to, magnitude, is_natural, value_from, natural_of, number_of}
 use Rattle.fields.specs.Blanks.{until_blank, blank}
-use Rattle.fields.specs.Reading.{number_read, kind_read}
-use Rattle.fields.specs.declared.FieldRead.TheVariants.{Sound}
+use Rattle.fields.specs.Reading.{sound, number_read, kind_read}
 use Rattle.line.specs.Fields.{n_fits}
 use Rattle.line.specs.Reading.{span_limit, rest_read, fields_read}
 use Rattle.line.specs.LineAt.{line_at}
-use Rattle.line.specs.declared.FieldsRead.TheVariants.{Whole}
-use Rattle.line.specs.declared.LineRead.TheVariants.{Good}
 use Rattle.line.proofs.Judging.{reads, front_good}
 
 -- a number of one digit, where it is allowed
 digit_read : (allowed : Number → Bool) (kept : Number → ℕ) (at : ℕ) (s rest : List ℕ) (v : ℕ) → v ≤ 9 → drop at s ≡ (48 + v) ∷ blank ∷ rest
-    → allowed (plain v) ≡ true → number_read allowed kept at (drop at s) ≡ Sound (kept (plain v)) (at + 2)
+    → allowed (plain v) ≡ true → number_read allowed kept at (drop at s) ≡ sound (kept (plain v)) (at + 2)
 unfolding number_read until_blank number_of natural_of is_natural value_from
 digit_read allowed kept at s rest v h e a =
     let value : 0 * 10 + (48 + v - 48) ≡ v = omega arith in
@@ -50,7 +48,7 @@ past s at k t e = sym (drop-drop k at s) ∙ ap (drop k) e
 
 -- the kind has this name
 abbrev pub Name : List ℕ → ℕ → Type 0
-Name name kind = (at : ℕ) (t : List ℕ) → kind_read at (name ++ (blank ∷ t)) ≡ Sound kind (at + length name + 1)
+Name name kind = (at : ℕ) (t : List ℕ) → kind_read at (name ++ (blank ∷ t)) ≡ sound kind (at + length name + 1)
 
 module _ (s : List ℕ) (at depth kind cols rows : ℕ) (name rest : List ℕ) (deep : depth ≤ 9) (narrow : cols ≤ 9) (low : rows ≤ 9)
     (named : Name name kind) (numbered : n_fits kind (plain 0) ≡ true) (wide : up_to (span_limit kind max_cols) (plain cols) ≡ true)
@@ -69,7 +67,7 @@ module _ (s : List ℕ) (at depth kind cols rows : ℕ) (name rest : List ℕ) (
       rw (← e) (past s (at + 2) (length name + 1) _ at_kind ∙ drop-append-add name _ 1)
 
   fields_are : fields_read s at
-      ≡ Whole (record { depth = depth; kind = kind; number = shift; cols = cols; rows = rows; from = n_place + 6 })
+      ≡ Some (record { depth = depth; kind = kind; number = shift; cols = cols; rows = rows; from = n_place + 6 })
   unfolding fields_read rest_read shifted
   fields_are =
       let two : n_place + 2 + 2 ≡ n_place + 4 = omega arith in
@@ -95,13 +93,13 @@ module _ (s : List ℕ) (at depth kind cols rows : ℕ) (name rest : List ℕ) (
   pub line_is : (stop size : ℕ) → stop ≡ from + length (front_of feed (drop from s)) → stop < length s → get_or s stop 0 ≡ feed
       → (eqb (stop - from) 0 || has_text kind) ≡ true → eqb kind calc_kind ≡ false → size ≡ text_size (front_of feed (drop from s))
       → line_at s at
-      ≡ Good (record { depth = depth; kind = kind; number = shift; cols = cols; rows = rows; own = with_img (eqb kind img_kind) size; from = from; to = stop; next = stop + 1 })
+      ≡ Ok (record { depth = depth; kind = kind; number = shift; cols = cols; rows = rows; own = with_img (eqb kind img_kind) size; from = from; to = stop; next = stop + 1 })
   line_is stop size end inside fed may other sized = front_good s at _ (reads s at _ fields_are) stop end inside fed may other size sized
 
   -- the line feed stands where the text would start
   pub bare_is : (more : List ℕ) → rest ≡ feed ∷ more → eqb kind calc_kind ≡ false
       → line_at s at
-      ≡ Good (record { depth = depth; kind = kind; number = shift; cols = cols; rows = rows; own = with_img (eqb kind img_kind) 0; from = from; to = from; next = from + 1 })
+      ≡ Ok (record { depth = depth; kind = kind; number = shift; cols = cols; rows = rows; own = with_img (eqb kind img_kind) 0; from = from; to = from; next = from + 1 })
   unfolding front_of text_size begins trim_start trim_end widths runs
   bare_is more e other =
       let here : drop from s ≡ feed ∷ more = text_at ∙ e in

@@ -5,10 +5,10 @@ ghost use Rattle.fields.specs.Reading.{number_read};
 ghost use Rattle.line.specs.Fields.{n_fits};
 ghost use Rattle.line.specs.Reading.{span_limit};
 
-use fields::{FieldRead, numbers};
+use fields::{Field, numbers};
 
 // The field n of a line of the kind: a heading's rank, a list's first number, or 0.
-pub fn n_at(bytes: &[u8], at: usize, kind: u32) -> FieldRead
+pub fn n_at(bytes: &[u8], at: usize, kind: u32) -> Option<Field>
     ensures { result ≡ number_read (n_fits kind) shifted at (drop at bytes.now) }
 {
     if kind == kinds::HEAD {
@@ -21,6 +21,7 @@ pub fn n_at(bytes: &[u8], at: usize, kind: u32) -> FieldRead
 }
 
 // Cells alone have spans: the largest that a line of the kind may have, where a cell may have `most`.
+#[tactic(auto, unfolding(crate::specs::Reading::span_limit))]
 pub fn span_limit(kind: u32, most: u32) -> u32
     ensures { result ≡ span_limit kind most }
 {

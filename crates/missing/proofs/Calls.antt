@@ -1,6 +1,10 @@
 -- The call: what is found in the sheet is what it answers and leaves. Assumes nothing.
+use Rattle.answers.specs.Answers.{causes_with}
+use Rattle.answers.specs.declared.Causes.{Causes}
+use Rattle.lists.specs.declared.Refusal.{Refusal}
+use Rattle.std.specs.Prelude.{Err, Ok, Result, Some}
 use mathlib.Core.Path.{◌≡◌, refl, sym, ◌∙◌}
-use mathlib.Core.Bool.{true, ◌||◌}
+use mathlib.Core.Bool.{◌||◌}
 use mathlib.Core.List.{List, [], ◌∷◌}
 use Prim.Native.Nat.{ℕ, ◌≤◌}
 use native.Mathlib.Omega.{arith}
@@ -10,10 +14,8 @@ use borrow.Author.Tests.{ltb-false}
 use Rattle.lists.specs.Lists.{padded}
 use Rattle.lists.specs.Limits.{max_lines, max_entries, max_wrap, max_width, max_size}
 use Rattle.lists.specs.Refusals.{Check, first_answer, verdict_of, if_passes}
-use Rattle.lists.specs.declared.Verdict.{Verdict}
-use Rattle.lists.specs.declared.Verdict.TheVariants.{Accepted, Refused as Refuses}
 use Rattle.sheet.proofs.First.{neither}
-use Rattle.opening.specs.Opening.{asked, open_checks}
+use Rattle.opening.specs.Opening.{after_reading, open_checks}
 use Rattle.arguments.specs.Arguments.{any_shorter, missing_arguments}
 use Rattle.arguments.proofs.Shorter.{or_false}
 use Rattle.sheet_figures.specs.Figures.{columns_at}
@@ -21,19 +23,17 @@ use Rattle.sheet_figures.specs.inner.Early.{early}
 use Rattle.sheet_figures.proofs.Early.{early_nines, none_nines, fits, leaving}
 use Rattle.causes.specs.Sheets.{missing_at}
 use Rattle.missing.specs.Missing.{missing_checks, explained_of, for_one, MissingAnswer}
-use Rattle.answers.specs.declared.Explained.{Explained}
-use Rattle.answers.specs.declared.Explained.TheVariants.{Causes, Refused}
 use Rattle.missing.specs.inner.Found.{ExplainRoom, missed_total, column_total, MissingFound}
 
 -- refused for the arguments
-pub missing_early : (number at : ℕ) (cs : List Check) (s : List ℕ) (line wrap raw width : ℕ) (entry cause : List ℕ)
-    → MissingFound (early (Refuses number at) ∷ cs) s line wrap raw width (Refused number at) entry cause
+pub missing_early : (why : Refusal) (cs : List Check) (s : List ℕ) (line wrap raw width : ℕ) (entry cause : List ℕ)
+    → MissingFound (early (Err why) ∷ cs) s line wrap raw width (Err why) entry cause
 unfolding first_answer early if_passes missed_total column_total
-missing_early number at cs s line wrap raw width entry cause =
+missing_early why cs s line wrap raw width entry cause =
     record { answer = refl; few_entries = omega arith; few_columns = omega arith; entries = refl; causes = refl }
 
 -- not refused for the arguments
-pub missing_late : {v : Verdict} {cs : List Check} {s : List ℕ} {line wrap raw width : ℕ} {r : Explained} {entry cause : List ℕ} → v ≡ Accepted
+pub missing_late : {v : Result (Unit {0}) Refusal} {cs : List Check} {s : List ℕ} {line wrap raw width : ℕ} {r : Result Causes Refusal} {entry cause : List ℕ} → v ≡ (Ok tt)
     → MissingFound cs s line wrap raw width r entry cause → MissingFound (early v ∷ cs) s line wrap raw width r entry cause
 unfolding first_answer early if_passes
 missing_late z f =
@@ -46,56 +46,56 @@ missing_late z f =
     })
 
 -- where the arguments are not refused, each lent buffer has room
-fit : (wrap raw width : ℕ) (v : Verdict) (a b : ℕ) → v ≡ verdict_of (missing_arguments wrap raw width (a ∷ []) (b ∷ [])) → v ≡ Accepted
+fit : (wrap raw width : ℕ) (v : Result (Unit {0}) Refusal) (a b : ℕ) → v ≡ verdict_of (missing_arguments wrap raw width (a ∷ []) (b ∷ [])) → v ≡ (Ok tt)
     → (max_entries ≤ a) × (max_lines ≤ b)
 unfolding any_shorter
 fit wrap raw width v a b judged z =
     let (p, q) = neither (any_shorter max_entries (a ∷ [])) (any_shorter max_lines (b ∷ [])) (none_nines _ _ (sym judged ∙ z)).1 in
     (ltb-false a max_entries (sym (or_false (ltb a max_entries)) ∙ p), ltb-false b max_lines (sym (or_false (ltb b max_lines)) ∙ q))
 
-pub missing_fit : (wrap raw width : ℕ) (v : Verdict) (entry cause : List ℕ) → v ≡ verdict_of (missing_arguments wrap raw width (for_one entry) (for_one cause))
-    → v ≡ Accepted → ExplainRoom entry cause
+pub missing_fit : (wrap raw width : ℕ) (v : Result (Unit {0}) Refusal) (entry cause : List ℕ) → v ≡ verdict_of (missing_arguments wrap raw width (for_one entry) (for_one cause))
+    → v ≡ (Ok tt) → ExplainRoom entry cause
 missing_fit wrap raw width v entry cause judged z =
     let (a, b) = fit wrap raw width v (length entry) (length cause) judged z in
     record { entry_room = a; cause_room = b }
 
 -- and the width is in its range
-pub in_range : (wrap raw width : ℕ) (v : Verdict) (entries columns : List ℕ) → v ≡ verdict_of (missing_arguments wrap raw width entries columns) → v ≡ Accepted
+pub in_range : (wrap raw width : ℕ) (v : Result (Unit {0}) Refusal) (entries columns : List ℕ) → v ≡ verdict_of (missing_arguments wrap raw width entries columns) → v ≡ (Ok tt)
     → width ≤ max_size
 in_range wrap raw width v entries columns judged z =
     let (p, q) = neither (ltb max_wrap wrap || ltb 1 raw) (ltb max_width width) (none_nines _ _ (sym judged ∙ z)).0 in
     omega (arith, ltb-false max_width width q)
 
 -- there is room for what is told
-pub missing_rooms : {s : List ℕ} {line wrap raw width : ℕ} {v : Verdict} {a b : ℕ} {r : Explained} {entry cause : List ℕ}
-    → v ≡ verdict_of (missing_arguments wrap raw width (a ∷ []) (b ∷ [])) → MissingFound (early v ∷ open_checks true s line) s line wrap raw width r entry cause
+pub missing_rooms : {s : List ℕ} {line wrap raw width : ℕ} {v : Result (Unit {0}) Refusal} {a b : ℕ} {r : Result Causes Refusal} {entry cause : List ℕ}
+    → v ≡ verdict_of (missing_arguments wrap raw width (a ∷ []) (b ∷ [])) → MissingFound (early v ∷ open_checks (Some line) s) s line wrap raw width r entry cause
     → (missed_total r ≤ a) × (column_total r ≤ b)
 unfolding missed_total column_total
 missing_rooms {s} {line} {wrap} {raw} {width} {v} {a} {b} {r} judged found =
     let f = fit wrap raw width v a b judged in (
-      fits Refused _ missed_total (λ n l. refl) v (open_checks true s line) r max_entries a found.answer found.few_entries (λ z. (f z).0),
-      fits Refused _ column_total (λ n l. refl) v (open_checks true s line) r max_lines b found.answer found.few_columns (λ z. (f z).1),
+      fits Err _ missed_total (λ why. refl) v (open_checks (Some line) s) r max_entries a found.answer found.few_entries (λ z. (f z).0),
+      fits Err _ column_total (λ why. refl) v (open_checks (Some line) s) r max_lines b found.answer found.few_columns (λ z. (f z).1),
     )
 
 -- so many places can be kept
 pub keep_fits : {n t a l : ℕ} → n ≡ t → t ≤ a → l ≡ a → n ≤ l
 keep_fits e h k = omega arith
 
-module _ {s : List ℕ} {line wrap raw width : ℕ} {v : Verdict} {entry₀ cause₀ : List ℕ} {r : Explained} {entry cause : List ℕ}
+module _ {s : List ℕ} {line wrap raw width : ℕ} {v : Result (Unit {0}) Refusal} {entry₀ cause₀ : List ℕ} {r : Result Causes Refusal} {entry cause : List ℕ}
     (judged : v ≡ verdict_of (missing_arguments wrap raw width (for_one entry₀) (for_one cause₀)))
-    (found : MissingFound (early v ∷ open_checks true s line) s line wrap raw width r entry cause) where
+    (found : MissingFound (early v ∷ open_checks (Some line) s) s line wrap raw width r entry cause) where
   pub missing_answered : {n m : ℕ} {a b : List ℕ} → n ≡ missed_total r → m ≡ column_total r → length entry ≡ length entry₀ → length cause ≡ length cause₀
       → a ≡ padded (length entry) (take n entry) → b ≡ padded (length cause) (take m cause)
       → MissingAnswer s line wrap raw width entry₀ cause₀ r a b
-  unfolding explained_of asked if_passes
+  unfolding explained_of after_reading if_passes
   missing_answered k l ka kb a b =
-      let f : (xs : List ℕ) → first_answer (λ number line. []) xs (early v ∷ open_checks true s line) ≡ first_answer (λ number line. []) xs (missing_checks s line wrap raw width (for_one entry₀) (for_one cause₀)) =
-      λ xs. early_nines (λ number line. []) xs v (open_checks true s line) _ _ judged in
-      let told = Causes (length (missing_at s line wrap raw width)) (columns_at s line) in
+      let f : (xs : List ℕ) → first_answer (λ why. []) xs (early v ∷ open_checks (Some line) s) ≡ first_answer (λ why. []) xs (missing_checks s line wrap raw width (for_one entry₀) (for_one cause₀)) =
+      λ xs. early_nines (λ why. []) xs v (open_checks (Some line) s) _ _ judged in
+      let told = Ok (causes_with (length (missing_at s line wrap raw width)) (columns_at s line)) in
       record {
         answer =
             found.answer
-            ∙ early_nines Refused told v (open_checks true s line) _ _ judged;
+            ∙ early_nines Err told v (open_checks (Some line) s) _ _ judged;
         left =
             record {
               entries = leaving entry₀ entry (f _) k ka a found.entries;

@@ -1,5 +1,9 @@
 -- One table of a measured sheet: its grid's entries are whole in its columns, and what is told of them is what the definition says of its boxes.
 -- Assumes nothing.
+use Rattle.answers.specs.Answers.{causes_with}
+use Rattle.answers.specs.declared.Causes.{Causes}
+use Rattle.lists.specs.declared.Refusal.{Refusal}
+use Rattle.std.specs.Prelude.{Result, Ok}
 use mathlib.Core.Path.{◌≡◌, refl, sym, ap, ◌∙◌}
 use mathlib.Core.List.{List, map}
 use Prim.Native.Nat.{ℕ, ◌-◌, ◌/◌, ◌≤◌}
@@ -32,8 +36,6 @@ use Rattle.causes.specs.inner.Hidden.{hidden_from}
 use Rattle.causes.proofs.Missed.{missing_are, hidden_entries}
 use Rattle.causes.specs.inner.Fronts.{causes_in, hidden_in, FrontReady, FrontTold}
 use Rattle.missing.specs.inner.Found.{ExplainRoom, missed_total, column_total, TableTold, MissingMade}
-use Rattle.answers.specs.declared.Explained.{Explained}
-use Rattle.answers.specs.declared.Explained.TheVariants.{Causes}
 use Rattle.causes.proofs.Told.{front_few}
 
 -- ---- the boxes of the entries
@@ -50,12 +52,12 @@ module _ (es : List Entry) (figures : List Estimate) (rows : List (List Box)) (e
       ∙ ap (λ (bs : List Box). hidden_from 0 bs (causes (largest size_of (flat rows) c) (largest least_of (flat rows) c) (widths_in c rows raw width) width)) (sym e)
       ∙ missing_are c rows raw width t
 
-  table_told : TilesAll c rows → {r : ℕ} {q : Explained} {entry cause : List ℕ} → q ≡ Causes r c → r ≡ length (hidden_in es figures c raw width)
+  table_told : TilesAll c rows → {r : ℕ} {q : Result Causes Refusal} {entry cause : List ℕ} → q ≡ Ok (causes_with r c) → r ≡ length (hidden_in es figures c raw width)
       → take r entry ≡ hidden_in es figures c raw width → take c cause ≡ causes_in es figures c raw width → TableTold c rows raw width q entry cause
   unfolding missed_total column_total
   table_told t {r} w k h cs =
       rw w (record {
-        answer = ap (λ (m : ℕ). Causes m c) (k ∙ ap length (hidden_of t));
+        answer = ap (λ (m : ℕ). Ok (causes_with m c)) (k ∙ ap length (hidden_of t));
         entries = h ∙ hidden_of t;
         causes = cs ∙ causes_of;
       })
@@ -101,8 +103,8 @@ module _ {ks : List Kept} {line : ℕ} (a : Asked ks line) {figures : List Estim
       → (r ≤ max_entries) × (counts.columns ≤ max_position)
   made_few t = (omega (arith, few, front_few made_ready t), made_ready.columns_few)
 
-  pub made_told : {raw r : ℕ} {q : Explained} {entry cause : List ℕ} → FrontTold counts.entries counts.columns es figures raw width r entry cause
-      → q ≡ Causes r counts.columns → MissingMade ks line figures raw width q entry cause
+  pub made_told : {raw r : ℕ} {q : Result Causes Refusal} {entry cause : List ℕ} → FrontTold counts.entries counts.columns es figures raw width r entry cause
+      → q ≡ Ok (causes_with r counts.columns) → MissingMade ks line figures raw width q entry cause
   unfolding missed_total column_total
   made_told {raw} {r} {q} {entry} {cause} t e =
       record {

@@ -5,61 +5,53 @@
 mod sheets; // of the table in a line of a sheet
 mod making; // of one table of a measured sheet
 
-ghost use Rattle.std.specs.Prelude.{◌≡◌, true, ◌∷◌, ◌≤◌};
+ghost use Rattle.std.specs.Prelude.{◌≡◌, true, ◌∷◌, ◌≤◌, Some};
 ghost use Rattle.lists.specs.Limits.{max_size};
-ghost use Rattle.lists.specs.declared.Verdict.TheVariants.{Accepted};
 ghost use Rattle.opening.specs.Opening.{open_checks};
 ghost use Rattle.sheet_figures.specs.inner.Early.{early};
 ghost use Rattle.missing.specs.Missing.{MissingAnswer};
 ghost use Rattle.missing.specs.inner.Found.{ExplainRoom, missed_total, column_total, MissingFound};
 
-use answers::Explained;
-use lists::Verdict;
+use answers::Causes;
+use arguments::Settings;
+use lists::Refusal;
 
 // What is found in the sheet, unless the arguments are refused.
 fn find_missing(
     sheet: &[u8],
     line: u32,
-    wrap: u32,
-    raw: u32,
-    width: u32,
-    asked: Verdict,
+    settings: Settings,
+    asked: Result<(), Refusal>,
     entry: &mut [u32],
     cause: &mut [u32],
-) -> Explained
-    requires { asked ≡ Accepted → (width ≤ max_size) × ExplainRoom entry.old cause.old }
-    ensures { MissingFound (early asked ∷ open_checks true sheet.now line) sheet.now line wrap raw width result
+) -> Result<Causes, Refusal>
+    requires { asked ≡ Ok tt → (settings.width ≤ max_size) × ExplainRoom entry.old cause.old }
+    ensures { MissingFound (early asked ∷ open_checks (Some line) sheet.now) sheet.now line settings.wrap settings.raw settings.width result
         entry.new cause.new }
 {
-    match asked {
-        Verdict::Refused { number, line: at } => Explained::Refused { number, line: at },
-        Verdict::Accepted => sheets::explain_sheet(sheet, line, wrap, raw, width, entry, cause),
-    }
+    asked?;
+    sheets::explain_sheet(sheet, line, settings, entry, cause)
 }
 
 // How many entries are missing.
-fn missed_count(found: Explained) -> usize
+#[tactic(auto, unfolding(crate::specs::inner::Found::missed_total))]
+fn missed_count(found: Result<Causes, Refusal>) -> usize
     ensures { result ≡ missed_total found }
 {
     match found {
-        Explained::Causes {
-            count: n,
-            columns: _,
-        } => n as usize,
-        Explained::Refused { number: _, line: _ } => 0,
+        Ok(causes) => causes.count as usize,
+        Err(_) => 0,
     }
 }
 
 // How many columns there are.
-fn column_count(found: Explained) -> usize
+#[tactic(auto, unfolding(crate::specs::inner::Found::column_total))]
+fn column_count(found: Result<Causes, Refusal>) -> usize
     ensures { result ≡ column_total found }
 {
     match found {
-        Explained::Causes {
-            count: _,
-            columns: n,
-        } => n as usize,
-        Explained::Refused { number: _, line: _ } => 0,
+        Ok(causes) => causes.columns as usize,
+        Err(_) => 0,
     }
 }
 
@@ -72,11 +64,17 @@ pub fn missing(
     width: u32,
     entry: &mut [u32],
     cause: &mut [u32],
-) -> Explained
+) -> Result<Causes, Refusal>
     ensures { MissingAnswer sheet.now line wrap raw width entry.old cause.old result entry.new cause.new }
 {
-    let asked = arguments::of_missing(wrap, raw, width, entry.len(), cause.len());
-    let found = find_missing(sheet, line, wrap, raw, width, asked, entry, cause);
+    let settings = Settings {
+        wrap,
+        raw,
+        width,
+        overflow: 0,
+    };
+    let asked = arguments::of_missing(settings, entry.len(), cause.len());
+    let found = find_missing(sheet, line, settings, asked, entry, cause);
     let n = missed_count(found);
     let m = column_count(found);
     lists::keep_front(entry, n);

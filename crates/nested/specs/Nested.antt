@@ -1,5 +1,8 @@
 -- The call `nested`: what it refuses, in its order, its answer, and what stands in the lent buffers afterwards. These are definitions; nothing is assumed.
-use Rattle.std.specs.Prelude.{◌≡◌, true, List, [], ◌∷◌, ◌++◌, map, ℕ, ◌-◌, length, get_or}
+use Rattle.answers.specs.Answers.{layout_with, nested_with}
+use Rattle.answers.specs.declared.Nested.{Nested}
+use Rattle.lists.specs.declared.Refusal.{Refusal}
+use Rattle.std.specs.Prelude.{◌≡◌, true, List, [], ◌∷◌, ◌++◌, map, ℕ, ◌-◌, length, get_or, Err, Ok, Option, Result, None, Some}
 use Rattle.lists.specs.Refusals.{Check, first_answer, passes}
 use Rattle.sheet.specs.Sheet.{sheet_checks}
 use Rattle.arguments.specs.Arguments.{nested_arguments}
@@ -10,11 +13,7 @@ use Rattle.sheet_figures.specs.Figures.{x_of, width_of, rows_at, columns_at, box
 use Rattle.sheet_figures.specs.Calls.{every_table, leaves}
 use Rattle.call_layout.specs.Layout.{for_columns, for_places}
 use Rattle.passing.specs.Walk.{narrow_checks}
-use Rattle.passing.specs.declared.Width.{Width}
-use Rattle.passing.specs.declared.Width.TheVariants.{Wide, Without}
 use Rattle.pacing.specs.Sheets.{walk_of}
-use Rattle.answers.specs.declared.NestedLayout.{NestedLayout}
-use Rattle.answers.specs.declared.NestedLayout.TheVariants as nested
 
 abbrev pub nested_checks : List ℕ → ℕ → ℕ → ℕ → ℕ → ℕ → List ℕ → List ℕ → List Check
 nested_checks s line wrap raw width overflow columns entries =
@@ -22,38 +21,38 @@ nested_checks s line wrap raw width overflow columns entries =
     ++ (sheet_checks s ++ line_check (kept_lines s) line ∷ every_table s) ++ narrow_checks wrap raw width overflow (kept_lines s)
 
 -- the width that the walk gives the table in a line
-abbrev pub width_to : List ℕ → ℕ → ℕ → ℕ → ℕ → Width
-width_to s line wrap raw width = get_or (walk_of s wrap raw width) (line - 1) Without
+abbrev pub width_to : List ℕ → ℕ → ℕ → ℕ → ℕ → Option ℕ
+width_to s line wrap raw width = get_or (walk_of s wrap raw width) (line - 1) None
 
 -- the table laid out at that width; without one nothing is
-unfoldable pub told_at : List ℕ → ℕ → ℕ → ℕ → Width → NestedLayout
-told_at s line wrap raw Without = nested.Missing
-told_at s line wrap raw (Wide v) = nested.Table v (way_at s line wrap raw v) (length (entries_of (rows_at s line))) (columns_at s line) (width_at s line wrap raw v)
+unfoldable pub told_at : List ℕ → ℕ → ℕ → ℕ → Option ℕ → Result (Option Nested) Refusal
+told_at s line wrap raw None = Ok None
+told_at s line wrap raw (Some v) = Ok (Some (nested_with v (layout_with (way_at s line wrap raw v) (length (entries_of (rows_at s line))) (columns_at s line) (width_at s line wrap raw v))))
 
-unfoldable pub columns_for : List ℕ → ℕ → ℕ → ℕ → Width → List ℕ
-columns_for s line wrap raw Without = []
-columns_for s line wrap raw (Wide v) = widths_at s line wrap raw v
+unfoldable pub columns_for : List ℕ → ℕ → ℕ → ℕ → Option ℕ → List ℕ
+columns_for s line wrap raw None = []
+columns_for s line wrap raw (Some v) = widths_at s line wrap raw v
 
-unfoldable pub xs_for : List ℕ → ℕ → ℕ → ℕ → Width → List ℕ
-xs_for s line wrap raw Without = []
-xs_for s line wrap raw (Wide v) = map x_of (places_at s line wrap raw v)
+unfoldable pub xs_for : List ℕ → ℕ → ℕ → ℕ → Option ℕ → List ℕ
+xs_for s line wrap raw None = []
+xs_for s line wrap raw (Some v) = map x_of (places_at s line wrap raw v)
 
-unfoldable pub wides_for : List ℕ → ℕ → ℕ → ℕ → Width → List ℕ
-wides_for s line wrap raw Without = []
-wides_for s line wrap raw (Wide v) = map width_of (places_at s line wrap raw v)
+unfoldable pub wides_for : List ℕ → ℕ → ℕ → ℕ → Option ℕ → List ℕ
+wides_for s line wrap raw None = []
+wides_for s line wrap raw (Some v) = map width_of (places_at s line wrap raw v)
 
-unfoldable pub nested_of : List ℕ → ℕ → ℕ → ℕ → ℕ → ℕ → List ℕ → List ℕ → NestedLayout
+unfoldable pub nested_of : List ℕ → ℕ → ℕ → ℕ → ℕ → ℕ → List ℕ → List ℕ → Result (Option Nested) Refusal
 nested_of s line wrap raw width overflow columns entries =
-    first_answer nested.Refused (told_at s line wrap raw (width_to s line wrap raw width)) (nested_checks s line wrap raw width overflow columns entries)
+    first_answer Err (told_at s line wrap raw (width_to s line wrap raw width)) (nested_checks s line wrap raw width overflow columns entries)
 
 -- what the three buffers hold afterwards, and of these figures the third demand, with what holds down the page, at the width that the walk gives
 pub record NestedLeft (s : List ℕ) (line wrap raw width overflow : ℕ) (column₀ x₀ wide₀ column x wide : List ℕ) : Type 0 where
   pub widths : column ≡ leaves (nested_checks s line wrap raw width overflow (for_columns column₀) (for_places x₀ wide₀)) column₀ (columns_for s line wrap raw (width_to s line wrap raw width))
   pub xs : x ≡ leaves (nested_checks s line wrap raw width overflow (for_columns column₀) (for_places x₀ wide₀)) x₀ (xs_for s line wrap raw (width_to s line wrap raw width))
   pub wides : wide ≡ leaves (nested_checks s line wrap raw width overflow (for_columns column₀) (for_places x₀ wide₀)) wide₀ (wides_for s line wrap raw (width_to s line wrap raw width))
-  pub promised : passes (nested_checks s line wrap raw width overflow (for_columns column₀) (for_places x₀ wide₀)) ≡ true → (v : ℕ) → width_to s line wrap raw width ≡ Wide v →
+  pub promised : passes (nested_checks s line wrap raw width overflow (for_columns column₀) (for_places x₀ wide₀)) ≡ true → (v : ℕ) → width_to s line wrap raw width ≡ Some v →
       Promised (columns_at s line) (boxes_at s line wrap) raw v (way_at s line wrap raw v) (widths_at s line wrap raw v)
 
-pub record NestedAnswer (s : List ℕ) (line wrap raw width overflow : ℕ) (column₀ x₀ wide₀ : List ℕ) (r : NestedLayout) (column x wide : List ℕ) : Type 0 where
+pub record NestedAnswer (s : List ℕ) (line wrap raw width overflow : ℕ) (column₀ x₀ wide₀ : List ℕ) (r : Result (Option Nested) Refusal) (column x wide : List ℕ) : Type 0 where
   pub answer : r ≡ nested_of s line wrap raw width overflow (for_columns column₀) (for_places x₀ wide₀)
   pub left : NestedLeft s line wrap raw width overflow column₀ x₀ wide₀ column x wide

@@ -4,10 +4,11 @@
 
 mod nesting; // one table, laid out at the width that the walk gives it
 
-ghost use Rattle.std.specs.Prelude.{◌≡◌};
 ghost use Rattle.nested.specs.Nested.{NestedAnswer};
 
-use answers::NestedLayout;
+use answers::Nested;
+use arguments::Settings;
+use lists::Refusal;
 
 // The layout of the table in a line, at the width that the walk gives it: the width of each column, and the place and the width of each entry.
 pub fn nested(
@@ -20,22 +21,18 @@ pub fn nested(
     column: &mut [u32],
     x: &mut [u32],
     wide: &mut [u32],
-) -> NestedLayout
+) -> Result<Option<Nested>, Refusal>
     ensures { NestedAnswer sheet.now line wrap raw width overflow
         column.old x.old wide.old result column.new x.new wide.new }
 {
-    let asked = arguments::of_nested(
+    let settings = Settings {
         wrap,
         raw,
         width,
         overflow,
-        column.len(),
-        x.len(),
-        wide.len(),
-    );
-    let found = nesting::find_nested(
-        sheet, line, wrap, raw, width, overflow, asked, column, x, wide,
-    );
+    };
+    let asked = arguments::of_nested(settings, column.len(), x.len(), wide.len());
+    let found = nesting::find_nested(sheet, line, settings, asked, column, x, wide);
     let n = nesting::column_count(found);
     let m = nesting::entry_count(found);
     lists::keep_front(column, n);

@@ -1,7 +1,6 @@
 // One table of a sheet, laid out at the width that the walk gives it, written to the lent buffers.
-ghost use Rattle.std.specs.Prelude.{◌≡◌, true, ◌∷◌, ◌≤◌};
+ghost use Rattle.std.specs.Prelude.{◌≡◌, ◌∷◌, ◌≤◌, Some};
 ghost use Rattle.lists.specs.Limits.{max_size};
-ghost use Rattle.lists.specs.declared.Verdict.TheVariants.{Accepted};
 ghost use Rattle.records.specs.Kept.{places_of};
 ghost use Rattle.estimates.specs.inner.Figures.{figures_of};
 ghost use Rattle.table.specs.inner.Asked.{OutRoom};
@@ -9,62 +8,27 @@ ghost use Rattle.sheet_figures.specs.inner.Opened.{AskedIn, MeasuredIn};
 ghost use Rattle.sheet_figures.specs.inner.Early.{early};
 ghost use Rattle.walking.specs.inner.Steps.{AtMost};
 ghost use Rattle.pacing.specs.inner.Found.{walked_checks};
-ghost use Rattle.nested.specs.inner.Found.{width_for, PlaceIn, nest_in, without_in, NestRead, columns_in, entries_in, NestFound};
+ghost use Rattle.nested.specs.inner.Found.{width_for, PlaceIn, NestRead, columns_in, entries_in, NestFound};
 
-use answers::{LaidOut, NestedLayout};
-use lists::{MAX_ENTRIES, MAX_LINES, Verdict};
-use passing::Width;
-use sheet::Reading;
+use answers::Nested;
+use arguments::Settings;
+use lists::{MAX_ENTRIES, MAX_LINES, Refusal};
 
-// The width at a line's place, if the sheet was read.
-fn width_for(read: Reading, line: u32, walk: &[u32]) -> Width
+// The width at a line's place, if the sheet was read and the walk gives it one.
+fn width_for(read: Result<usize, Refusal>, line: u32, walk: &[u32]) -> Option<u32>
     requires { PlaceIn read line walk.now }
     ensures { result ≡ width_for read line (places_of walk.now) }
 {
     match read {
-        Reading::Refused { number: _, line: _ } => Width::Without,
-        Reading::Lines(_) => {
-            let at = (line - 1) as usize;
-            passing::width_of(records::place_at(walk, at))
-        }
-    }
-}
-
-// A table that was laid out at a width, in the words of this crate.
-fn nest_in(at: u32, arranged: LaidOut) -> NestedLayout
-    ensures { result ≡ nest_in at arranged }
-{
-    match arranged {
-        LaidOut::Layout {
-            way,
-            entries,
-            columns,
-            width,
-        } => NestedLayout::Table {
-            at,
-            way,
-            entries,
-            columns,
-            width,
-        },
-        LaidOut::Refused { number, line } => NestedLayout::Refused { number, line },
-    }
-}
-
-// A table without a width, or the refusal.
-fn without_in(read: Reading) -> NestedLayout
-    ensures { result ≡ without_in read }
-{
-    match read {
-        Reading::Lines(_) => NestedLayout::Missing,
-        Reading::Refused { number, line } => NestedLayout::Refused { number, line },
+        Ok(_) => passing::width_of(records::place_at(walk, (line - 1) as usize)),
+        Err(_) => None,
     }
 }
 
 // The table in a line of a measured sheet, laid out at its width, if it has one; or the refusal. The sheet's lines are the first records.
 fn nest_read(
-    read: Reading,
-    at: Width,
+    read: Result<usize, Refusal>,
+    at: Option<u32>,
     line: u32,
     lines: &[u32],
     figures: &[u32],
@@ -72,7 +36,7 @@ fn nest_read(
     column: &mut [u32],
     x: &mut [u32],
     wide: &mut [u32],
-) -> NestedLayout
+) -> Result<Option<Nested>, Refusal>
     requires asked_in { AskedIn read lines.now line }
     requires measured_in { MeasuredIn read lines.now line (figures_of figures.now) }
     requires raw_bound { (raw ≤ 1) × AtMost max_size at }
@@ -80,44 +44,40 @@ fn nest_read(
     ensures { NestRead read at lines.now line (figures_of figures.now) raw result
         column.new x.new wide.new }
 {
-    match at {
-        Width::Without => without_in(read),
-        Width::Wide(v) => {
-            let mut entries = [0u32; 3 * MAX_ENTRIES];
-            let mut rows = [0u32; 2 * MAX_LINES];
-            let arranged = call_layout::read::layout_read(
-                read,
-                line,
-                lines,
-                figures,
-                raw,
-                v,
-                &mut entries,
-                &mut rows,
-                column,
-                x,
-                wide,
-            );
-            nest_in(v, arranged)
-        }
-    }
+    let Some(at) = at else {
+        read?;
+        return Ok(None);
+    };
+    let mut entries = [0u32; 3 * MAX_ENTRIES];
+    let mut rows = [0u32; 2 * MAX_LINES];
+    let layout = call_layout::read::layout_read(
+        read,
+        line,
+        lines,
+        figures,
+        raw,
+        at,
+        &mut entries,
+        &mut rows,
+        column,
+        x,
+        wide,
+    )?;
+    Ok(Some(Nested { at, layout }))
 }
 
 // The same of a sheet. The columns' widths are written last, and until then their buffer is room to work in.
 fn nest_sheet(
     sheet: &[u8],
     line: u32,
-    wrap: u32,
-    raw: u32,
-    width: u32,
-    overflow: u32,
+    settings: Settings,
     column: &mut [u32],
     x: &mut [u32],
     wide: &mut [u32],
-) -> NestedLayout
-    requires raw_bound { (raw ≤ 1) × (width ≤ max_size) }
+) -> Result<Option<Nested>, Refusal>
+    requires raw_bound { (settings.raw ≤ 1) × (settings.width ≤ max_size) }
     requires out_room { OutRoom column.old x.old wide.old }
-    ensures { NestFound (walked_checks true sheet.now line wrap raw width overflow) sheet.now line wrap raw width result
+    ensures { NestFound (walked_checks (Some line) sheet.now settings.wrap settings.raw settings.width settings.overflow) sheet.now line settings.wrap settings.raw settings.width result
         column.new x.new wide.new }
 {
     let mut lines = [0u32; records::WIDTH * MAX_LINES];
@@ -125,74 +85,63 @@ fn nest_sheet(
     let mut walk = [0u32; 2 * MAX_LINES];
     let read = pacing::walk_sheet(
         sheet,
-        true,
-        line,
-        wrap,
-        raw,
-        width,
-        overflow,
+        Some(line),
+        settings,
         &mut lines,
         &mut figures,
         &mut walk,
         column,
     );
     let at = width_for(read, line, &walk);
-    nest_read(read, at, line, &lines, &figures, raw, column, x, wide)
+    nest_read(
+        read,
+        at,
+        line,
+        &lines,
+        &figures,
+        settings.raw,
+        column,
+        x,
+        wide,
+    )
 }
 
 // The same, unless the arguments are refused.
 pub fn find_nested(
     sheet: &[u8],
     line: u32,
-    wrap: u32,
-    raw: u32,
-    width: u32,
-    overflow: u32,
-    asked: Verdict,
+    settings: Settings,
+    asked: Result<(), Refusal>,
     column: &mut [u32],
     x: &mut [u32],
     wide: &mut [u32],
-) -> NestedLayout
-    requires { asked ≡ Accepted → ((raw ≤ 1) × (width ≤ max_size)) × OutRoom column.old x.old wide.old }
-    ensures { NestFound (early asked ∷ walked_checks true sheet.now line wrap raw width overflow) sheet.now line wrap raw width result
+) -> Result<Option<Nested>, Refusal>
+    requires { asked ≡ Ok tt → ((settings.raw ≤ 1) × (settings.width ≤ max_size)) × OutRoom column.old x.old wide.old }
+    ensures { NestFound (early asked ∷ walked_checks (Some line) sheet.now settings.wrap settings.raw settings.width settings.overflow) sheet.now line settings.wrap settings.raw settings.width result
         column.new x.new wide.new }
 {
-    match asked {
-        Verdict::Refused { number, line: at } => NestedLayout::Refused { number, line: at },
-        Verdict::Accepted => nest_sheet(sheet, line, wrap, raw, width, overflow, column, x, wide),
-    }
+    asked?;
+    nest_sheet(sheet, line, settings, column, x, wide)
 }
 
 // How many columns the table has.
-pub fn column_count(found: NestedLayout) -> usize
+#[tactic(auto, unfolding(crate::specs::inner::Found::columns_in))]
+pub fn column_count(found: Result<Option<Nested>, Refusal>) -> usize
     ensures { result ≡ columns_in found }
 {
     match found {
-        NestedLayout::Table {
-            at: _,
-            way: _,
-            entries: _,
-            columns: n,
-            width: _,
-        } => n as usize,
-        NestedLayout::Missing => 0,
-        NestedLayout::Refused { number: _, line: _ } => 0,
+        Ok(Some(nested)) => nested.layout.columns as usize,
+        Ok(None) | Err(_) => 0,
     }
 }
 
 // How many entries it has.
-pub fn entry_count(found: NestedLayout) -> usize
+#[tactic(auto, unfolding(crate::specs::inner::Found::entries_in))]
+pub fn entry_count(found: Result<Option<Nested>, Refusal>) -> usize
     ensures { result ≡ entries_in found }
 {
     match found {
-        NestedLayout::Table {
-            at: _,
-            way: _,
-            entries: n,
-            columns: _,
-            width: _,
-        } => n as usize,
-        NestedLayout::Missing => 0,
-        NestedLayout::Refused { number: _, line: _ } => 0,
+        Ok(Some(nested)) => nested.layout.entries as usize,
+        Ok(None) | Err(_) => 0,
     }
 }

@@ -25,26 +25,12 @@ pub struct Plain {
     pub gap: u32,
 }
 
-// Eight bytes as one number.
-fn number(a: u8, b: u8, c: u8, d: u8, e: u8, f: u8, g: u8, h: u8) -> u64
-    ensures { result ≡ as_number (a ∷ b ∷ c ∷ d ∷ e ∷ f ∷ g ∷ h ∷ []) }
-{
-    a as u64
-        + 256 * b as u64
-        + 65536 * c as u64
-        + 16777216 * d as u64
-        + 4294967296 * e as u64
-        + 1099511627776 * f as u64
-        + 281474976710656 * g as u64
-        + 72057594037927936 * h as u64
-}
-
 // The eight bytes from a place on.
 pub fn eight(bytes: &[u8], at: usize) -> u64
     requires { at + 8 ≤ length bytes.now }
     ensures { Eight bytes.now at result }
 {
-    number(
+    u64::from_le_bytes([
         bytes[at],
         bytes[at + 1],
         bytes[at + 2],
@@ -53,7 +39,7 @@ pub fn eight(bytes: &[u8], at: usize) -> u64
         bytes[at + 5],
         bytes[at + 6],
         bytes[at + 7],
-    )
+    ])
 }
 
 // Of each digit 1 if it is 128 or more, else 0.
@@ -140,7 +126,7 @@ pub fn plain_at(bytes: &[u8], at: usize, gap: u32) -> Plain
         return Plain {
             count: 0,
             size: 0,
-            gap: gap,
+            gap,
         };
     }
     plain_of(w, gap)

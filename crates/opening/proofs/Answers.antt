@@ -1,24 +1,23 @@
 -- What is answered after reading: 10 where a line is asked for amiss, else the verdict on the tables. Assumes nothing.
+use Rattle.lists.specs.declared.Reason.TheVariants.{NoTable}
+use Rattle.lists.specs.declared.Refusal.{Refusal}
+use Rattle.std.specs.Prelude.{Err, Ok, Result, Option, None, Some}
 use mathlib.Core.Path.{◌≡◌, refl, sym, ◌∙◌}
-use mathlib.Core.Bool.{Bool, true, false, not, ◌&&◌}
+use mathlib.Core.Bool.{true, false, ◌&&◌}
 use mathlib.Core.List.{List}
 use Prim.Native.Nat.{ℕ, ◌-◌, ◌≤◌, ◌<◌}
 use native.Mathlib.Omega.{arith}
 use lib.Dec.{leb, eqb}
 use lib.ListN.{length, get_or}
 use borrow.Author.Tests.{not-true, not-false, le-leb, lt-leb, leb-true, eqb-true}
-use Rattle.lists.specs.Refusals.{Check, first_answer, verdict_of}
-use Rattle.lists.specs.declared.Verdict.{Verdict}
-use Rattle.lists.specs.declared.Verdict.TheVariants.{Accepted, Refused as Refuses}
+use Rattle.lists.specs.Refusals.{Check, first_answer, verdict_of, refusal}
 use Rattle.kinds.specs.Kinds.{table_kind}
 use Rattle.records.specs.Kept.{no_kept}
 use Rattle.records.specs.declared.Kept.{Kept}
-use Rattle.sheet.specs.declared.Reading.{Reading}
-use Rattle.sheet.specs.declared.Reading.TheVariants.{Lines, Refused}
 use Rattle.sheet.proofs.First.{both_true, first_told}
 use Rattle.grid.specs.Grid.{tables_checks}
 use Rattle.grid_check.specs.Checking.{TablesChecked}
-use Rattle.opening.specs.Opening.{is_table, asked}
+use Rattle.opening.specs.Opening.{is_table, after_reading}
 use Rattle.opening.specs.inner.Opened.{Apt, asks_amiss, TablesOpened}
 
 -- the test of a line, case by case
@@ -35,24 +34,16 @@ module _ (ks : List Kept) (line : ℕ) where
   unfolding is_table
   at_line z h k q = rw (le-leb 1 line (omega arith), le-leb line (length ks) (omega arith), q)
 
-  pub asked_amiss : (asks b : Bool) → asks ≡ true → b ≡ is_table ks line → not b ≡ asks_amiss asks ks line
-  unfolding asks_amiss
-  asked_amiss asks b e q = rw (e, q)
+module _ {A : Type 0} (refused : Refusal → A) (accepted : A) (ks : List Kept) where
+  amiss : (asked : Option ℕ) → asks_amiss asked ks ≡ true → first_answer refused accepted (after_reading asked ks) ≡ refused (refusal NoTable 0)
+  unfolding asks_amiss after_reading first_answer
+  amiss (Some line) h = rw (not-true (is_table ks line) h)
+  amiss None h = let z : ◌≡◌ {A = ℕ} 0 1 = cc in absurd (omega arith)
 
-  pub unasked : (asks : Bool) → asks ≡ false → false ≡ asks_amiss asks ks line
-  unfolding asks_amiss
-  unasked asks e = rw e
-
-module _ {A : Type 0} (refused : ℕ → ℕ → A) (accepted : A) (ks : List Kept) (line : ℕ) where
-  amiss : (asks : Bool) → asks_amiss asks ks line ≡ true → first_answer refused accepted (asked asks ks line) ≡ refused 10 0
-  unfolding asks_amiss asked first_answer
-  amiss true h = rw (not-true (is_table ks line) h)
-  amiss false h = let z : ◌≡◌ {A = ℕ} 0 1 = cc in absurd (omega arith)
-
-  apt : (asks : Bool) → asks_amiss asks ks line ≡ false → first_answer refused accepted (asked asks ks line) ≡ first_answer refused accepted (tables_checks 1 ks)
-  unfolding asks_amiss asked first_answer
-  apt true h = rw (not-false (is_table ks line) h)
-  apt false h = refl
+  apt : (asked : Option ℕ) → asks_amiss asked ks ≡ false → first_answer refused accepted (after_reading asked ks) ≡ first_answer refused accepted (tables_checks 1 ks)
+  unfolding asks_amiss after_reading first_answer
+  apt (Some line) h = rw (not-false (is_table ks line) h)
+  apt None h = refl
 
 pub table_apt : (ks : List Kept) (line : ℕ) → is_table ks line ≡ true → Apt ks line
 unfolding is_table
@@ -62,29 +53,29 @@ table_apt ks line e =
     record { from_one = leb-true 1 line low; within = leb-true line (length ks) high; kind = eqb-true _ _ kind }
 
 -- a verdict as a reading of n lines
-abbrev pub told_as : ℕ → Verdict → Reading
-told_as n Accepted = Lines n
-told_as n (Refuses number line) = Refused number line
+abbrev pub told_as : ℕ → Result (Unit {0}) Refusal → Result ℕ Refusal
+told_as n (Ok tt) = Ok n
+told_as n (Err why) = Err why
 
-told_first : (n : ℕ) (cs : List Check) → told_as n (verdict_of cs) ≡ first_answer Refused (Lines n) cs
+told_first : (n : ℕ) (cs : List Check) → told_as n (verdict_of cs) ≡ first_answer Err (Ok n) cs
 unfolding verdict_of
-told_first n cs = first_told (told_as n) Refuses Accepted cs
+told_first n cs = first_told (told_as n) Err (Ok tt) cs
 
-told_lines : (n m : ℕ) (v : Verdict) → told_as n v ≡ Lines m → v ≡ Accepted
-told_lines n m Accepted e = refl
-told_lines n m (Refuses number line) e = let z : ◌≡◌ {A = ℕ} 0 1 = cc in absurd (omega arith)
+told_lines : (n m : ℕ) (v : Result (Unit {0}) Refusal) → told_as n v ≡ Ok m → v ≡ (Ok tt)
+told_lines n m (Ok tt) e = refl
+told_lines n m (Err why) e = let z : ◌≡◌ {A = ℕ} 0 1 = cc in absurd (omega arith)
 
-module _ {asks : Bool} {line : ℕ} {ks : List Kept} where
-  pub opened_amiss : asks_amiss asks ks line ≡ true → TablesOpened asks line ks (Refused 10 0)
+module _ {asked : Option ℕ} {ks : List Kept} where
+  pub opened_amiss : asks_amiss asked ks ≡ true → TablesOpened asked ks (Err (refusal NoTable 0))
   opened_amiss h = record {
-    answer = sym (amiss Refused (Lines (length ks)) ks line asks h);
+    answer = sym (amiss Err (Ok (length ks)) ks asked h);
     sound = λ n e. let z : ◌≡◌ {A = ℕ} 0 1 = cc in absurd (omega arith);
   }
 
-  pub opened_checked : {v : Verdict} (n : ℕ) → n ≡ length ks → (r : Reading) → r ≡ told_as n v → asks_amiss asks ks line ≡ false
-      → TablesChecked ks v → TablesOpened asks line ks r
+  pub opened_checked : {v : Result (Unit {0}) Refusal} (n : ℕ) → n ≡ length ks → (r : Result ℕ Refusal) → r ≡ told_as n v → asks_amiss asked ks ≡ false
+      → TablesChecked ks v → TablesOpened asked ks r
   opened_checked {v} n q r t h j = record {
     answer =
-        t ∙ (λ i. told_as (q i) (j.answer i)) ∙ told_first (length ks) (tables_checks 1 ks) ∙ sym (apt Refused (Lines (length ks)) ks line asks h);
+        t ∙ (λ i. told_as (q i) (j.answer i)) ∙ told_first (length ks) (tables_checks 1 ks) ∙ sym (apt Err (Ok (length ks)) ks asked h);
     sound = λ m e. j.sound (told_lines n m v (sym t ∙ e));
   }

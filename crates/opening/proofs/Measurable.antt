@@ -1,6 +1,8 @@
 -- An opened sheet can be measured: its lines nest and are in range, its tables are sound. And what is measured are its estimates. Assumes nothing.
+use mathlib.Core.Logic.{inl, inr}
+use Rattle.lists.specs.declared.Refusal.{Refusal}
+use Rattle.std.specs.Prelude.{Ok, Result, Option, Some, None}
 use mathlib.Core.Path.{◌≡◌, refl, sym, ap, subst, ◌∙◌}
-use mathlib.Core.Bool.{Bool, true}
 use mathlib.Core.List.{List, [], ◌∷◌, map}
 use Prim.Native.Nat.{ℕ, zero, suc, ◌+◌, ◌-◌, ◌*◌, ◌/◌, ◌≤◌}
 use native.Mathlib.Omega.{arith}
@@ -19,8 +21,6 @@ use Rattle.records.proofs.Kepts.{kepts_take}
 use Rattle.sheet.specs.Sheet.{sheet_lines}
 use Rattle.sheet.specs.Steps.{room_for}
 use Rattle.sheet.specs.Reading.{kept_of, reading_of}
-use Rattle.sheet.specs.declared.Reading.{Reading}
-use Rattle.sheet.specs.declared.Reading.TheVariants.{Lines}
 use Rattle.sheet.proofs.Nests.{lines_ranged, accepted_nested}
 use Rattle.sheet.proofs.Bounds.{accepted_room, accepted_own}
 use Rattle.grid_bounds.specs.Sheets.{Suffice}
@@ -34,9 +34,7 @@ use Rattle.opening.specs.inner.Opened.{Apt, Opened}
 use Rattle.opening.proofs.Ready.{kept_count_lem, kept_depth, kept_kind, kept_lined, kept_nests}
 use Rattle.opening.proofs.Opens.{opened_reads, opened_asked}
 use Rattle.opening.proofs.Answers.{table_apt}
-use Rattle.opening.specs.inner.Measures.{Measurable, InScope, ScopeMeasured, SufficeIn, ScratchForAny, ReadLent, ReadMeasured, SheetMeasured, TableMeasured}
-use Rattle.opening.specs.declared.Scope.{Scope}
-use Rattle.opening.specs.declared.Scope.TheVariants as scope
+use Rattle.opening.specs.inner.Measures.{Enough, Measurable, InScope, ScopeMeasured, EnoughIn, ScratchForAny, ReadLent, ReadMeasured, SheetMeasured, TableMeasured}
 
 -- ---- the lines
 
@@ -50,7 +48,7 @@ owns_same : (ls : List Line) → map own_of (map kept_of ls) ≡ map own_size ls
 owns_same [] = refl
 owns_same (l ∷ ls) = ap (λ (xs : List ℕ). own_size l ∷ xs) (owns_same ls)
 
-pub sheet_of : (s : List ℕ) (n : ℕ) → reading_of s ≡ Lines n → Sheet (kept_lines s)
+pub sheet_of : (s : List ℕ) (n : ℕ) → reading_of s ≡ Ok n → Sheet (kept_lines s)
 sheet_of s n e =
     let z = accepted_nested s n e in
     let ls = sheet_lines s in
@@ -95,19 +93,23 @@ module _ {ks : List Kept} {fs : List Estimate} (m : Measurable ks fs) (leasts en
     row_room = omega (arith, m.lined.short, length_of 2 row_by rows);
   }
 
+  pub lent_enough : Enough (length entries / 3) (length rows / 2) ks → Lent ks fs leasts (entries_of entries) (rows_of rows)
+  lent_enough (inl z) = lent_scratch z
+  lent_enough (inr z) = lent_large z.0 z.1
+
 -- ---- what is in the scope
 
-pub sheet_in : (ks : List Kept) → InScope scope.Sheet ks
+pub sheet_in : (ks : List Kept) → InScope None ks
 sheet_in ks = record { table = λ line e. let z : ◌≡◌ {A = ℕ} 0 1 = cc in absurd (omega arith) }
 
-pub table_in : {ks : List Kept} {line : ℕ} → Apt ks line → InScope (scope.Table line) ks
+pub table_in : {ks : List Kept} {line : ℕ} → Apt ks line → InScope (Some line) ks
 table_in {ks} {line} a = record { table = λ l e. let z : line ≡ l = cc in subst (Apt ks) z a }
 
-module _ {s : Scope} {wrap : ℕ} {ks : List Kept} {b c : List Estimate} where
-  pub scope_sheet : s ≡ scope.Sheet → Measured wrap ks b c → ScopeMeasured s wrap ks b c
+module _ {s : Option ℕ} {wrap : ℕ} {ks : List Kept} {b c : List Estimate} where
+  pub scope_sheet : s ≡ None → Measured wrap ks b c → ScopeMeasured s wrap ks b c
   scope_sheet q m = record { sheet = λ _. m; table = λ l e. let h = sym q ∙ e in let z : ◌≡◌ {A = ℕ} 0 1 = cc in absurd (omega arith) }
 
-  pub scope_table : {line : ℕ} → s ≡ scope.Table line → CellsMeasured wrap ks (line - 1) b c → ScopeMeasured s wrap ks b c
+  pub scope_table : {line : ℕ} → s ≡ Some line → CellsMeasured wrap ks (line - 1) b c → ScopeMeasured s wrap ks b c
   scope_table {line} q m = record {
     sheet = λ e. let h = sym q ∙ e in let z : ◌≡◌ {A = ℕ} 0 1 = cc in absurd (omega arith);
     table = λ l e. let h = sym q ∙ e in let z : line ≡ l = cc in rw (← z) m;
@@ -115,10 +117,10 @@ module _ {s : Scope} {wrap : ℕ} {ks : List Kept} {b c : List Estimate} where
 
 -- ---- the lines that were read
 
-pub suffice_in : {r : Reading} (lines : List ℕ) {e k n : ℕ} → r ≡ Lines n → n ≤ kept_count lines → Suffice e k (kepts_of (take (2 * n) lines)) → SufficeIn r lines e k
-suffice_in lines {n = n} q h s m f = let z : n ≡ m = cc in rw (← z) (rw (kepts_take lines n h) at s)
+pub suffice_in : {r : Result ℕ Refusal} (lines : List ℕ) {e k n : ℕ} → r ≡ Ok n → n ≤ kept_count lines → Suffice e k (kepts_of (take (2 * n) lines)) → EnoughIn r lines e k
+suffice_in lines {n = n} q h s m f = let z : n ≡ m = cc in rw (← z) (inl (rw (kepts_take lines n h) at s))
 
-pub measured_in : {r : Reading} {s : Scope} {wrap : ℕ} (lines : List ℕ) {b c : List Estimate} {n : ℕ} → r ≡ Lines n → ScopeMeasured s wrap (take n (kepts_of lines)) b c
+pub measured_in : {r : Result ℕ Refusal} {s : Option ℕ} {wrap : ℕ} (lines : List ℕ) {b c : List Estimate} {n : ℕ} → r ≡ Ok n → ScopeMeasured s wrap (take n (kepts_of lines)) b c
     → ReadMeasured r s wrap lines b c
 measured_in lines {n = n} q m k f = let z : n ≡ k = cc in rw (← z) m
 
@@ -128,11 +130,11 @@ any_still e h = record { leasts_room = omega (arith, h.leasts_room); entries_roo
 
 -- ---- a sheet
 
-module _ {asks : Bool} {s : List ℕ} {line : ℕ} {r : Reading} {lines : List ℕ} (w : Opened asks s line r lines) where
-  pub front_measurable : (n : ℕ) → r ≡ Lines n → {fs : List Estimate} → room_for s ≤ kept_count lines → room_for s ≤ length fs
+module _ {asked : Option ℕ} {s : List ℕ} {r : Result ℕ Refusal} {lines : List ℕ} (w : Opened asked s r lines) where
+  pub front_measurable : (n : ℕ) → r ≡ Ok n → {fs : List Estimate} → room_for s ≤ kept_count lines → room_for s ≤ length fs
       → (n ≤ kept_count lines) × Measurable (take n (kepts_of lines)) fs
   front_measurable n e {fs = fs} a c =
-      let o = opened_reads asks s line n (sym w.answer ∙ e) in
+      let o = opened_reads asked s n (sym w.answer ∙ e) in
       let m = accepted_room s n o in
       let l = kept_count_lem s n o in (
         omega arith,
@@ -140,16 +142,16 @@ module _ {asks : Bool} {s : List ℕ} {line : ℕ} {r : Reading} {lines : List �
             (record { sheet = sheet_of s n o; lined = kept_lined s n o; nests = kept_nests s n o; sound = w.sound n e; results = omega arith }),
       )
 
-  pub front_table : asks ≡ true → (n : ℕ) → r ≡ Lines n → InScope (scope.Table line) (take n (kepts_of lines))
-  front_table q n e = rw (w.holds n e) (table_in (table_apt (kept_lines s) line (opened_asked asks s line n (sym w.answer ∙ e) q)))
+  pub front_table : {line : ℕ} → asked ≡ Some line → (n : ℕ) → r ≡ Ok n → InScope (Some line) (take n (kepts_of lines))
+  front_table {line} q n e = rw (w.holds n e) (table_in (table_apt (kept_lines s) line (opened_asked asked s n (sym w.answer ∙ e) line q)))
 
   -- scratch that suffices for the lines, or for any table
-  module _ {sc : Scope} {fs : List Estimate} (a : room_for s ≤ kept_count lines) (c : room_for s ≤ length fs)
-      (i : (n : ℕ) → r ≡ Lines n → InScope sc (take n (kepts_of lines))) (leasts entries rows : List ℕ) where
-    pub lent_few : max_position ≤ length leasts → SufficeIn r lines (length entries / 3) (length rows / 2) → ReadLent r sc lines fs leasts (entries_of entries) (rows_of rows)
+  module _ {sc : Option ℕ} {fs : List Estimate} (a : room_for s ≤ kept_count lines) (c : room_for s ≤ length fs)
+      (i : (n : ℕ) → r ≡ Ok n → InScope sc (take n (kepts_of lines))) (leasts entries rows : List ℕ) where
+    pub lent_few : max_position ≤ length leasts → EnoughIn r lines (length entries / 3) (length rows / 2) → ReadLent r sc lines fs leasts (entries_of entries) (rows_of rows)
     lent_few h z = record {
       front = λ n e. (front_measurable n e {fs = fs} a c).0;
-      lent = λ n e. lent_scratch (front_measurable n e {fs = fs} a c).1 leasts entries rows h (z n e);
+      lent = λ n e. lent_enough (front_measurable n e {fs = fs} a c).1 leasts entries rows h (z n e);
       scope = i;
     }
 
@@ -160,7 +162,7 @@ module _ {asks : Bool} {s : List ℕ} {line : ℕ} {r : Reading} {lines : List �
       scope = i;
     }
 
-  pub sheet_measured : {wrap : ℕ} {b figures : List Estimate} → ReadMeasured r scope.Sheet wrap lines b figures → SheetMeasured asks s line wrap r lines figures
+  pub sheet_measured : {wrap : ℕ} {b figures : List Estimate} → ReadMeasured r None wrap lines b figures → SheetMeasured asked s wrap r lines figures
   sheet_measured {wrap} m₀ = record {
     opened = w;
     measured = λ n e.
@@ -171,8 +173,8 @@ module _ {asks : Bool} {s : List ℕ} {line : ℕ} {r : Reading} {lines : List �
         };
   }
 
-module _ {s : List ℕ} {line : ℕ} {r : Reading} {lines : List ℕ} (w : Opened true s line r lines) where
-  pub table_measured : {wrap : ℕ} {b figures : List Estimate} → ReadMeasured r (scope.Table line) wrap lines b figures → TableMeasured s line wrap r lines figures
+module _ {s : List ℕ} {line : ℕ} {r : Result ℕ Refusal} {lines : List ℕ} (w : Opened (Some line) s r lines) where
+  pub table_measured : {wrap : ℕ} {b figures : List Estimate} → ReadMeasured r (Some line) wrap lines b figures → TableMeasured s line wrap r lines figures
   table_measured {wrap} m₀ = record {
     opened = w;
     measured = λ n e.

@@ -1,6 +1,7 @@
 -- What an opened sheet has passed, and slices that are long enough for its records. Assumes nothing.
+use Rattle.std.specs.Prelude.{Err, Ok, Option}
 use mathlib.Core.Path.{◌≡◌}
-use mathlib.Core.Bool.{Bool, true}
+use mathlib.Core.Bool.{true}
 use mathlib.Core.List.{List}
 use Prim.Native.Nat.{ℕ, ◌/◌, ◌≤◌}
 use native.Mathlib.Omega.{arith}
@@ -12,7 +13,6 @@ use Rattle.records.proofs.Records.{length_of}
 use Rattle.sheet.specs.Sheet.{sheet_lines}
 use Rattle.sheet.specs.Steps.{room_for}
 use Rattle.sheet.specs.Reading.{reading_of}
-use Rattle.sheet.specs.declared.Reading.TheVariants.{Lines, Refused}
 use Rattle.sheet.proofs.First.{first_accepts}
 use Rattle.sheet.proofs.Bounds.{accepted_lines, accepted_room}
 use Rattle.estimates.specs.inner.Figures.{figure_by, figures_of}
@@ -22,22 +22,22 @@ use Rattle.opening.proofs.Opens.{opened_reads}
 
 -- ---- the checks
 
-module _ (asks : Bool) (s : List ℕ) (line : ℕ) where
+module _ (asked : Option ℕ) (s : List ℕ) where
   -- an opened sheet has passed every check
   pub record Passed (n : ℕ) : Type 0 where
-    pub all : passes (open_checks asks s line) ≡ true
-    pub reading : reading_of s ≡ Lines n
+    pub all : passes (open_checks asked s) ≡ true
+    pub reading : reading_of s ≡ Ok n
     pub count : n ≡ length (sheet_lines s)
     pub kept : n ≡ length (kept_lines s)
     pub few : n ≤ max_lines
     pub room : n ≤ room_for s
 
-  pub passed : (n : ℕ) → opened_of asks s line ≡ Lines n → Passed n
+  pub passed : (n : ℕ) → opened_of asked s ≡ Ok n → Passed n
   unfolding opened_of
   passed n e =
       let (p, q) =
-      first_accepts Refused (Lines (length (sheet_lines s))) (Lines n) (open_checks asks s line) (λ number l f. let z : ◌≡◌ {A = ℕ} 0 1 = cc in omega arith) e in
-      let r : reading_of s ≡ Lines n = opened_reads asks s line n e in
+      first_accepts Err (Ok (length (sheet_lines s))) (Ok n) (open_checks asked s) (λ why f. let z : ◌≡◌ {A = ℕ} 0 1 = cc in omega arith) e in
+      let r : reading_of s ≡ Ok n = opened_reads asked s n e in
       let c = accepted_lines s n r in
       record { all = p; reading = r; count = c.0; kept = kept_count_lem s n r; few = omega arith; room = accepted_room s n r }
 

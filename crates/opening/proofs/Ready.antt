@@ -1,4 +1,6 @@
 -- The lines of an accepted sheet as they are kept: they nest, and their tables can be checked. Assumes nothing.
+use Rattle.lists.specs.declared.Refusal.{Refusal}
+use Rattle.std.specs.Prelude.{Ok, Result}
 use mathlib.Core.Path.{◌≡◌, refl, sym, ◌∙◌}
 use mathlib.Core.List.{List, [], ◌∷◌, map}
 use Prim.Native.Nat.{ℕ, zero, suc, ◌+◌, ◌≤◌}
@@ -10,8 +12,6 @@ use Rattle.line.specs.Fields.{Line, no_line}
 use Rattle.sheet.specs.Sheet.{sheet_lines}
 use Rattle.sheet.specs.Steps.{room_for}
 use Rattle.sheet.specs.Reading.{kept_of, reading_of, Reads}
-use Rattle.sheet.specs.declared.Reading.{Reading}
-use Rattle.sheet.specs.declared.Reading.TheVariants.{Lines}
 use Rattle.sheet.proofs.Nests.{lines_ranged, accepted_nested}
 use Rattle.sheet.proofs.Bounds.{accepted_lines, accepted_room}
 use Rattle.grid.specs.Judging.{Lined}
@@ -34,7 +34,7 @@ kind_of k = k.kind
 abbrev cols_of : Kept → ℕ
 cols_of k = k.cols
 
-module _ (s : List ℕ) (n : ℕ) (e : reading_of s ≡ Lines n) where
+module _ (s : List ℕ) (n : ℕ) (e : reading_of s ≡ Ok n) where
   pub kept_count_lem : n ≡ length (kept_lines s)
   kept_count_lem = (accepted_lines s n e).0 ∙ sym (length-map (sheet_lines s) kept_of)
 
@@ -71,7 +71,7 @@ module _ (s : List ℕ) (n : ℕ) (e : reading_of s ≡ Lines n) where
   kept_ready h = record { lined = kept_lined; nests = kept_nests; room = omega (arith, kept_count_lem, accepted_room s n e) }
 
 -- what was read into a slice can be checked
-pub front_ready : {s : List ℕ} {r : Reading} {lines : List ℕ} (n : ℕ) → r ≡ Lines n → Reads s r lines → room_for s ≤ kept_count lines
+pub front_ready : {s : List ℕ} {r : Result ℕ Refusal} {lines : List ℕ} (n : ℕ) → r ≡ Ok n → Reads s r lines → room_for s ≤ kept_count lines
     → {scratch : List ℕ} → room_for s ≤ length scratch → (n ≤ kept_count lines) × TablesReady (take n (kepts_of lines)) scratch
 front_ready {s} n e w h g =
     let a = sym w.answer ∙ e in

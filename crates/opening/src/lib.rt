@@ -11,24 +11,31 @@ ghost use Rattle.sheet.specs.Reading.{Reads};
 ghost use Rattle.opening.specs.Opening.{is_table};
 ghost use Rattle.opening.specs.inner.Opened.{asks_amiss, TablesReady, TablesOpened, Opened};
 
-use lists::Verdict;
-use sheet::Reading;
+use lists::{MAX_BYTES, MAX_ENTRIES, MAX_LINES, Reason, Refusal, SMALL_LINES};
 
-// What is measured of a sheet: every line, or what lies below the table in a line.
-#[derive(Clone, Copy)]
-pub enum Scope {
-    Sheet,
-    Table(u32),
-}
+// How many numbers the arrays of a call have for its lines, their estimates, and the entries and rows of a grid: for a small sheet, and for any. They are
+// cleared with each call, and for a small sheet short ones do.
+pub const SMALL_KEPT: usize = records::WIDTH * SMALL_LINES;
+
+pub const SMALL_FIGURES: usize = 3 * SMALL_LINES;
+
+pub const SMALL_ENTRIES: usize = 3 * SMALL_LINES;
+
+pub const SMALL_ROWS: usize = 2 * SMALL_LINES;
+
+pub const KEPT: usize = records::WIDTH * MAX_LINES;
+
+pub const FIGURES: usize = 3 * MAX_LINES;
+
+pub const ENTRIES: usize = 3 * MAX_ENTRIES;
+
+pub const ROWS: usize = 2 * MAX_LINES;
 
 // Whether arrays for few lines do for a sheet. They are for speed alone.
 pub fn is_small(sheet: &[u8]) -> bool
     ensures { result ≡ true → room_for sheet.now ≤ small_lines }
 {
-    if sheet.len() > lists::MAX_BYTES {
-        return false;
-    }
-    sheet::front::feeds_of(sheet) as usize <= lists::SMALL_LINES
+    sheet.len() <= MAX_BYTES && sheet::front::feeds_of(sheet) as usize <= SMALL_LINES
 }
 
 // Whether a line is a table: record k is of line k + 1.
@@ -47,78 +54,64 @@ fn is_table(lines: &[u32], line: u32) -> bool
 }
 
 // Whether a line is asked for that is no table.
-fn asks_amiss(asks: bool, lines: &[u32], line: u32) -> bool
-    ensures { result ≡ asks_amiss asks (kepts_of lines.now) line }
+#[tactic(auto, unfolding(crate::specs::inner::Opened::asks_amiss))]
+fn asks_amiss(asked: Option<u32>, lines: &[u32]) -> bool
+    ensures { result ≡ asks_amiss asked (kepts_of lines.now) }
 {
-    if asks {
-        return !is_table(lines, line);
+    match asked {
+        Some(line) => !is_table(lines, line),
+        None => false,
     }
-    false
 }
 
 // Reads a sheet.
-pub fn read_sheet(bytes: &[u8], lines: &mut [u32]) -> Reading
+pub fn read_sheet(bytes: &[u8], lines: &mut [u32]) -> Result<usize, Refusal>
     requires { room_for bytes.now ≤ kept_count lines.old }
     ensures { Reads bytes.now result lines.new }
 {
-    let classes = text::bytes::classes();
+    let classes = text::bytes::Classes::new();
     sheet::read(&classes, bytes, lines)
 }
 
 // What is asked of the lines after reading: 10 for a line that is no table, then every table in turn. The last slice is scratch.
-fn open_lines(asks: bool, line: u32, lines: &[u32], scratch: &mut [u32]) -> Reading
+fn open_lines(asked: Option<u32>, lines: &[u32], scratch: &mut [u32]) -> Result<usize, Refusal>
     requires { TablesReady (kepts_of lines.now) scratch.old }
-    ensures { TablesOpened asks line (kepts_of lines.now) result }
+    ensures { TablesOpened asked (kepts_of lines.now) result }
 {
-    if asks_amiss(asks, lines, line) {
-        return Reading::Refused {
-            number: 10,
-            line: 0,
-        };
+    if asks_amiss(asked, lines) {
+        return Err(Reason::NoTable.at(0));
     }
-    match grid_check::check_tables(lines, scratch) {
-        Verdict::Accepted => Reading::Lines(records::count(lines)),
-        Verdict::Refused {
-            number: refusal,
-            line: table,
-        } => Reading::Refused {
-            number: refusal,
-            line: table,
-        },
-    }
+    grid_check::check_tables(lines, scratch)?;
+    Ok(records::count(lines))
 }
 
 // The same of the first n records.
-pub fn open_front(n: usize, asks: bool, line: u32, lines: &[u32], scratch: &mut [u32]) -> Reading
+pub fn open_front(
+    n: usize,
+    asked: Option<u32>,
+    lines: &[u32],
+    scratch: &mut [u32],
+) -> Result<usize, Refusal>
     requires n_bound { n ≤ kept_count lines.now }
     requires tables_ready { TablesReady (take n (kepts_of lines.now)) scratch.old }
-    ensures { TablesOpened asks line (take n (kepts_of lines.now)) result }
+    ensures { TablesOpened asked (take n (kepts_of lines.now)) result }
 {
     let end = records::WIDTH * n;
-    open_lines(asks, line, &lines[..end], scratch)
+    open_lines(asked, &lines[..end], scratch)
 }
 
 // Opens a sheet: reads it, asks for the line if a call asks for one, and checks its tables. Record k is then of line k + 1. The last slice is scratch: a
 // place for each line, of which nothing is cleared.
 pub fn open_sheet(
     bytes: &[u8],
-    asks: bool,
-    line: u32,
+    asked: Option<u32>,
     lines: &mut [u32],
     scratch: &mut [u32],
-) -> Reading
+) -> Result<usize, Refusal>
     requires bytes_bound { room_for bytes.now ≤ kept_count lines.old }
     requires bytes_in_bounds { room_for bytes.now ≤ length scratch.old }
-    ensures { Opened asks bytes.now line result lines.new }
+    ensures { Opened asked bytes.now result lines.new }
 {
-    match read_sheet(bytes, lines) {
-        Reading::Refused {
-            number: refusal,
-            line: at,
-        } => Reading::Refused {
-            number: refusal,
-            line: at,
-        },
-        Reading::Lines(n) => open_front(n, asks, line, lines, scratch),
-    }
+    let n = read_sheet(bytes, lines)?;
+    open_front(n, asked, lines, scratch)
 }

@@ -1,14 +1,13 @@
 -- A sheet that was opened and measured can be walked, and what is told of its lines is told of the sheet. Assumes nothing.
+use Rattle.lists.specs.declared.Refusal.{Refusal}
+use Rattle.std.specs.Prelude.{Err, Ok, Result, Option}
 use mathlib.Core.Path.{◌≡◌, refl, sym, ap, ◌∙◌}
-use mathlib.Core.Bool.{Bool}
 use mathlib.Core.List.{List, [], ◌++◌, append-nil}
 use Prim.Native.Nat.{ℕ, ◌*◌, ◌≤◌}
 use native.Mathlib.Omega.{arith}
 use lib.ListN.{length, get_or, take}
 use lib.Seq.{get_or-take, length-take-le}
 use Rattle.lists.specs.Refusals.{Check, first_answer, verdict_of}
-use Rattle.lists.specs.declared.Verdict.{Verdict}
-use Rattle.lists.specs.declared.Verdict.TheVariants as verdict
 use Rattle.text.specs.declared.Estimate.{Estimate}
 use Rattle.records.specs.Kept.{kept_count, kepts_of}
 use Rattle.records.specs.declared.Kept.{Kept}
@@ -16,8 +15,6 @@ use Rattle.records.specs.declared.Place.{Place}
 use Rattle.records.proofs.Kepts.{kepts_take, length_kepts}
 use Rattle.sheet.specs.Sheet.{sheet_lines}
 use Rattle.sheet.specs.Steps.{room_for}
-use Rattle.sheet.specs.declared.Reading.{Reading}
-use Rattle.sheet.specs.declared.Reading.TheVariants.{Lines, Refused}
 use Rattle.sheet.proofs.First.{first_passes, first_after, first_accepts, first_carries, accepted_passes}
 use Rattle.estimates.specs.Estimates.{none, estimates}
 use Rattle.estimates.specs.Sheet.{Sheet}
@@ -34,12 +31,12 @@ use Rattle.pacing.specs.inner.Found.{SheetOpened, ReadWalkable, WalkRead, SheetW
 
 -- ---- opened and measured
 
-module _ {asks : Bool} {s : List ℕ} {line wrap : ℕ} {r : Reading} {lines : List ℕ} {figures : List Estimate} (m : SheetMeasured asks s line wrap r lines figures)
+module _ {asked : Option ℕ} {s : List ℕ} {wrap : ℕ} {r : Result ℕ Refusal} {lines : List ℕ} {figures : List Estimate} (m : SheetMeasured asked s wrap r lines figures)
     (a : room_for s ≤ kept_count lines) (c : room_for s ≤ length figures) where
-  sheet_here : (n : ℕ) → r ≡ Lines n → Sheet (kept_lines s)
+  sheet_here : (n : ℕ) → r ≡ Ok n → Sheet (kept_lines s)
   sheet_here n e = rw (m.opened.holds n e) at (front_measurable m.opened n e {fs = figures} a c).1.sheet
 
-  pub sheet_opened : SheetOpened asks s line wrap r lines figures
+  pub sheet_opened : SheetOpened asked s wrap r lines figures
   sheet_opened = record {
     answer = m.opened.answer;
     holds = m.opened.holds;
@@ -50,16 +47,16 @@ module _ {asks : Bool} {s : List ℕ} {line wrap : ℕ} {r : Reading} {lines : L
 
 -- ---- its lines
 
-module _ {asks : Bool} {s : List ℕ} {line wrap : ℕ} {r : Reading} {lines : List ℕ} {figures : List Estimate} (o : SheetOpened asks s line wrap r lines figures) where
-  pub opened_passed : (n : ℕ) → r ≡ Lines n → Passed asks s line n
-  opened_passed n e = passed asks s line n (sym o.answer ∙ e)
+module _ {asked : Option ℕ} {s : List ℕ} {wrap : ℕ} {r : Result ℕ Refusal} {lines : List ℕ} {figures : List Estimate} (o : SheetOpened asked s wrap r lines figures) where
+  pub opened_passed : (n : ℕ) → r ≡ Ok n → Passed asked s n
+  opened_passed n e = passed asked s n (sym o.answer ∙ e)
 
-  pub same_figures : (n : ℕ) → r ≡ Lines n → take n figures ≡ estimates wrap (take n (kepts_of lines))
+  pub same_figures : (n : ℕ) → r ≡ Ok n → take n figures ≡ estimates wrap (take n (kepts_of lines))
   same_figures n e =
       ap (λ (k : ℕ). take k figures) (opened_passed n e).kept ∙ (o.measured n e).figures ∙ ap (estimates wrap) (sym (o.holds n e))
 
   module _ (a : room_for s ≤ kept_count lines) (c : room_for s ≤ length figures) where
-    lines_walkable : (n : ℕ) → r ≡ Lines n → Walkable (kept_lines s) figures
+    lines_walkable : (n : ℕ) → r ≡ Ok n → Walkable (kept_lines s) figures
     lines_walkable n e =
         let p = opened_passed n e in
         let m = o.measured n e in
@@ -81,7 +78,7 @@ module _ {asks : Bool} {s : List ℕ} {line wrap : ℕ} {r : Reading} {lines : L
     }
 
 -- the first n records stand in the first 2 * n places
-pub front_walkable : {read : Reading} {lines : List ℕ} {figures : List Estimate} {ps : List Place} (n : ℕ) → ReadWalkable read lines figures ps → read ≡ Lines n
+pub front_walkable : {read : Result ℕ Refusal} {lines : List ℕ} {figures : List Estimate} {ps : List Place} (n : ℕ) → ReadWalkable read lines figures ps → read ≡ Ok n
     → Walkable (kepts_of (take (2 * n) lines)) figures × (length (kepts_of (take (2 * n) lines)) ≤ length ps)
 front_walkable {lines = lines} n w e = (
   rw (kepts_take lines n (w.front n e)) (w.walkable n e),
@@ -90,21 +87,24 @@ front_walkable {lines = lines} n w e = (
 
 -- ---- what is told of its lines
 
--- a verdict in the words of reading
-carried : (n m number at : ℕ) (cs ds : List Check) → first_answer Refused (Lines n) cs ≡ Refused number at → first_answer Refused (Lines m) (cs ++ ds) ≡ Refused number at
-carried n m number at cs ds e =
-    first_carries Refused (Lines n) Refused (Lines m) number at (λ a b f. (cc, cc)) (λ f. let z : ◌≡◌ {A = ℕ} 0 1 = cc in omega arith) cs ds e
+same_count : {n k : ℕ} → ◌≡◌ {A = Result ℕ Refusal} (Ok n) (Ok k) → n ≡ k
+same_count e = cc
 
-module _ {read : Reading} (lines : List ℕ) {figures : List Estimate} {raw width overflow : ℕ} {ps : List Place} where
-  pub walk_refused : {number at : ℕ} → read ≡ Refused number at → WalkRead read lines figures raw width overflow (Refused number at) ps
+-- a verdict in the words of reading
+carried : (n m : ℕ) (why : Refusal) (cs ds : List Check) → first_answer Err (Ok n) cs ≡ Err why → first_answer Err (Ok m) (cs ++ ds) ≡ Err why
+carried n m why cs ds e =
+    first_carries Err (Ok n) Err (Ok m) why (λ w f. cc) (λ f. let z : ◌≡◌ {A = ℕ} 0 1 = cc in omega arith) cs ds e
+
+module _ {read : Result ℕ Refusal} (lines : List ℕ) {figures : List Estimate} {raw width overflow : ℕ} {ps : List Place} where
+  pub walk_refused : {why : Refusal} → read ≡ Err why → WalkRead read lines figures raw width overflow (Err why) ps
   walk_refused e = record {
-    refused = λ n l f. let z = sym e ∙ f in cc;
+    refused = λ why f. let z = sym e ∙ f in cc;
     answer = λ n f. let z : ◌≡◌ {A = ℕ} 0 1 = cc in absurd (omega arith);
     widths = λ n f. let z : ◌≡◌ {A = ℕ} 0 1 = cc in absurd (omega arith);
     small = λ n f. let z : ◌≡◌ {A = ℕ} 0 1 = cc in absurd (omega arith);
   }
 
-  module _ (n : ℕ) (e : read ≡ Lines n) (h : n ≤ kept_count lines) (v : Verdict) (w : steps.Walked (kepts_of (take (2 * n) lines)) figures raw width overflow v ps) where
+  module _ (n : ℕ) (e : read ≡ Ok n) (h : n ≤ kept_count lines) (v : Result (Unit {0}) Refusal) (w : steps.Walked (kepts_of (take (2 * n) lines)) figures raw width overflow v ps) where
     abbrev ks : List Kept
     ks = take n (kepts_of lines)
 
@@ -117,82 +117,82 @@ module _ {read : Reading} (lines : List ℕ) {figures : List Estimate} {raw widt
     verdict_is : (wrap : ℕ) → take n figures ≡ estimates wrap ks → v ≡ verdict_of (narrow_checks wrap raw width overflow ks)
     verdict_is wrap f = here.answer wrap (ap (λ (k : ℕ). take k figures) count ∙ f)
 
-    pub walk_accepted : v ≡ verdict.Accepted → WalkRead read lines figures raw width overflow (Lines n) ps
+    pub walk_accepted : v ≡ (Ok tt) → WalkRead read lines figures raw width overflow (Ok n) ps
     walk_accepted a = record {
-      refused = λ number l f. let z : ◌≡◌ {A = ℕ} 0 1 = cc in absurd (omega arith);
+      refused = λ why f. let z : ◌≡◌ {A = ℕ} 0 1 = cc in absurd (omega arith);
       answer = λ k f wrap g.
-          let z : n ≡ k = cc in
+          let z : n ≡ k = same_count (sym e ∙ f) in
           let d : take n figures ≡ estimates wrap ks = rw (← z) at g in
-          rw (← z) (sym (first_passes Refused (Lines n) (narrow_checks wrap raw width overflow ks) (accepted_passes _ (sym (verdict_is wrap d) ∙ a))));
+          rw (← z) (sym (first_passes Err (Ok n) (narrow_checks wrap raw width overflow ks) (accepted_passes _ (sym (verdict_is wrap d) ∙ a))));
       widths = λ k f wrap g _.
-          let z : n ≡ k = cc in
+          let z : n ≡ k = same_count (sym e ∙ f) in
           let d : take n figures ≡ estimates wrap ks = rw (← z) at g in
           rw (← z) (ap (λ (m : ℕ). take m ps) (sym count) ∙ here.widths wrap (ap (λ (m : ℕ). take m figures) count ∙ d) a);
       small = λ k f wrap g _.
-          let z : n ≡ k = cc in
+          let z : n ≡ k = same_count (sym e ∙ f) in
           let d : take n figures ≡ estimates wrap ks = rw (← z) at g in
           rw (← z) (here.small wrap (ap (λ (m : ℕ). take m figures) count ∙ d) a);
     }
 
-    pub walk_narrow : {number at : ℕ} → v ≡ verdict.Refused number at → WalkRead read lines figures raw width overflow (Refused number at) ps
+    pub walk_narrow : {why : Refusal} → v ≡ Err why → WalkRead read lines figures raw width overflow (Err why) ps
     unfolding verdict_of
-    walk_narrow {number} {at} a = record {
-      refused = λ number l f. let z : ◌≡◌ {A = ℕ} 0 1 = cc in absurd (omega arith);
+    walk_narrow {why} a = record {
+      refused = λ why f. let z : ◌≡◌ {A = ℕ} 0 1 = cc in absurd (omega arith);
       answer = λ k f wrap g.
-          let z : n ≡ k = cc in
+          let z : n ≡ k = same_count (sym e ∙ f) in
           let d : take n figures ≡ estimates wrap ks = rw (← z) at g in
           rw (← z) (sym (told (narrow_checks wrap raw width overflow ks) (sym (verdict_is wrap d) ∙ a)));
       widths = λ k f wrap g q. let z : ◌≡◌ {A = ℕ} 0 1 = cc in absurd (omega arith);
       small = λ k f wrap g q. let z : ◌≡◌ {A = ℕ} 0 1 = cc in absurd (omega arith);
     }
       where
-        told : (cs : List Check) → first_answer verdict.Refused verdict.Accepted cs ≡ verdict.Refused number at → first_answer Refused (Lines n) cs ≡ Refused number at
+        told : (cs : List Check) → first_answer Err (Ok (tt {0})) cs ≡ Err why → first_answer Err (Ok n) cs ≡ Err why
         told cs q =
-            ap (first_answer Refused (Lines n)) (sym (append-nil cs))
-            ∙ first_carries verdict.Refused verdict.Accepted Refused (Lines n) number at (λ a b f. (cc, cc)) (λ f. let z : ◌≡◌ {A = ℕ} 0 1 = cc in omega arith) cs [] q
+            ap (first_answer Err (Ok n)) (sym (append-nil cs))
+            ∙ first_carries Err (Ok (tt {0})) Err (Ok n) why (λ w f. cc) (λ f. let z : ◌≡◌ {A = ℕ} 0 1 = cc in omega arith) cs [] q
 
 -- ---- of the sheet
 
-module _ {asks : Bool} {s : List ℕ} {line wrap raw width overflow : ℕ} {read r : Reading} {lines : List ℕ} {figures : List Estimate} {ps : List Place}
-    (o : SheetOpened asks s line wrap read lines figures) (w : WalkRead read lines figures raw width overflow r ps) where
+module _ {asked : Option ℕ} {s : List ℕ} {wrap raw width overflow : ℕ} {read r : Result ℕ Refusal} {lines : List ℕ} {figures : List Estimate} {ps : List Place}
+    (o : SheetOpened asked s wrap read lines figures) (w : WalkRead read lines figures raw width overflow r ps) where
   abbrev cs : List Check
-  cs = open_checks asks s line
+  cs = open_checks asked s
 
   abbrev narrow : List Check
   narrow = narrow_checks wrap raw width overflow (kept_lines s)
 
-  pub sheet_walked : SheetWalked asks s line wrap raw width overflow r lines figures ps
+  pub sheet_walked : SheetWalked asked s wrap raw width overflow r lines figures ps
   unfolding opened_of
   sheet_walked = at read refl
     where
-      at : (q : Reading) → read ≡ q → SheetWalked asks s line wrap raw width overflow r lines figures ps
-      at (Lines n) e =
+      at : (q : Result ℕ Refusal) → read ≡ q → SheetWalked asked s wrap raw width overflow r lines figures ps
+      at (Ok n) e =
           let p = opened_passed o n e in
           let g = same_figures o n e in
-          let t : r ≡ first_answer Refused (Lines n) narrow = rw (o.holds n e) at (w.answer n e wrap g) in
+          let t : r ≡ first_answer Err (Ok n) narrow = rw (o.holds n e) at (w.answer n e wrap g) in
           record {
             answer =
-                t ∙ ap (λ (k : ℕ). first_answer Refused (Lines k) narrow) p.count
-                ∙ sym (first_after Refused (Lines (length (sheet_lines s))) cs narrow p.all);
+                t ∙ ap (λ (k : ℕ). first_answer Err (Ok k) narrow) p.count
+                ∙ sym (first_after Err (Ok (length (sheet_lines s))) cs narrow p.all);
             opened = λ k f.
-                let z : Lines n ≡ Lines k = (first_accepts Refused (Lines n) (Lines k) narrow (λ number l d. let y : ◌≡◌ {A = ℕ} 0 1 = cc in omega arith) (sym t ∙ f)).1 in
+                let z : ◌≡◌ {A = Result ℕ Refusal} (Ok n) (Ok k) = (first_accepts Err (Ok n) (Ok k) narrow (λ why d. let y : ◌≡◌ {A = ℕ} 0 1 = cc in omega arith) (sym t ∙ f)).1 in
                 rw (← z) (rw e at o);
             widths = λ k f.
-                let z : Lines n ≡ Lines k = (first_accepts Refused (Lines n) (Lines k) narrow (λ number l d. let y : ◌≡◌ {A = ℕ} 0 1 = cc in omega arith) (sym t ∙ f)).1 in
+                let z : ◌≡◌ {A = Result ℕ Refusal} (Ok n) (Ok k) = (first_accepts Err (Ok n) (Ok k) narrow (λ why d. let y : ◌≡◌ {A = ℕ} 0 1 = cc in omega arith) (sym t ∙ f)).1 in
                 let y : n ≡ k = cc in
                 rw (← y) (rw (o.holds n e) at (w.widths n e wrap g (f ∙ sym z)));
             small = λ k f.
-                let z : Lines n ≡ Lines k = (first_accepts Refused (Lines n) (Lines k) narrow (λ number l d. let y : ◌≡◌ {A = ℕ} 0 1 = cc in omega arith) (sym t ∙ f)).1 in
+                let z : ◌≡◌ {A = Result ℕ Refusal} (Ok n) (Ok k) = (first_accepts Err (Ok n) (Ok k) narrow (λ why d. let y : ◌≡◌ {A = ℕ} 0 1 = cc in omega arith) (sym t ∙ f)).1 in
                 rw (o.holds n e) at (w.small n e wrap g (f ∙ sym z));
           }
-      at (Refused number l) e =
-          let t = w.refused number l e in
+      at (Err why) e =
+          let t = w.refused why e in
           record {
-            answer = t ∙ sym (carried _ _ number l cs narrow (refuses number l (sym o.answer ∙ e)));
+            answer = t ∙ sym (carried _ _ why cs narrow (refuses why (sym o.answer ∙ e)));
             opened = λ k f. let z : ◌≡◌ {A = ℕ} 0 1 = cc in absurd (omega arith);
             widths = λ k f. let z : ◌≡◌ {A = ℕ} 0 1 = cc in absurd (omega arith);
             small = λ k f. let z : ◌≡◌ {A = ℕ} 0 1 = cc in absurd (omega arith);
           }
         where
-          refuses : (number l : ℕ) → opened_of asks s line ≡ Refused number l → first_answer Refused (Lines (length (sheet_lines s))) (open_checks asks s line) ≡ Refused number l
-          refuses number l q = q
+          refuses : (why : Refusal) → opened_of asked s ≡ Err why → first_answer Err (Ok (length (sheet_lines s))) (open_checks asked s) ≡ Err why
+          refuses why q = q

@@ -3,26 +3,25 @@ use mathlib.Core.Path.{◌≡◌, sym, ap, ◌∙◌}
 use mathlib.Core.Bool.{true, false}
 use Prim.Native.Nat.{ℕ, ◌-◌, max}
 use lib.Dec.{ltb}
+use Rattle.std.specs.Prelude.{Option, Some, None}
 use Rattle.text.specs.declared.Estimate.{Estimate}
 use Rattle.passing.specs.Walk.{takes_off, passed_on, too_narrow}
-use Rattle.passing.specs.declared.Width.{Width}
-use Rattle.passing.specs.declared.Width.TheVariants.{Wide, Without}
 
-module _ (kind : ℕ) (e : Estimate) (w : Width) where
-  pub passes_none : w ≡ Without → Without ≡ passed_on kind e w
+module _ (kind : ℕ) (e : Estimate) (w : Option ℕ) where
+  pub passes_none : w ≡ None → None ≡ passed_on kind e w
   unfolding passed_on
   passes_none h = sym (ap (passed_on kind e) h)
 
-  pub narrow_none : w ≡ Without → false ≡ too_narrow kind e w
+  pub narrow_none : w ≡ None → false ≡ too_narrow kind e w
   unfolding too_narrow
   narrow_none h = sym (ap (too_narrow kind e) h)
 
-  module _ (v : ℕ) (h : w ≡ Wide v) where
-    pub passes_rest : takes_off kind ≡ true → (a b m : ℕ) → a ≡ v - e.prefix → b ≡ e.least - e.prefix → m ≡ max a b → Wide m ≡ passed_on kind e w
+  module _ (v : ℕ) (h : w ≡ Some v) where
+    pub passes_rest : takes_off kind ≡ true → (a b m : ℕ) → a ≡ v - e.prefix → b ≡ e.least - e.prefix → m ≡ max a b → Some m ≡ passed_on kind e w
     unfolding passed_on
-    passes_rest t a b m p q r = ap Wide (r ∙ (λ i. max (p i) (q i))) ∙ sym (ap (passed_on kind e) h ∙ rw t)
+    passes_rest t a b m p q r = ap Some (r ∙ (λ i. max (p i) (q i))) ∙ sym (ap (passed_on kind e) h ∙ rw t)
 
-    pub passes_all : takes_off kind ≡ false → Wide v ≡ passed_on kind e w
+    pub passes_all : takes_off kind ≡ false → Some v ≡ passed_on kind e w
     unfolding passed_on
     passes_all t = sym (ap (passed_on kind e) h ∙ rw t)
 

@@ -1,8 +1,8 @@
 -- Walks of whole sheets, computed from the definitions. Assumes nothing.
-use Rattle.std.specs.Prelude.{◌≡◌, refl, List, [], ◌∷◌, ℕ}
+use Rattle.std.specs.Prelude.{◌≡◌, refl, List, [], ◌∷◌, ℕ, Some, None, Ok, Err}
 use Rattle.lists.specs.Lists.{sum, mem}
-use Rattle.lists.specs.Refusals.{first_answer, verdict_of}
-use Rattle.lists.specs.declared.Verdict.TheVariants.{Accepted, Refused}
+use Rattle.lists.specs.Refusals.{refusal, first_answer, verdict_of}
+use Rattle.lists.specs.declared.Reason.TheVariants.{TooNarrow}
 use Rattle.text.specs.Decimal.{writing, digits, digits_in}
 use Rattle.text.specs.Prefix.{last_number, ol_prefix}
 use Rattle.records.specs.declared.Kept.{Kept}
@@ -23,7 +23,6 @@ use Rattle.table.specs.Laying.{way_in}
 use Rattle.table.specs.Arranging.{boxes_at}
 use Rattle.placing.specs.Place.{place_side, place_down, place_row, place_rows}
 use Rattle.passing.specs.Walk.{takes_off, passed_on, too_narrow, printed_in, cell_width, from_nearest, line_width, walk_to, walk, narrow_from, narrow_checks}
-use Rattle.passing.specs.declared.Width.TheVariants.{Wide, Without}
 
 abbrev ln : (depth kind cols rows own : ℕ) → Kept
 ln depth kind cols rows own = record { depth = depth; kind = kind; number = 1000000000; cols = cols; rows = rows; own = own }
@@ -60,28 +59,28 @@ squeezed = ln 0 12 0 0 0 ∷ ln 1 19 0 0 0 ∷ ln 2 20 0 0 0 ∷ ln 3 21 0 0 0 �
 
 pub record Walks : Type 0 where
   -- the quote takes off its prefix
-  pub quote_at_5 : walk 3 0 5 quoted ≡ Wide 5 ∷ Wide 3 ∷ []
-  pub quote_passes : verdict_of (narrow_checks 3 0 5 0 quoted) ≡ Accepted
+  pub quote_at_5 : walk 3 0 5 quoted ≡ Some 5 ∷ Some 3 ∷ []
+  pub quote_passes : verdict_of (narrow_checks 3 0 5 0 quoted) ≡ Ok tt
   -- at 4 it is too narrow, on its own line; with overflow it passes on what its text needs
-  pub quote_at_4 : verdict_of (narrow_checks 3 0 4 0 quoted) ≡ Refused 12 1
-  pub quote_over : verdict_of (narrow_checks 3 0 4 1 quoted) ≡ Accepted
-  pub quote_passes_on : walk 3 0 4 quoted ≡ Wide 4 ∷ Wide 3 ∷ []
+  pub quote_at_4 : verdict_of (narrow_checks 3 0 4 0 quoted) ≡ Err (refusal TooNarrow 1)
+  pub quote_over : verdict_of (narrow_checks 3 0 4 1 quoted) ≡ Ok tt
+  pub quote_passes_on : walk 3 0 4 quoted ≡ Some 4 ∷ Some 3 ∷ []
   -- a list without children is never too narrow
-  pub bare_at_0 : verdict_of (narrow_checks 3 0 0 0 bare) ≡ Accepted
+  pub bare_at_0 : verdict_of (narrow_checks 3 0 0 0 bare) ≡ Ok tt
   -- a width of 0 is one
-  pub marked_at_1 : walk 3 0 1 marked ≡ Wide 1 ∷ Wide 0 ∷ []
-  pub marked_passes : verdict_of (narrow_checks 3 0 1 0 marked) ≡ Accepted
+  pub marked_at_1 : walk 3 0 1 marked ≡ Some 1 ∷ Some 0 ∷ []
+  pub marked_passes : verdict_of (narrow_checks 3 0 1 0 marked) ≡ Ok tt
   -- the list is named, not its child
-  pub listed_at_4 : verdict_of (narrow_checks 3 0 4 0 listed) ≡ Refused 12 2
+  pub listed_at_4 : verdict_of (narrow_checks 3 0 4 0 listed) ≡ Err (refusal TooNarrow 2)
   -- the table is laid out at 9; bodies and rows have its width, the empty cell and what stands in it none, the inner table its cell's width
   pub table_at_11 :
       walk 3 0 11 tabled_in
-      ≡ Wide 11 ∷ Wide 9 ∷ Wide 9 ∷ Wide 9 ∷ Wide 3 ∷ Wide 3 ∷ Without ∷ Without ∷ Wide 2 ∷ Wide 2 ∷ Wide 2 ∷ Wide 2 ∷ Wide 2 ∷ Wide 2 ∷ []
+      ≡ Some 11 ∷ Some 9 ∷ Some 9 ∷ Some 9 ∷ Some 3 ∷ Some 3 ∷ None ∷ None ∷ Some 2 ∷ Some 2 ∷ Some 2 ∷ Some 2 ∷ Some 2 ∷ Some 2 ∷ []
   -- a table in a missing cell has no width, nor has anything in it
-  pub lost_at_30 : walk 3 0 30 lost ≡ Wide 30 ∷ Wide 30 ∷ Wide 30 ∷ Wide 3 ∷ Wide 3 ∷ Without ∷ Without ∷ Without ∷ Without ∷ Without ∷ []
+  pub lost_at_30 : walk 3 0 30 lost ≡ Some 30 ∷ Some 30 ∷ Some 30 ∷ Some 3 ∷ Some 3 ∷ None ∷ None ∷ None ∷ None ∷ None ∷ []
   -- a table in a quote that passes on 0 has the width 0: it goes down, and its cell is missing
-  pub squeezed_at_2 : walk 0 0 2 squeezed ≡ Wide 2 ∷ Wide 0 ∷ Wide 0 ∷ Wide 0 ∷ Without ∷ Without ∷ []
-  pub squeezed_passes : verdict_of (narrow_checks 0 0 2 0 squeezed) ≡ Accepted
+  pub squeezed_at_2 : walk 0 0 2 squeezed ≡ Some 2 ∷ Some 0 ∷ Some 0 ∷ Some 0 ∷ None ∷ None ∷ []
+  pub squeezed_passes : verdict_of (narrow_checks 0 0 2 0 squeezed) ≡ Ok tt
   pub squeezed_down : way_in (columns_of (table_rows squeezed 1)) (boxes_at 0 squeezed 1) 0 0 ≡ Down
 
 walks : Walks

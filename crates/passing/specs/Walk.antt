@@ -1,5 +1,6 @@
 -- The walk from a sheet's first line down: which width each line gets. Place k holds line k + 1. These are definitions; nothing is assumed.
-use Rattle.std.specs.Prelude.{Bool, false, cond, ◌&&◌, ◌||◌, List, [], ◌∷◌, ◌++◌, map, ℕ, zero, suc, ◌+◌, ◌-◌, max, eqb, ltb, length, get_or}
+use Rattle.lists.specs.declared.Reason.TheVariants.{TooNarrow}
+use Rattle.std.specs.Prelude.{Option, Some, None, Bool, false, cond, ◌&&◌, ◌||◌, List, [], ◌∷◌, ◌++◌, map, ℕ, zero, suc, ◌+◌, ◌-◌, max, eqb, ltb, length, get_or}
 use Rattle.lists.specs.Refusals.{Check, check}
 use Rattle.text.specs.declared.Estimate.{Estimate}
 use Rattle.kinds.specs.Kinds.{head_kind, quote_kind, ul_kind, ol_kind, dd_kind, cell_kind}
@@ -11,8 +12,6 @@ use Rattle.estimates.specs.Estimates.{none, estimates}
 use Rattle.placing.specs.Place.{Placed}
 use Rattle.table.specs.Laying.{places_in}
 use Rattle.table.specs.Arranging.{boxes_at}
-use Rattle.passing.specs.declared.Width.{Width}
-use Rattle.passing.specs.declared.Width.TheVariants.{Wide, Without}
 
 -- ---- what a line passes on
 
@@ -22,80 +21,80 @@ takes_off kind = eqb kind head_kind || eqb kind quote_kind || eqb kind ul_kind |
 
 -- `width_minus`: what a line passes on to its children of the width that it has. A line that takes off its prefix passes on the rest, but no
 -- less than its own least width without the prefix; any other line passes on what it has. What has no width passes on none.
-unfoldable pub passed_on : ℕ → Estimate → Width → Width
-passed_on kind e Without = Without
-passed_on kind e (Wide w) = Wide (cond (takes_off kind) (max (w - e.prefix) (e.least - e.prefix)) w)
+unfoldable pub passed_on : ℕ → Estimate → Option ℕ → Option ℕ
+passed_on kind e None = None
+passed_on kind e (Some w) = Some (cond (takes_off kind) (max (w - e.prefix) (e.least - e.prefix)) w)
 
 -- it reports too narrow: the rest is less than that
-unfoldable pub too_narrow : ℕ → Estimate → Width → Bool
-too_narrow kind e Without = false
-too_narrow kind e (Wide w) = takes_off kind && ltb (w - e.prefix) (e.least - e.prefix)
+unfoldable pub too_narrow : ℕ → Estimate → Option ℕ → Bool
+too_narrow kind e None = false
+too_narrow kind e (Some w) = takes_off kind && ltb (w - e.prefix) (e.least - e.prefix)
 
 -- ---- what a table gives its cells
 
 -- a printed cell has its width, a missing one none
-abbrev pub printed : ℕ → Width
-printed w = cond (eqb w 0) Without (Wide w)
+abbrev pub printed : ℕ → Option ℕ
+printed w = cond (eqb w 0) None (Some w)
 
 -- that of a line, by the lines that entries show and the entries' widths
-unfoldable pub printed_in : List ℕ → List ℕ → ℕ → Width
-printed_in [] vs line = Without
-printed_in (c ∷ cs) [] line = Without
+unfoldable pub printed_in : List ℕ → List ℕ → ℕ → Option ℕ
+printed_in [] vs line = None
+printed_in (c ∷ cs) [] line = None
 printed_in (c ∷ cs) (v ∷ vs) line = cond (eqb c line) (printed v) (printed_in cs vs line)
 
 abbrev pub width_in : Placed → ℕ
 width_in p = p.width
 
 -- the width of the cell at place i in the table at place t that has this width; none if the cell is missing, or the table has none
-unfoldable pub cell_width : (wrap raw : ℕ) (ks : List Kept) (t : ℕ) → Width → ℕ → Width
-cell_width wrap raw ks t Without i = Without
-cell_width wrap raw ks t (Wide w) i =
+unfoldable pub cell_width : (wrap raw : ℕ) (ks : List Kept) (t : ℕ) → Option ℕ → ℕ → Option ℕ
+cell_width wrap raw ks t None i = None
+cell_width wrap raw ks t (Some w) i =
     printed_in (map shown_line (entries_of (grid_of (table_rows ks t))))
     (map width_in (places_in (columns_of (table_rows ks t)) (boxes_at wrap ks t) raw w)) (i + 1)
 
 -- ---- the walk
 
 -- what the nearest line of depth d before place i gives; none if there is no such line
-unfoldable pub from_nearest : (ℕ → Width) → List Kept → ℕ → ℕ → Width
-from_nearest gives ks d zero = Without
+unfoldable pub from_nearest : (ℕ → Option ℕ) → List Kept → ℕ → ℕ → Option ℕ
+from_nearest gives ks d zero = None
 from_nearest gives ks d (suc i) = cond (eqb (get_or ks i no_kept).depth d) (gives i) (from_nearest gives ks d i)
 
 -- what the line at place p passes on, where the lines have the widths ws
-abbrev pub passed_by : (wrap : ℕ) (ks : List Kept) → List Width → ℕ → Width
-passed_by wrap ks ws p = passed_on (get_or ks p no_kept).kind (get_or (estimates wrap ks) p none) (get_or ws p Without)
+abbrev pub passed_by : (wrap : ℕ) (ks : List Kept) → List (Option ℕ) → ℕ → Option ℕ
+passed_by wrap ks ws p = passed_on (get_or ks p no_kept).kind (get_or (estimates wrap ks) p none) (get_or ws p None)
 
 -- the width of the line at place i, where the lines before it have the widths ws: the first line has the page's; a cell its width in its table,
 -- which is the nearest line three less deep; any other what its parent passes on, the nearest line one less deep
-unfoldable pub line_width : (wrap raw root : ℕ) (ks : List Kept) → List Width → ℕ → Width
+unfoldable pub line_width : (wrap raw root : ℕ) (ks : List Kept) → List (Option ℕ) → ℕ → Option ℕ
 line_width wrap raw root ks ws i =
-    cond (eqb i 0) (Wide root)
+    cond (eqb i 0) (Some root)
     (cond (eqb (get_or ks i no_kept).kind cell_kind)
-    (from_nearest (λ t. cell_width wrap raw ks t (get_or ws t Without) i) ks ((get_or ks i no_kept).depth - 3) i)
+    (from_nearest (λ t. cell_width wrap raw ks t (get_or ws t None) i) ks ((get_or ks i no_kept).depth - 3) i)
     (from_nearest (passed_by wrap ks ws) ks ((get_or ks i no_kept).depth - 1) i))
 
 -- one line more
-abbrev pub one_more : (wrap raw root : ℕ) (ks : List Kept) → List Width → ℕ → List Width
+abbrev pub one_more : (wrap raw root : ℕ) (ks : List Kept) → List (Option ℕ) → ℕ → List (Option ℕ)
 one_more wrap raw root ks ws i = ws ++ (line_width wrap raw root ks ws i ∷ [])
 
 -- the widths of the first n lines, and of all
-unfoldable pub walk_to : (wrap raw root : ℕ) (ks : List Kept) → ℕ → List Width
+unfoldable pub walk_to : (wrap raw root : ℕ) (ks : List Kept) → ℕ → List (Option ℕ)
 walk_to wrap raw root ks zero = []
 walk_to wrap raw root ks (suc n) = one_more wrap raw root ks (walk_to wrap raw root ks n) n
 
-abbrev pub walk : (wrap raw root : ℕ) (ks : List Kept) → List Width
+abbrev pub walk : (wrap raw root : ℕ) (ks : List Kept) → List (Option ℕ)
 walk wrap raw root ks = walk_to wrap raw root ks (length ks)
 
 -- ---- 12
 
 -- the line at place i is too narrow
 abbrev pub narrow_at : (wrap raw root : ℕ) (ks : List Kept) → ℕ → Bool
-narrow_at wrap raw root ks i = too_narrow (get_or ks i no_kept).kind (get_or (estimates wrap ks) i none) (get_or (walk wrap raw root ks) i Without)
+narrow_at wrap raw root ks i = too_narrow (get_or ks i no_kept).kind (get_or (estimates wrap ks) i none) (get_or (walk wrap raw root ks) i None)
 
 -- the n lines from place i on, in turn, if overflow is off
 unfoldable pub narrow_from : (wrap raw root overflow : ℕ) (ks : List Kept) → ℕ → ℕ → List Check
 narrow_from wrap raw root overflow ks zero i = []
 narrow_from wrap raw root overflow ks (suc n) i =
-    check (eqb overflow 0 && narrow_at wrap raw root ks i) 12 (i + 1) ∷ narrow_from wrap raw root overflow ks n (i + 1)
+    check (eqb overflow 0 && narrow_at wrap raw root ks i) TooNarrow (i + 1) ∷ narrow_from wrap raw root overflow ks n (i + 1)
 
 abbrev pub narrow_checks : (wrap raw root overflow : ℕ) (ks : List Kept) → List Check
 narrow_checks wrap raw root overflow ks = narrow_from wrap raw root overflow ks (length ks) 0
@@ -103,10 +102,10 @@ narrow_checks wrap raw root overflow ks = narrow_from wrap raw root overflow ks 
 -- ---- as numbers
 
 -- whether there is a width, and which
-unfoldable pub given_number : Width → ℕ
-given_number Without = 0
-given_number (Wide w) = 1
+unfoldable pub given_number : Option ℕ → ℕ
+given_number None = 0
+given_number (Some w) = 1
 
-unfoldable pub width_number : Width → ℕ
-width_number Without = 0
-width_number (Wide w) = w
+unfoldable pub width_number : Option ℕ → ℕ
+width_number None = 0
+width_number (Some w) = w

@@ -1,7 +1,7 @@
 // The widths of a walk, and what a line passes on to its children of the width that it has. Ports `width_minus` of `src/render/text_renderer.rs`.
 #![tactic(auto)]
 
-ghost use Rattle.std.specs.Prelude.{◌≡◌, ◌-◌};
+ghost use Rattle.std.specs.Prelude.{◌≡◌};
 ghost use Rattle.passing.specs.Walk.{takes_off, passed_on, too_narrow, printed};
 ghost use Rattle.passing.specs.inner.Places.{width_place, width_by};
 
@@ -9,90 +9,59 @@ use kinds::{DD, HEAD, OL, QUOTE, UL};
 use records::Place;
 use text::Estimate;
 
-// The width of a line. What stands in a missing cell has none, which is not the width 0.
-#[derive(Clone, Copy)]
-pub enum Width {
-    Wide(u32),
-    Without,
-}
+// The width of a line is an `Option<u32>`: what stands in a missing cell has none, which is not the width 0.
 
 // These take off their prefix.
+#[tactic(auto, unfolding(crate::specs::Walk::takes_off))]
 fn takes_off(kind: u32) -> bool
     ensures { result ≡ takes_off kind }
 {
-    if kind == HEAD {
-        return true;
-    }
-    if kind == QUOTE {
-        return true;
-    }
-    if kind == UL {
-        return true;
-    }
-    if kind == OL {
-        return true;
-    }
-    kind == DD
-}
-
-// What is left of a width; never less than 0.
-pub fn less(a: u32, b: u32) -> u32
-    ensures { result ≡ a - b }
-{
-    if a < b { 0 } else { a - b }
+    matches!(kind, HEAD | QUOTE | UL | OL | DD)
 }
 
 // The rest without the prefix, but no less than the line's own least width without it.
-pub fn passed_on(kind: u32, e: Estimate, w: Width) -> Width
+pub fn passed_on(kind: u32, e: Estimate, w: Option<u32>) -> Option<u32>
     ensures { result ≡ passed_on kind e w }
 {
-    let Width::Wide(v) = w else {
-        return Width::Without;
-    };
+    let v = w?;
     if takes_off(kind) {
-        return Width::Wide(lists::larger(less(v, e.prefix), less(e.least, e.prefix)));
+        let least = e.least.saturating_sub(e.prefix);
+        return Some(v.saturating_sub(e.prefix).max(least));
     }
-    Width::Wide(v)
+    Some(v)
 }
 
 // Whether the rest is less than that.
-pub fn too_narrow(kind: u32, e: Estimate, w: Width) -> bool
+pub fn too_narrow(kind: u32, e: Estimate, w: Option<u32>) -> bool
     ensures { result ≡ too_narrow kind e w }
 {
-    let Width::Wide(v) = w else {
-        return false;
-    };
-    if takes_off(kind) {
-        return less(v, e.prefix) < less(e.least, e.prefix);
+    match w {
+        Some(v) => takes_off(kind) && v.saturating_sub(e.prefix) < e.least.saturating_sub(e.prefix),
+        None => false,
     }
-    false
 }
 
-// A width as two numbers: whether there is one, and which.
-pub fn place_of(w: Width) -> Place
+// A width as two numbers: whether there is one, and which. No `From` can stand here, as `Option` and `Place` are of other crates.
+#[tactic(auto, unfolding(crate::specs::Walk::given_number, crate::specs::Walk::width_number))]
+pub fn place_of(w: Option<u32>) -> Place
     ensures { result ≡ width_place w }
 {
     match w {
-        Width::Without => Place { first: 0, span: 0 },
-        Width::Wide(v) => Place { first: 1, span: v },
+        None => Place { first: 0, span: 0 },
+        Some(v) => Place { first: 1, span: v },
     }
 }
 
-pub fn width_of(p: Place) -> Width
+#[tactic(auto, unfolding(crate::specs::inner::Places::width_by))]
+pub fn width_of(p: Place) -> Option<u32>
     ensures { result ≡ width_by p }
 {
-    if p.first == 0 {
-        return Width::Without;
-    }
-    Width::Wide(p.span)
+    if p.first == 0 { None } else { Some(p.span) }
 }
 
 // That of a printed cell; a missing one has none.
 pub fn printed(w: u32) -> Place
     ensures { result ≡ width_place (printed w) }
 {
-    if w == 0 {
-        return Place { first: 0, span: 0 };
-    }
-    Place { first: 1, span: w }
+    place_of(if w == 0 { None } else { Some(w) })
 }

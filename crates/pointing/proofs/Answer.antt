@@ -13,8 +13,8 @@ use borrow.Author.Tests.{ltb-true, ltb-false, leb-true, eqb-true, lt-ltb, le-leb
 use Rattle.placing.specs.Place.{Placed}
 use Rattle.pointing.specs.Point.{past, covers, closes, some_printed, gap_before, pointed}
 use Rattle.pointing.specs.Exact.{entry, IsPrinted, Covers, Between}
-use Rattle.pointing.specs.declared.Under.{Under}
-use Rattle.pointing.specs.declared.Under.TheVariants.{Cell, Gap, Nothing}
+use Rattle.answers.specs.declared.Under.{Under}
+use Rattle.answers.specs.declared.Under.TheVariants.{Cell, Gap, Nothing}
 
 -- ---- Bools
 
@@ -116,7 +116,7 @@ some_false (p ∷ ps) e j h = go (λ t. some_false ps t) (ltb 0 p.width) refl e 
 
 -- ---- the answer
 
-pub data Answer (k : ℕ) (ps : List Placed) (x : ℕ) : Under → Type 0 where
+pub data Answer (k : ℕ) (ps : List Placed) (x : ℕ) : Under ℕ → Type 0 where
   cell : (j n : ℕ) → n ≡ k + j → Covers ps x j → Answer k ps x (Cell n)
   gap : Between ps x → Answer k ps x Gap
   nothing : ((j : ℕ) → Covers ps x j → ⊥) → (Between ps x → ⊥) → Answer k ps x Nothing
@@ -127,7 +127,7 @@ module _ (k x : ℕ) (p : Placed) (ps : List Placed) where
   no_cover f rest zero h = clash (covers p x) (true_covers p x h.from h.upto) f
   no_cover f rest (suc j) h = rest j (covers_tail p ps x j h)
 
-  later : (u : Under) → covers p x ≡ false → closes p x ≡ false → Answer (k + 1) ps x u → Answer k (p ∷ ps) x u
+  later : (u : Under ℕ) → covers p x ≡ false → closes p x ≡ false → Answer (k + 1) ps x u → Answer k (p ∷ ps) x u
   later u f g (cell j n e h) = cell (suc j) n (omega arith) (covers_later p ps x j h)
   later u f g (gap h) = gap (between_later p ps x h)
   later u f g (nothing a b) = nothing (no_cover f a) (λ h. b (between_tail p ps x g h))
@@ -172,7 +172,7 @@ answer k x (p ∷ ps) = go (answer (k + 1) x ps) (covers p x) (closes p x) refl 
 pub cell_below : (k x : ℕ) (ps : List Placed) (n : ℕ) → pointed k x ps ≡ Cell n → n < k + length ps
 cell_below k x ps n = go (pointed k x ps) (answer k x ps)
   where
-    go : (u : Under) → Answer k ps x u → u ≡ Cell n → n < k + length ps
+    go : (u : Under ℕ) → Answer k ps x u → u ≡ Cell n → n < k + length ps
     go u (cell j m e h) d = let z : m ≡ n = cc in omega (arith, h.printed.there)
     go u (gap b) d = absurd (let z : ◌≡◌ {A = ℕ} 0 1 = cc in omega arith)
     go u (nothing f g) d = absurd (let z : ◌≡◌ {A = ℕ} 0 1 = cc in omega arith)

@@ -11,11 +11,11 @@ use borrow.Author.Tests.{lt-ltb, le-ltb}
 use Rattle.placing.specs.Place.{Placed, at}
 use Rattle.pointing.specs.Point.{placed, covers, closes, some_printed, gap_before, pointed}
 use Rattle.pointing.specs.inner.Rows.{InSlices}
-use Rattle.pointing.specs.declared.Under.{Under}
-use Rattle.pointing.specs.declared.Under.TheVariants.{Cell, Gap, Nothing}
+use Rattle.answers.specs.declared.Under.{Under}
+use Rattle.answers.specs.declared.Under.TheVariants.{Cell, Gap, Nothing}
 use Rattle.pointing.proofs.Parts.{next_entry}
 
-unfoldable pub ahead : Bool → ℕ → ℕ → List Placed → Under
+unfoldable pub ahead : Bool → ℕ → ℕ → List Placed → Under ℕ
 ahead true k x ps = gap_before ps
 ahead false k x ps = pointed k x ps
 

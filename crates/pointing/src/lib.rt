@@ -8,73 +8,47 @@ ghost use Rattle.placing.specs.Place.{at};
 ghost use Rattle.pointing.specs.Point.{placed, covers, closes, inside, pointed, gap_at, joint_of, joined};
 ghost use Rattle.pointing.specs.inner.Rows.{InSlices, Room, Listed};
 
-use answers::Joint;
-
-// What lies at a character column: the cell with this number, the gap between two printed cells, or nothing.
-#[derive(Clone, Copy)]
-pub enum Under {
-    Cell(usize),
-    Gap,
-    Nothing,
-}
+use answers::{Joint, Under};
 
 // An entry covers the column.
 fn covers_column(x: u32, wide: u32, column: u32) -> bool
     ensures { result ≡ covers (at x wide) column }
 {
-    if column < x {
-        return false;
-    }
-    column - x < wide
+    x <= column && column - x < wide
 }
 
 // An entry is printed and ends at the column.
 fn closes_at(x: u32, wide: u32, column: u32) -> bool
     ensures { result ≡ closes (at x wide) column }
 {
-    if column <= x {
-        return false;
-    }
-    column - x == wide
+    x < column && column - x == wide
 }
 
 // An entry is printed and lies wholly in the stretch from one column up to another.
 fn lies_inside(x: u32, wide: u32, from: u32, to: u32) -> bool
     ensures { result ≡ inside (at x wide) from to }
 {
-    if wide == 0 {
-        return false;
-    }
-    if x < from {
-        return false;
-    }
-    if to < x {
-        return false;
-    }
-    wide <= to - x
+    wide != 0 && from <= x && x <= to && wide <= to - x
 }
 
 // What lies at the column. Once a printed cell ends there, it is a gap if another is printed.
-pub fn at(x: &[u32], wide: &[u32], first: usize, end: usize, column: u32) -> Under
+pub fn at(x: &[u32], wide: &[u32], first: usize, end: usize, column: u32) -> Under<usize>
     requires { InSlices first end x.now wide.now }
     ensures { result ≡ pointed first column (slice first end (placed x.now wide.now)) }
 {
     let mut ended = false;
-    let mut i = first;
-    while i < end {
+    for i in first..end {
         let w = wide[i];
         if ended {
             if w != 0 {
                 return Under::Gap;
             }
-            i += 1;
         } else {
             let start = x[i];
             if covers_column(start, w, column) {
                 return Under::Cell(i);
             }
             ended = closes_at(start, w, column);
-            i += 1;
         }
     }
     Under::Nothing
@@ -85,28 +59,20 @@ pub fn gap_at(x: &[u32], wide: &[u32], first: usize, end: usize, column: u32) ->
     requires { InSlices first end x.now wide.now }
     ensures { result ≡ gap_at column (slice first end (placed x.now wide.now)) }
 {
-    let under = at(x, wide, first, end, column);
-    match under {
-        Under::Gap => true,
-        Under::Cell(_) => false,
-        Under::Nothing => false,
-    }
+    matches!(at(x, wide, first, end, column), Under::Gap)
 }
 
 // The joining character by whether a gap stands above, and below.
+#[tactic(auto, unfolding(crate::specs::Point::joint_of))]
 fn joint_of(up: bool, down: bool) -> Joint
     ensures { result ≡ joint_of up down }
 {
-    if up {
-        if down {
-            return Joint::Both;
-        }
-        return Joint::Up;
+    match (up, down) {
+        (true, true) => Joint::Both,
+        (true, false) => Joint::Up,
+        (false, true) => Joint::Down,
+        (false, false) => Joint::Plain,
     }
-    if down {
-        return Joint::Down;
-    }
-    Joint::Plain
 }
 
 // The joining character between a row and the next, whose entries are those from end up to next; below the last row there are none.
@@ -136,14 +102,10 @@ pub fn within(
     ensures { Listed first from to (slice first end (placed x.now wide.now)) entry.old result entry.new }
 {
     let mut n: usize = 0;
-    let mut i = first;
-    while i < end {
+    for i in first..end {
         if lies_inside(x[i], wide[i], from, to) {
             entry[n] = i as u32;
             n += 1;
-            i += 1;
-        } else {
-            i += 1;
         }
     }
     n

@@ -134,7 +134,7 @@ each_shown above hs a = all_weaken (Known above) (Shown above) (λ h k f. k) hs 
 cells_shown : (above : List ℕ) (cs : List Cell) → All (Shown above) (map item_of cs)
 unfolding All
 cells_shown above [] = tt
-cells_shown above (c ∷ cs) = ((λ f. absurd (let z : ◌≡◌ {A = ℕ} 0 1 = cc in omega arith)), cells_shown above cs)
+cells_shown above (c ∷ cs) = ((λ f. cc), cells_shown above cs)
 
 rows_owned : (above : List ℕ) (hs : List Item) (rs : List cells.Row) → All Filler hs → All (Known above) hs → Owned above (originals hs rs)
 unfolding All originals
@@ -211,5 +211,5 @@ owner_earlier b i h =
     (owned_at [] (all_rows (resolve_body b)) (rows_owned [] [] (resolve_body b) tt tt) i h)
   where
     only : (o : ℕ) → (mem o [] ≡ true) ⊎ Earlier (all_rows (resolve_body b)) i o → Earlier (all_rows (resolve_body b)) i o
-    only o (inl m) = absurd (let z : ◌≡◌ {A = ℕ} 0 1 = cc in omega arith)
+    only o (inl m) = cc
     only o (inr e) = e

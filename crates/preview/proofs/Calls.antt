@@ -1,4 +1,6 @@
 -- The calls: what is said of the row that was found is what they answer and leave. Assumes nothing.
+use Rattle.lists.specs.declared.Refusal.{Refusal}
+use Rattle.std.specs.Prelude.{Err, Ok, Result, Some}
 use mathlib.Core.Path.{◌≡◌, refl, sym, ap, ap₂, ◌∙◌}
 use mathlib.Core.Bool.{Bool, true, false, cond, ◌||◌}
 use mathlib.Core.List.{List, [], ◌∷◌, ◌++◌}
@@ -12,31 +14,27 @@ use Rattle.lists.specs.Lists.{padded}
 use Rattle.lists.proofs.Over.{over_front}
 use Rattle.lists.specs.Limits.{max_entries, max_wrap, max_width, max_size}
 use Rattle.lists.specs.Refusals.{Check, first_answer, passes, verdict_of, if_passes}
-use Rattle.lists.specs.declared.Verdict.{Verdict}
-use Rattle.lists.specs.declared.Verdict.TheVariants.{Accepted, Refused as Refuses}
 use Rattle.sheet.proofs.First.{neither, first_append, first_accepts, first_refuses, first_told, passes_both, accepted_passes}
 use Rattle.placing.specs.Place.{Placed}
-use Rattle.opening.specs.Opening.{asked, open_checks}
+use Rattle.opening.specs.Opening.{after_reading, open_checks}
 use Rattle.arguments.specs.Arguments.{settings_check, pointing_arguments, within_arguments}
 use Rattle.arguments.proofs.Shorter.{one_shorter}
 use Rattle.sheet_figures.specs.Figures.{rows_at, boxes_at, way_at, widths_at}
 use Rattle.sheet_figures.specs.inner.Early.{early}
 use Rattle.pointing.specs.Point.{placed, pointed, listed}
-use Rattle.pointing.specs.declared.Under.TheVariants as under
+use Rattle.answers.specs.declared.Under.TheVariants.{Cell}
 use Rattle.pointing.specs.inner.Rows as rows
 use Rattle.pointing.proofs.Parts.{placed_length}
 use Rattle.pointing.proofs.Answer.{cell_below}
 use Rattle.pointing.proofs.Listing.{listed_length}
-use Rattle.preview.specs.Preview.{row_start, late_check, row_checks, pointed_in, pointed_of, listed_of, for_one, WithinAnswer, joined_of}
-use Rattle.spots.specs.declared.Spot.{Spot}
-use Rattle.spots.specs.declared.Spot.TheVariants.{Row, Refused}
-use Rattle.answers.specs.declared.Listed.{Listed}
-use Rattle.spots.specs.inner.Spots.{spot_in, RowsTold, SpotFound}
+use Rattle.preview.specs.Preview.{row_start, late_check, row_checks, pointed_of, listed_of, for_one, WithinAnswer, joined_of}
+use Rattle.spots.specs.declared.Span.{Span}
+use Rattle.spots.specs.inner.Spots.{span_with, spot_in, RowsTold, SpotFound}
 use Rattle.preview.specs.inner.Said.{RowFits, SpotFits, SpotRoom, pointed_by, joined_by, entries_by, counted_by, EntriesListed}
 
 -- ---- the first of several checks
 
-module _ {A : Type 0} (refused : ℕ → ℕ → A) where
+module _ {A : Type 0} (refused : Refusal → A) where
   -- what is accepted matters only where all pass
   first_agree : (a b : A) (cs : List Check) → (passes cs ≡ true → a ≡ b) → first_answer refused a cs ≡ first_answer refused b cs
   first_agree a b cs h = go (passes cs) refl
@@ -51,101 +49,100 @@ module _ {A : Type 0} (refused : ℕ → ℕ → A) where
   first_early a [] ds = refl
   first_early a (c ∷ args) ds = go c.applies (first_early a args ds)
     where
-      go : (b : Bool) → first_answer refused a (early (first_answer Refuses Accepted args) ∷ ds) ≡ first_answer refused a (args ++ ds)
-          → first_answer refused a (early (cond b (Refuses c.number c.line) (first_answer Refuses Accepted args)) ∷ ds)
-          ≡ cond b (refused c.number c.line) (first_answer refused a (args ++ ds))
+      go : (b : Bool) → first_answer refused a (early (first_answer Err (Ok tt) args) ∷ ds) ≡ first_answer refused a (args ++ ds)
+          → first_answer refused a (early (cond b (Err c.refusal) (first_answer Err (Ok tt) args)) ∷ ds)
+          ≡ cond b (refused c.refusal) (first_answer refused a (args ++ ds))
       go true h = refl
       go false h = h
 
   -- the row is asked last
-  row_last : (a : A) (v : Verdict) (args : List Check) (s : List ℕ) (line wrap raw width row : ℕ) → v ≡ verdict_of args
-      → first_answer refused (first_answer refused a (late_check s line wrap raw width row ∷ [])) (early v ∷ open_checks true s line)
+  row_last : (a : A) (v : Result (Unit {0}) Refusal) (args : List Check) (s : List ℕ) (line wrap raw width row : ℕ) → v ≡ verdict_of args
+      → first_answer refused (first_answer refused a (late_check s line wrap raw width row ∷ [])) (early v ∷ open_checks (Some line) s)
       ≡ first_answer refused a (args ++ row_checks s line wrap raw width row)
-  unfolding asked
+  unfolding after_reading
   row_last a v args s line wrap raw width row e =
       let late = late_check s line wrap raw width row ∷ [] in
-      sym (first_append refused a (early v ∷ open_checks true s line) late)
-      ∙ ap (λ (w : Verdict). first_answer refused a (early w ∷ (open_checks true s line ++ late))) e
-      ∙ first_early a args (open_checks true s line ++ late)
+      sym (first_append refused a (early v ∷ open_checks (Some line) s) late)
+      ∙ ap (λ (w : Result (Unit {0}) Refusal). first_answer refused a (early w ∷ (open_checks (Some line) s ++ late))) e
+      ∙ first_early a args (open_checks (Some line) s ++ late)
 
 -- ---- the arguments
 
 -- the width is in its range
-pub in_range : (wrap raw width : ℕ) (rest : List Check) {v : Verdict} → v ≡ verdict_of (settings_check wrap raw width ∷ rest) → v ≡ Accepted → width ≤ max_size
+pub in_range : (wrap raw width : ℕ) (rest : List Check) {v : Result (Unit {0}) Refusal} → v ≡ verdict_of (settings_check wrap raw width ∷ rest) → v ≡ (Ok tt) → width ≤ max_size
 in_range wrap raw width rest judged z =
     let (p, q) = passes_both (settings_check wrap raw width) rest (accepted_passes _ (sym judged ∙ z)) in
     let (p, q) = neither (ltb max_wrap wrap || ltb 1 raw) (ltb max_width width) p in
     omega (arith, ltb-false max_width width q)
 
 -- the lent buffer is long enough
-room : (wrap raw width n : ℕ) {v : Verdict} → v ≡ verdict_of (within_arguments wrap raw width (n ∷ [])) → v ≡ Accepted → max_entries ≤ n
+room : (wrap raw width n : ℕ) {v : Result (Unit {0}) Refusal} → v ≡ verdict_of (within_arguments wrap raw width (n ∷ [])) → v ≡ (Ok tt) → max_entries ≤ n
 room wrap raw width n judged z =
     let (p, q) = passes_both (settings_check wrap raw width) _ (accepted_passes _ (sym judged ∙ z)) in
     let (p, q) = passes_both _ [] q in
     ltb-false n max_entries (sym (one_shorter max_entries n) ∙ p)
 
-accepted_early : (v : Verdict) → (early v).applies ≡ false → v ≡ Accepted
+accepted_early : (v : Result (Unit {0}) Refusal) → (early v).applies ≡ false → v ≡ (Ok tt)
 unfolding early
-accepted_early Accepted e = refl
-accepted_early (Refuses number line) e = let z : ◌≡◌ {A = ℕ} 0 1 = cc in absurd (omega arith)
+accepted_early (Ok tt) e = refl
+accepted_early (Err why) e = let z : ◌≡◌ {A = ℕ} 0 1 = cc in absurd (omega arith)
 
 -- ---- the row that was found
 
-module _ (v : Verdict) {s : List ℕ} {line wrap raw width row : ℕ} {r : Spot} {x wide : List ℕ}
-    (found : SpotFound (early v ∷ open_checks true s line) s line wrap raw width row r x wide) where
+module _ (v : Result (Unit {0}) Refusal) {s : List ℕ} {line wrap raw width row : ℕ} {r : Result Span Refusal} {x wide : List ℕ}
+    (found : SpotFound (early v ∷ open_checks (Some line) s) s line wrap raw width row r x wide) where
   abbrev Told : Type 0
   Told = RowsTold (way_at s line wrap raw width) (widths_at s line wrap raw width) width (rows_at s line) (boxes_at s line wrap) x wide
 
-  abbrev there : Spot
-  there = Row (row_start s line row) (row_start s line (row + 1)) (row_start s line (row + 2))
+  abbrev there : Result Span Refusal
+  there = Ok (span_with (row_start s line row) (row_start s line (row + 1)) (row_start s line (row + 2)))
 
   -- what is said of it, where all checks pass
-  said : {A : Type 0} (f : Spot → A) (a : A) (args : List Check) → v ≡ verdict_of args → (Told → f there ≡ a)
-      → f r ≡ first_answer (λ number at. f (Refused number at)) a (args ++ row_checks s line wrap raw width row)
+  said : {A : Type 0} (f : Result Span Refusal → A) (a : A) (args : List Check) → v ≡ verdict_of args → (Told → f there ≡ a)
+      → f r ≡ first_answer (λ why. f (Err why)) a (args ++ row_checks s line wrap raw width row)
   unfolding spot_in
   said f a args judged same =
-      let cs = early v ∷ open_checks true s line in
+      let cs = early v ∷ open_checks (Some line) s in
       let late = late_check s line wrap raw width row ∷ [] in
       ap f found.answer
-      ∙ first_told f Refused (spot_in (way_at s line wrap raw width) (rows_at s line) row) cs
-      ∙ first_agree (λ number at. f (Refused number at)) _ (first_answer (λ number at. f (Refused number at)) a late) cs
-      (λ p. first_told f Refused there late ∙ ap (λ (z : _). first_answer (λ number at. f (Refused number at)) z late) (same (found.told p)))
-      ∙ row_last (λ number at. f (Refused number at)) a v args s line wrap raw width row judged
+      ∙ first_told f Err (spot_in (way_at s line wrap raw width) (rows_at s line) row) cs
+      ∙ first_agree (λ why. f (Err why)) _ (first_answer (λ why. f (Err why)) a late) cs
+      (λ p. first_told f Err there late ∙ ap (λ (z : _). first_answer (λ why. f (Err why)) z late) (same (found.told p)))
+      ∙ row_last (λ why. f (Err why)) a v args s line wrap raw width row judged
 
   -- a row is found only if all checks pass
-  is_there : (first' end next : ℕ) → r ≡ Row first' end next → (passes (early v ∷ open_checks true s line) ≡ true) × (there ≡ Row first' end next)
+  is_there : (w : Span) → r ≡ Ok w → (passes (early v ∷ open_checks (Some line) s) ≡ true) × (there ≡ Ok w)
   unfolding spot_in
-  is_there first' end next e =
-      let (p, q) = first_accepts Refused _ (Row first' end next) (early v ∷ open_checks true s line)
-      (λ number at f. let z : ◌≡◌ {A = ℕ} 0 1 = cc in omega arith) (sym found.answer ∙ e) in
-      (p, (first_accepts Refused there (Row first' end next) (late_check s line wrap raw width row ∷ []) (λ number at f. let z : ◌≡◌ {A = ℕ} 0 1 = cc in omega arith) q).1)
+  is_there w e =
+      let (p, q) = first_accepts Err _ (Ok w) (early v ∷ open_checks (Some line) s)
+      (λ why f. let z : ◌≡◌ {A = ℕ} 0 1 = cc in omega arith) (sym found.answer ∙ e) in
+      (p, (first_accepts Err there (Ok w) (late_check s line wrap raw width row ∷ []) (λ why f. let z : ◌≡◌ {A = ℕ} 0 1 = cc in omega arith) q).1)
 
   pub spot_fits : SpotFits r x wide
-  spot_fits first' end next e =
-      let (p, q) = is_there first' end next e in
+  spot_fits w e =
+      let (p, q) = is_there w e in
       let t = found.told p in
-      let a : row_start s line row ≡ first' = cc in
-      let b : row_start s line (row + 1) ≡ end = cc in
-      let c : row_start s line (row + 2) ≡ next = cc in
+      let same : span_with (row_start s line row) (row_start s line (row + 1)) (row_start s line (row + 2)) ≡ w = cc in
       let z : row + 1 + 1 ≡ row + 2 = omega arith in
-      record {
-        here = rw (a, b) at (t.slices row);
-        below = rw (b, c) at (rw z at (t.slices (row + 1)));
-        few = rw b at (t.few (row + 1));
-      }
+      rw (← same)
+      (record {
+        here = t.slices row;
+        below = rw z at (t.slices (row + 1));
+        few = t.few (row + 1);
+      })
 
   pub spot_room : (entry : List ℕ) → v ≡ verdict_of (within_arguments wrap raw width (for_one entry)) → SpotRoom r entry
-  spot_room entry judged first' end next e =
-      let (p, q) = is_there first' end next e in
-      let (a, o) = passes_both (early v) (open_checks true s line) p in
-      omega (arith, (spot_fits first' end next e).few, room wrap raw width (length entry) judged (accepted_early v a))
+  spot_room entry judged w e =
+      let (p, q) = is_there w e in
+      let (a, o) = passes_both (early v) (open_checks (Some line) s) p in
+      omega (arith, (spot_fits w e).few, room wrap raw width (length entry) judged (accepted_early v a))
 
   -- `at`
   pub pointed_said : (column : ℕ) → v ≡ verdict_of (pointing_arguments wrap raw width) → pointed_by (placed x wide) column r ≡ pointed_of s line wrap raw width row column
   unfolding pointed_by pointed_of
   pointed_said column judged =
       said (pointed_by (placed x wide) column) _ (pointing_arguments wrap raw width) judged
-      (λ t. ap (λ (ps : List Placed). pointed_in (pointed (row_start s line row) column ps)) (t.places row))
+      (λ t. ap (λ (ps : List Placed). Ok (pointed (row_start s line row) column ps)) (t.places row))
 
   -- `joining`
   pub joined_said : (column : ℕ) → v ≡ verdict_of (pointing_arguments wrap raw width) → joined_by (placed x wide) column r ≡ joined_of s line wrap raw width row column
@@ -181,7 +178,7 @@ module _ (v : Verdict) {s : List ℕ} {line wrap raw width row : ℕ} {r : Spot}
 
 -- the number of a cell fits
 pub cell_fits : (column : ℕ) {first' end next : ℕ} {x wide : List ℕ} → RowFits first' end next x wide
-    → (n : ℕ) → pointed first' column (slice first' end (placed x wide)) ≡ under.Cell n → n ≤ max_entries
+    → (n : ℕ) → pointed first' column (slice first' end (placed x wide)) ≡ Cell n → n ≤ max_entries
 cell_fits column {first'} {end} {next} {x} {wide} f n e =
     omega (
       arith,
@@ -194,17 +191,17 @@ cell_fits column {first'} {end} {next} {x} {wide} f n e =
 pub row_room : {first' end next : ℕ} {x wide entry : List ℕ} → RowFits first' end next x wide → end ≤ length entry → rows.Room first' end entry
 row_room f h = record { places = omega arith; few = f.few }
 
-pub listed_none : (ps : List Placed) (from to : ℕ) {spot : Spot} {number at : ℕ} {entry : List ℕ} → spot ≡ Refused number at → EntriesListed (entries_by ps from to spot) 0 entry
+pub listed_none : (ps : List Placed) (from to : ℕ) {spot : Result Span Refusal} {why : Refusal} {entry : List ℕ} → spot ≡ Err why → EntriesListed (entries_by ps from to spot) 0 entry
 unfolding entries_by
 listed_none ps from to e = rw e (record { count = refl; few = omega arith; there = omega arith; front = refl })
 
-pub listed_row : {spot : Spot} {first' end next from to n : ℕ} {x wide entry after : List ℕ} → spot ≡ Row first' end next → RowFits first' end next x wide → end ≤ length entry
-    → rows.Listed first' from to (slice first' end (placed x wide)) entry n after → length after ≡ length entry → EntriesListed (entries_by (placed x wide) from to spot) n after
+pub listed_row : {spot : Result Span Refusal} {w : Span} {from to n : ℕ} {x wide entry after : List ℕ} → spot ≡ Ok w → RowFits w.first w.end w.next x wide → w.end ≤ length entry
+    → rows.Listed w.first from to (slice w.first w.end (placed x wide)) entry n after → length after ≡ length entry → EntriesListed (entries_by (placed x wide) from to spot) n after
 unfolding entries_by
-listed_row {spot} {first'} {end} {next} {from} {to} {n} {x} {wide} {entry} e f h l k =
-    let ns = listed first' from to (slice first' end (placed x wide)) in
-    let size = length-slice first' end (placed x wide) (omega (arith, f.here.xs_there, placed_length x wide)) in
-    let some = listed_length first' from to (slice first' end (placed x wide)) in
+listed_row {spot} {w} {from} {to} {n} {x} {wide} {entry} e f h l k =
+    let ns = listed w.first from to (slice w.first w.end (placed x wide)) in
+    let size = length-slice w.first w.end (placed x wide) (omega (arith, f.here.xs_there, placed_length x wide)) in
+    let some = listed_length w.first from to (slice w.first w.end (placed x wide)) in
     rw e (record {
       count = l.count_is;
       few = omega (arith, l.count_is, f.few);

@@ -1,5 +1,6 @@
 -- The answers of the calls are exact: the promises of specs/Exact.antt. A row of a table that goes sideways is as the third demand has it, in which the
 -- crate `pointing` proves the answers exact; and the checks pass exactly for such a row. Assumes nothing.
+use Rattle.std.specs.Prelude.{Err}
 use mathlib.Core.Path.{◌≡◌, refl, sym, ap, ◌∙◌}
 use mathlib.Core.Bool.{true, false, ◌||◌}
 use mathlib.Core.List.{List, [], ◌∷◌, ◌++◌}
@@ -33,9 +34,6 @@ use Rattle.spots.specs.Rows.{goes_down}
 use Rattle.teaching.proofs.Missing.{third_demand}
 use Rattle.preview.specs.Preview.{row_start, row_places, late_check, row_checks, point_checks, within_checks, pointed_of, listed_at, listed_of, for_one, joined_of}
 use Rattle.preview.specs.Exact.{RowIn, RowsAccepted, AtExactly, WithinExactly, JoiningExactly}
-use Rattle.answers.specs.declared.Pointed.TheVariants as pointing
-use Rattle.answers.specs.declared.Listed.TheVariants as listing
-use Rattle.answers.specs.declared.Joined.TheVariants as joining
 
 -- ---- the checks
 
@@ -145,7 +143,7 @@ pub at_exactly : AtExactly
 unfolding pointed_of
 at_exactly s line wrap raw width row x r = record {
   under = pointed (row_start s line row) x (row_places s line wrap raw width row);
-  answer = first_passes pointing.Refused _ (point_checks s line wrap raw width row) (point_passes s line wrap raw width row r);
+  answer = first_passes Err _ (point_checks s line wrap raw width row) (point_passes s line wrap raw width row r);
   right = exactly r x;
 }
 
@@ -154,7 +152,7 @@ unfolding listed_of
 within_exactly s line wrap raw width row from to entry r h =
     let p = within_passes s line wrap raw width row (length entry) h r in
     record {
-      answer = first_passes listing.Refused _ (within_checks s line wrap raw width row (for_one entry)) p;
+      answer = first_passes Err _ (within_checks s line wrap raw width row (for_one entry)) p;
       left = ap (padded (length entry)) (figures_pass (within_checks s line wrap raw width row (for_one entry)) (listed_at s line wrap raw width row from to) p);
       right = listed_exact (row_start s line row) from to (row_places s line wrap raw width row);
     }
@@ -163,6 +161,6 @@ pub joining_exactly : JoiningExactly
 unfolding joined_of
 joining_exactly s line wrap raw width row x r = record {
   joint = joined x (row_places s line wrap raw width row) (row_places s line wrap raw width (row + 1));
-  answer = first_passes joining.Refused _ (point_checks s line wrap raw width row) (point_passes s line wrap raw width row r);
+  answer = first_passes Err _ (point_checks s line wrap raw width row) (point_passes s line wrap raw width row r);
   right = joined_exact (row_places s line wrap raw width row) (row_places s line wrap raw width (row + 1)) x (gap_exactly r row x) (gap_exactly r (row + 1) x);
 }

@@ -1,8 +1,10 @@
 -- Pointing into two whole sheets, computed from the definitions. Assumes nothing.
-use Rattle.std.specs.Prelude.{◌≡◌, refl, List, [], ◌∷◌, ◌++◌, ℕ}
+use Rattle.answers.specs.declared.Under.TheVariants.{Cell, Gap, Nothing}
+use Rattle.lists.specs.declared.Reason.TheVariants.{NoTable, Setting, ShortBuffer}
+use Rattle.std.specs.Prelude.{◌≡◌, refl, List, [], ◌∷◌, ◌++◌, ℕ, Err, Ok}
 use Prim.Native.String.{String}
 use Rattle.lists.specs.Lists.{sum, mem}
-use Rattle.lists.specs.Refusals.{first_answer}
+use Rattle.lists.specs.Refusals.{first_answer, refusal}
 use Rattle.text.specs.Bytes.{class_of}
 use Rattle.text.specs.Text.{text_size, readable, trim_start, trim_end, widths, runs, begins}
 use Rattle.text.specs.Decimal.{shifted, writing, digits, digits_in}
@@ -34,10 +36,7 @@ use Rattle.grid.specs.Grid.{entries_of}
 use Rattle.pointing.specs.Point.{some_printed, gap_before, pointed, is_gap, gap_at, listed, joint_of}
 use Rattle.answers.specs.declared.Joint.TheVariants.{Plain, Up, Down}
 use Rattle.spots.specs.Rows.{goes_down}
-use Rattle.preview.specs.Preview.{pointed_in, pointed_of, listed_at, listed_of, joined_of}
-use Rattle.answers.specs.declared.Pointed.TheVariants.{Cell, Gap, Nothing, Refused}
-use Rattle.answers.specs.declared.Listed.TheVariants as listing
-use Rattle.answers.specs.declared.Joined.TheVariants as joining
+use Rattle.preview.specs.Preview.{pointed_of, listed_at, listed_of, joined_of}
 
 -- a text as a line of a sheet
 abbrev line : String → List ℕ
@@ -77,30 +76,30 @@ merged =
 -- at wrap 3 and width 9
 pub record Pointings : Type 0 where
   -- the first row: a cell, the one gap, a cell whose number is 2, and nothing past it
-  pub first_cell : pointed_of gapped 1 3 0 9 0 1 ≡ Cell 0
-  pub the_gap : pointed_of gapped 1 3 0 9 0 2 ≡ Gap
-  pub third_cell : pointed_of gapped 1 3 0 9 0 3 ≡ Cell 2
-  pub past_the_last : pointed_of gapped 1 3 0 9 0 5 ≡ Nothing
+  pub first_cell : pointed_of gapped 1 3 0 9 0 1 ≡ Ok (Cell 0)
+  pub the_gap : pointed_of gapped 1 3 0 9 0 2 ≡ Ok Gap
+  pub third_cell : pointed_of gapped 1 3 0 9 0 3 ≡ Ok (Cell 2)
+  pub past_the_last : pointed_of gapped 1 3 0 9 0 5 ≡ Ok Nothing
   -- the second row's cell is entry 3
-  pub second_row : pointed_of gapped 1 3 0 9 1 2 ≡ Cell 3
+  pub second_row : pointed_of gapped 1 3 0 9 1 2 ≡ Ok (Cell 3)
   -- there is no third row, and at width 4 the table goes down; a line that is no table comes before both, and a setting before all
-  pub no_row : pointed_of gapped 1 3 0 9 2 0 ≡ Refused 10 0
-  pub down : pointed_of gapped 1 3 0 4 0 0 ≡ Refused 10 0
-  pub setting_first : pointed_of gapped 2 3 2 9 9 0 ≡ Refused 9 0
+  pub no_row : pointed_of gapped 1 3 0 9 2 0 ≡ Err (refusal NoTable 0)
+  pub down : pointed_of gapped 1 3 0 4 0 0 ≡ Err (refusal NoTable 0)
+  pub setting_first : pointed_of gapped 2 3 2 9 9 0 ≡ Err (refusal Setting 0)
   -- both cells lie in the whole stretch, one in a shorter one, none in an empty one
   pub both_cells : listed_at gapped 1 3 0 9 0 0 5 ≡ 0 ∷ 2 ∷ []
   pub second_cell : listed_at gapped 1 3 0 9 0 1 5 ≡ 2 ∷ []
   pub no_cell : listed_at gapped 1 3 0 9 0 5 5 ≡ []
-  pub two_cells : listed_of gapped 1 3 0 9 0 0 5 (8192 ∷ []) ≡ listing.Entries 2
-  pub short_buffer : listed_of gapped 1 3 0 9 0 0 5 (8191 ∷ []) ≡ listing.Refused 11 0
+  pub two_cells : listed_of gapped 1 3 0 9 0 0 5 (8192 ∷ []) ≡ Ok 2
+  pub short_buffer : listed_of gapped 1 3 0 9 0 0 5 (8191 ∷ []) ≡ Err (refusal ShortBuffer 0)
   -- a gap above; a gap below; and below the last row
-  pub gap_above : joined_of gapped 1 3 0 9 0 2 ≡ joining.Character Up
-  pub gap_below : joined_of merged 1 3 0 9 0 2 ≡ joining.Character Down
-  pub last_row : joined_of merged 1 3 0 9 1 2 ≡ joining.Character Up
-  pub no_gap : joined_of gapped 1 3 0 9 0 3 ≡ joining.Character Plain
+  pub gap_above : joined_of gapped 1 3 0 9 0 2 ≡ Ok Up
+  pub gap_below : joined_of merged 1 3 0 9 0 2 ≡ Ok Down
+  pub last_row : joined_of merged 1 3 0 9 1 2 ≡ Ok Up
+  pub no_gap : joined_of gapped 1 3 0 9 0 3 ≡ Ok Plain
 
 pub pointings : Pointings
-unfolding first_codes sum mem first_answer class_of text_size readable trim_start trim_end widths runs begins shifted writing digits digits_in last_number ol_prefix same place kind_of may_hold feeds pieces headed all_digits value_from is_natural natural_of negative_of number_of until_blank then_number then_kind parse n_fits spans_fit text_fits fits read_parsed read_line own_size nearest depth_fits place_fits childless sheet_checks lines_checks lines_of empty_checks sheet_lines flat up_to sum_at largest_at count_below ends_from frame row_sum widest resolve_row resolve_body fill_body cut_row cut_body resolved table_rows fillers later row_from hang_of nexts originals ends_of entries_from longest grid_of columns_of ends_past entry_count table_checks tables_checks measured estimate_of leaf_of holder_of gather prefix_of box_of tabled pick cut_once cut_by cut share shares_of way_of final_widths nonzero table_width place_side place_down place_row place_rows is_table any_shorter entries_of some_printed gap_before pointed is_gap gap_at listed joint_of goes_down pointed_in pointed_of listed_of joined_of
+unfolding first_codes sum mem first_answer class_of text_size readable trim_start trim_end widths runs begins shifted writing digits digits_in last_number ol_prefix same place kind_of may_hold feeds pieces headed all_digits value_from is_natural natural_of negative_of number_of until_blank then_number then_kind parse n_fits spans_fit text_fits fits read_parsed read_line own_size nearest depth_fits place_fits childless sheet_checks lines_checks lines_of empty_checks sheet_lines flat up_to sum_at largest_at count_below ends_from frame row_sum widest resolve_row resolve_body fill_body cut_row cut_body resolved table_rows fillers later row_from hang_of nexts originals ends_of entries_from longest grid_of columns_of ends_past entry_count table_checks tables_checks measured estimate_of leaf_of holder_of gather prefix_of box_of tabled pick cut_once cut_by cut share shares_of way_of final_widths nonzero table_width place_side place_down place_row place_rows is_table any_shorter entries_of some_printed gap_before pointed is_gap gap_at listed joint_of goes_down pointed_of listed_of joined_of
 pointings =
     record {
       first_cell = refl;

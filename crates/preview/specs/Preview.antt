@@ -1,25 +1,18 @@
 -- Pointing into the preview of a table that goes sideways, with the calls `at`, `within` and `joining`: what they refuse, in their order, their
 -- answers, and what stands in the buffer that `within` is lent. These are definitions; nothing is assumed.
-use Rattle.std.specs.Prelude.{◌≡◌, List, [], ◌∷◌, ◌++◌, ℕ, ◌+◌, length}
+use Rattle.answers.specs.declared.Under.{Under}
+use Rattle.lists.specs.declared.Refusal.{Refusal}
+use Rattle.std.specs.Prelude.{◌≡◌, List, [], ◌∷◌, ◌++◌, ℕ, ◌+◌, length, Err, Ok, Result}
 use Rattle.lists.specs.Refusals.{Check, first_answer}
 use Rattle.sheet.specs.Sheet.{sheet_checks}
 use Rattle.pointing.specs.Point.{pointed, listed, joined}
-use Rattle.pointing.specs.declared.Under.{Under}
-use Rattle.pointing.specs.declared.Under.TheVariants as under
 use Rattle.answers.specs.declared.Joint.{Joint}
-use Rattle.answers.specs.declared.Joint.TheVariants as joint
 use Rattle.opening.specs.Opening.{kept_lines, line_check}
 use Rattle.arguments.specs.Arguments.{pointing_arguments, within_arguments}
 use Rattle.sheet_figures.specs.Calls.{every_table}
 use Rattle.sheet_figures.specs.Calls.{leaves}
 -- the number of a row's first entry, its placed entries, and 10 where there is no such row or the table goes down
 pub use Rattle.spots.specs.Rows.{row_start, row_places, late_check}
-use Rattle.answers.specs.declared.Pointed.{Pointed}
-use Rattle.answers.specs.declared.Pointed.TheVariants.{Cell, Gap, Nothing, Refused}
-use Rattle.answers.specs.declared.Listed.{Listed}
-use Rattle.answers.specs.declared.Listed.TheVariants as listing
-use Rattle.answers.specs.declared.Joined.{Joined}
-use Rattle.answers.specs.declared.Joined.TheVariants as joining
 
 -- ---- what is refused
 
@@ -38,15 +31,10 @@ within_checks s line wrap raw width row entries = within_arguments wrap raw widt
 
 -- ---- `at`
 
-unfoldable pub pointed_in : Under → Pointed
-pointed_in (under.Cell entry) = Cell entry
-pointed_in under.Gap = Gap
-pointed_in under.Nothing = Nothing
-
 -- what lies at the column x of the row
-unfoldable pub pointed_of : List ℕ → ℕ → ℕ → ℕ → ℕ → ℕ → ℕ → Pointed
+unfoldable pub pointed_of : List ℕ → ℕ → ℕ → ℕ → ℕ → ℕ → ℕ → Result (Under ℕ) Refusal
 pointed_of s line wrap raw width row x =
-    first_answer Refused (pointed_in (pointed (row_start s line row) x (row_places s line wrap raw width row))) (point_checks s line wrap raw width row)
+    first_answer Err (Ok (pointed (row_start s line row) x (row_places s line wrap raw width row))) (point_checks s line wrap raw width row)
 
 -- ---- `within`
 
@@ -55,9 +43,9 @@ abbrev pub listed_at : List ℕ → ℕ → ℕ → ℕ → ℕ → ℕ → ℕ 
 listed_at s line wrap raw width row from to = listed (row_start s line row) from to (row_places s line wrap raw width row)
 
 -- how many they are
-unfoldable pub listed_of : List ℕ → ℕ → ℕ → ℕ → ℕ → ℕ → ℕ → ℕ → List ℕ → Listed
+unfoldable pub listed_of : List ℕ → ℕ → ℕ → ℕ → ℕ → ℕ → ℕ → ℕ → List ℕ → Result ℕ Refusal
 listed_of s line wrap raw width row from to entries =
-    first_answer listing.Refused (listing.Entries (length (listed_at s line wrap raw width row from to))) (within_checks s line wrap raw width row entries)
+    first_answer Err (Ok (length (listed_at s line wrap raw width row from to))) (within_checks s line wrap raw width row entries)
 
 -- the length of the lent buffer
 abbrev pub for_one : List ℕ → List ℕ
@@ -68,14 +56,14 @@ abbrev pub WithinLeft : List ℕ → ℕ → ℕ → ℕ → ℕ → ℕ → ℕ
 WithinLeft s line wrap raw width row from to entry₀ entry =
     entry ≡ leaves (within_checks s line wrap raw width row (for_one entry₀)) entry₀ (listed_at s line wrap raw width row from to)
 
-pub record WithinAnswer (s : List ℕ) (line wrap raw width row from to : ℕ) (entry₀ : List ℕ) (r : Listed) (entry : List ℕ) : Type 0 where
+pub record WithinAnswer (s : List ℕ) (line wrap raw width row from to : ℕ) (entry₀ : List ℕ) (r : Result ℕ Refusal) (entry : List ℕ) : Type 0 where
   pub answer : r ≡ listed_of s line wrap raw width row from to (for_one entry₀)
   pub left : WithinLeft s line wrap raw width row from to entry₀ entry
 
 -- ---- `joining`
 
 -- the joining character at the column x between the row and the next; below the last row stands no gap
-unfoldable pub joined_of : List ℕ → ℕ → ℕ → ℕ → ℕ → ℕ → ℕ → Joined
+unfoldable pub joined_of : List ℕ → ℕ → ℕ → ℕ → ℕ → ℕ → ℕ → Result Joint Refusal
 joined_of s line wrap raw width row x =
-    first_answer joining.Refused (joining.Character (joined x (row_places s line wrap raw width row) (row_places s line wrap raw width (row + 1))))
+    first_answer Err (Ok (joined x (row_places s line wrap raw width row) (row_places s line wrap raw width (row + 1))))
     (point_checks s line wrap raw width row)

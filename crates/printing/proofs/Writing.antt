@@ -1,21 +1,12 @@
--- Words put into a buffer: the turns of the copy of a word, and one word put after another. Assumes nothing.
-use mathlib.Core.Path.{◌≡◌, ap₂, ◌∙◌}
+-- Words put into a buffer, one after another. Assumes nothing.
+use mathlib.Core.Path.{◌≡◌, refl, ap₂, ◌∙◌}
 use mathlib.Core.List.{List, ◌++◌, append_assoc}
-use Prim.Native.Nat.{ℕ, ◌+◌, ◌≤◌, ◌<◌}
-use native.Mathlib.Numerals.{add-one}
+use Prim.Native.Nat.{ℕ, ◌+◌, ◌≤◌}
 use native.Mathlib.Omega.{arith}
-use lib.ListN.{length, get_or, set, take, drop, length-append}
-use lib.Seq.{paste, paste-suc, take-length, take_at, drop_at, drop-drop, length-take-le}
+use lib.ListN.{length, take, drop, length-append}
+use lib.Seq.{take_at, drop_at, drop-drop, length-take-le}
+use Rattle.std.proofs.Common.{length-drop}
 use Rattle.printing.specs.Printing.{written, Put, PutWithin}
-
--- a store takes the copy of i bytes to that of i + 1
-pub copy_more : (d w b : List ℕ) (at i : ℕ) → at + i < length d → i < length w → b ≡ paste d at w i
-    → set b (at + i) (get_or w i 0) ≡ paste d at w (i + 1)
-copy_more d w b at i h g e = rw (e, add-one) (paste-suc d at w i 0 h g)
-
-pub copy_all : (d w b : List ℕ) (at i : ℕ) → i ≡ length w → b ≡ paste d at w i → b ≡ written d at w
-unfolding written
-copy_all d w b at i n e = rw (e, n, take-length w)
 
 -- two words, one after the other
 module _ (d w v : List ℕ) (at : ℕ) (h : at + length w ≤ length d) where
@@ -38,6 +29,15 @@ module _ (d w v : List ℕ) (at : ℕ) (h : at + length w ≤ length d) where
         e,
       )
 
+-- the buffer keeps its length
+pub kept_length : {most at r : ℕ} {w before after : List ℕ} → PutWithin most w at before after r → at + most ≤ length before → length after ≡ length before
+unfolding written
+kept_length {most} {at} {r} {w} {before} {after} p room =
+    let front = take at before ++ w in
+    let rest = drop (at + length w) before in
+    rw (p.put.bytes, length-append front rest, length-append (take at before) w, length-take-le at before (omega arith), length-drop (at + length w) before)
+    (omega (arith, p.within, p.put.place))
+
 module _ {most at r q : ℕ} {w v before middle after : List ℕ} (p : PutWithin most w at before middle r) (room : at + most ≤ length before) where
   -- a word of at most `more` bytes after another
   pub put_after : (more : ℕ) → length v ≤ more → Put v r middle after q → PutWithin (most + more) (w ++ v) at before after q
@@ -56,3 +56,8 @@ module _ {most at r q : ℕ} {w v before middle after : List ℕ} (p : PutWithin
 
   pub put_next : (more : ℕ) → PutWithin more v r middle after q → PutWithin (most + more) (w ++ v) at before after q
   put_next more s = put_after more (omega (arith, s.put.place, s.within)) s.put
+
+-- a word in the place of as many bytes of a buffer
+pub put_bytes : (d w m : List ℕ) (at n : ℕ) → n ≡ length w → m ≡ w → take at d ++ (m ++ drop n (drop at d)) ≡ written d at w
+unfolding written
+put_bytes d w m at n e f = rw (e, f, drop-drop (length w) at d, append_assoc (take at d) w (drop (at + length w) d)) refl

@@ -42,10 +42,7 @@ pub fn count(lines: &[u32]) -> usize
 fn has_number(kind: u32) -> bool
     ensures { result ≡ has_number kind }
 {
-    if kind == kinds::HEAD {
-        return true;
-    }
-    kind == kinds::OL
+    kind == kinds::HEAD || kind == kinds::OL
 }
 
 // One of two numbers, by a test.
@@ -60,8 +57,8 @@ fn kept_with(depth: u32, kind: u32, figure: u32) -> Kept
     ensures { result ≡ kept_with depth kind figure }
 {
     Kept {
-        depth: depth,
-        kind: kind,
+        depth,
+        kind,
         number: either(has_number(kind), figure, NO_NUMBER),
         cols: either(kind == kinds::CELL, figure % ROWS_STEP, 0),
         rows: either(kind == kinds::CELL, figure / ROWS_STEP, 0),
@@ -193,9 +190,7 @@ pub fn unpack(records: &[u32], w: usize, f: usize, n: usize, buffer: &mut [u32])
     requires { (f < w) × (n ≤ length records.now / w) × (n ≤ length buffer.old) }
     ensures { buffer.new ≡ over (numbers_of w f n records.now) buffer.old }
 {
-    let mut i = 0;
-    while i < n {
+    for i in 0..n {
         buffer[i] = records[w * i + f];
-        i += 1;
     }
 }

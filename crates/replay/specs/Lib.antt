@@ -1,2 +1,1 @@
--- The definitions that the contracts of this crate cite. Assumes nothing.
-pub mod Frames
+-- The contracts of this crate cite no definitions of its own.

@@ -1,6 +1,7 @@
 -- A table of a listed sheet can be laid out in slices that have the room; a sheet that was accepted can be listed. Assumes nothing.
+use Rattle.lists.specs.declared.Refusal.{Refusal}
+use Rattle.std.specs.Prelude.{Ok, Result, None, Option, Some}
 use mathlib.Core.Path.{◌≡◌, refl, sym, ap, ◌∙◌}
-use mathlib.Core.Bool.{false}
 use mathlib.Core.List.{List}
 use Prim.Native.Nat.{ℕ, ◌*◌, ◌/◌, ◌≤◌, ◌<◌}
 use native.Mathlib.Omega.{arith}
@@ -17,8 +18,6 @@ use Rattle.records.proofs.Kepts.{length_kepts, kepts_take}
 use Rattle.cells.specs.Listed.{table_rows}
 use Rattle.grid.specs.Grid.{columns_of}
 use Rattle.sheet.specs.Steps.{room_for}
-use Rattle.sheet.specs.declared.Reading.{Reading}
-use Rattle.sheet.specs.declared.Reading.TheVariants.{Lines}
 use Rattle.grid.proofs.GridFacts.{grid_entries, grid_columns, grid_rows}
 use Rattle.grid.proofs.Rebuilt.{held_few}
 use Rattle.gridding.specs.Packed.{TableReady, TableMade}
@@ -31,8 +30,6 @@ use Rattle.table.proofs.Steps.{entered}
 use Rattle.opening.proofs.Passing.{Passed}
 use Rattle.passing.specs.Walk.{given_number, width_number}
 use Rattle.passing.specs.inner.Places.{width_place, width_by}
-use Rattle.passing.specs.declared.Width.{Width}
-use Rattle.passing.specs.declared.Width.TheVariants.{Wide, Without}
 use Rattle.walking.specs.inner.Steps.{AtMost, Rooms}
 use Rattle.causes.specs.inner.Fronts.{FrontReady}
 use Rattle.walking.proofs.WalkLoop.{width_back}
@@ -93,8 +90,8 @@ module _ {ks : List Kept} {figures : List Estimate} {width at : ℕ} (l : Listab
 
 -- ---- the sheet
 
-pub read_listable : {s : List ℕ} {wrap raw width : ℕ} {read : Reading} {lines : List ℕ} {figures : List Estimate} (walk : List ℕ)
-    → SheetWalked false s 0 wrap raw width 0 read lines figures (places_of walk)
+pub read_listable : {s : List ℕ} {wrap raw width : ℕ} {read : Result ℕ Refusal} {lines : List ℕ} {figures : List Estimate} (walk : List ℕ)
+    → SheetWalked None s wrap raw width 0 read lines figures (places_of walk)
     → room_for s ≤ kept_count lines → room_for s ≤ length figures → room_for s ≤ length walk / 2 → width ≤ max_size
     → ReadListable read lines figures width walk
 unfolding given_number width_number
@@ -115,13 +112,13 @@ read_listable {s} {wrap} {raw} {width} {read} {figures = figures} walk w h g d s
     room = omega (arith, (p n e).room);
     small = λ k l.
         rw (ap width_by
-        (sym (get_or-take n (places_of walk) k no_place l) ∙ ap (λ (y : List Place). get_or y k no_place) (w.widths n e) ∙ get_or-map width_place (walk_of s wrap raw width) k Without)
-        ∙ width_back (get_or (walk_of s wrap raw width) k Without))
+        (sym (get_or-take n (places_of walk) k no_place l) ∙ ap (λ (y : List Place). get_or y k no_place) (w.widths n e) ∙ get_or-map width_place (walk_of s wrap raw width) k None)
+        ∙ width_back (get_or (walk_of s wrap raw width) k None))
         (w.small n e k);
   };
 }
   where
-    p : (n : ℕ) → read ≡ Lines n → Passed false s 0 n
+    p : (n : ℕ) → read ≡ Ok n → Passed None s n
     p n e = opened_passed (w.opened n e) n refl
 
 -- another width
@@ -129,18 +126,18 @@ pub listable_at : {ks : List Kept} {figures : List Estimate} {width v u : ℕ} �
 listable_at l e small = record { lined = l.lined; sound = l.sound; measured = l.measured; small = omega arith }
 
 -- the width of a table that the walk gives one
-pub wide_small : {n i v : ℕ} {q : Place} {w : Width} (walk : List ℕ) → WalkNarrow n walk → i < n → q ≡ get_or (places_of walk) i no_place → w ≡ width_by q → w ≡ Wide v → v ≤ max_size
+pub wide_small : {n i v : ℕ} {q : Place} {w : Option ℕ} (walk : List ℕ) → WalkNarrow n walk → i < n → q ≡ get_or (places_of walk) i no_place → w ≡ width_by q → w ≡ Some v → v ≤ max_size
 unfolding AtMost
 wide_small {i = i} {v} {q} {w} walk z h a b c =
-    let e : width_by (get_or (places_of walk) i no_place) ≡ Wide v = sym (ap width_by a) ∙ sym b ∙ c in
+    let e : width_by (get_or (places_of walk) i no_place) ≡ Some v = sym (ap width_by a) ∙ sym b ∙ c in
     rw e at (z.small i h)
 
 -- the first n records stand in the first 2 * n places
-pub front_listable : {read : Reading} {lines : List ℕ} {figures : List Estimate} {width n : ℕ} {walk : List ℕ} → ReadListable read lines figures width walk → read ≡ Lines n
+pub front_listable : {read : Result ℕ Refusal} {lines : List ℕ} {figures : List Estimate} {width n : ℕ} {walk : List ℕ} → ReadListable read lines figures width walk → read ≡ Ok n
     → Listable (kepts_of (take (2 * n) lines)) figures width
 front_listable {lines = lines} {n = n} r e = rw (kepts_take lines n (r.front n e)) (r.listable n e)
 
-pub front_narrow : {read : Reading} {lines : List ℕ} {figures : List Estimate} {width n : ℕ} {walk : List ℕ} → ReadListable read lines figures width walk → read ≡ Lines n
+pub front_narrow : {read : Result ℕ Refusal} {lines : List ℕ} {figures : List Estimate} {width n : ℕ} {walk : List ℕ} → ReadListable read lines figures width walk → read ≡ Ok n
     → WalkNarrow (length (kepts_of (take (2 * n) lines))) walk
 front_narrow {lines = lines} {n = n} r e =
     let c : length (kepts_of (take (2 * n) lines)) ≡ n =

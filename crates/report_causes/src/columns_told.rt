@@ -4,117 +4,77 @@ ghost use Rattle.lists.specs.Limits.{max_position};
 ghost use Rattle.records.specs.Kept.{entries_of};
 ghost use Rattle.estimates.specs.inner.Figures.{figures_of};
 ghost use Rattle.sizing.specs.inner.Room.{Entered, Raisable};
-ghost use Rattle.writing.specs.Writing.{Place};
 ghost use Rattle.report_causes.specs.inner.Rooms.{ColumnRooms};
 
 use answers::Way;
 use lists::MAX_POSITION;
+use printing::Output;
 use writing::entries::number_at;
 use writing::lines::{number, words};
 
 // Puts the word of a cause, given by its number, and ends the line.
-fn word(out: &mut [u8], at: usize, cause: u32) -> usize
-    requires { Place out.old at }
-    ensures { Place out.new result }
-{
+fn word(out: &mut Output, cause: u32) {
     match cause {
-        0 => words(out, at, b"shown\n"),
-        1 => words(out, at, b"empty\n"),
-        2 => words(out, at, b"little\n"),
-        3 => words(out, at, b"cut\n"),
-        _ => words(out, at, b"page\n"),
+        0 => words(out, b"shown\n"),
+        1 => words(out, b"empty\n"),
+        2 => words(out, b"little\n"),
+        3 => words(out, b"cut\n"),
+        _ => words(out, b"page\n"),
     }
 }
 
 // Puts a number and a space.
-fn spaced(out: &mut [u8], at: usize, n: u32) -> usize
-    requires { Place out.old at }
-    ensures { Place out.new result }
-{
-    let next = number(out, at, n);
-    words(out, next, b" ")
+fn spaced(out: &mut Output, n: u32) {
+    number(out, n);
+    words(out, b" ");
 }
 
 // Puts four numbers, and a space after each.
-pub fn four_spaced(out: &mut [u8], at: usize, a: u32, b: u32, c: u32, d: u32) -> usize
-    requires { Place out.old at }
-    ensures { Place out.new result }
-{
-    let at_b = spaced(out, at, a);
-    let at_c = spaced(out, at_b, b);
-    let at_d = spaced(out, at_c, c);
-    spaced(out, at_d, d)
+pub fn four_spaced(out: &mut Output, a: u32, b: u32, c: u32, d: u32) {
+    spaced(out, a);
+    spaced(out, b);
+    spaced(out, c);
+    spaced(out, d);
 }
 
-// Down the page every column has the width, and that is its share too.
-fn share_shown(way: Way, share: u32, width: u32) -> u32 {
-    match way {
-        Way::Sideways => share,
-        Way::Down => width,
+// What the columns of a table of a way and a width have: a figure of each in every slice.
+#[derive(Clone, Copy)]
+struct Figures<'a> {
+    pub way: Way,
+    pub width: u32,
+    pub sizes: &'a [u32],
+    pub leasts: &'a [u32],
+    pub shares: &'a [u32],
+    pub column: &'a [u32],
+    pub cause: &'a [u32],
+}
+
+impl Figures<'_> {
+    // Puts the line of one column. Down the page every column has the width, and that is its share too.
+    fn put_one(&self, out: &mut Output, j: u32) {
+        let share = match self.way {
+            Way::Sideways => number_at(self.shares, 1, j),
+            Way::Down => self.width,
+        };
+        let size = number_at(self.sizes, 1, j);
+        four_spaced(out, j, size, number_at(self.leasts, 1, j), share);
+        spaced(out, number_at(self.column, 1, j));
+        word(out, number_at(self.cause, 1, j));
+    }
+
+    // Puts the line of every column.
+    fn put(&self, out: &mut Output)
+        requires { length self.now.sizes.now ≤ max_position }
+    {
+        for j in 0..self.sizes.len() as u32 {
+            self.put_one(out, j);
+        }
     }
 }
 
-// Puts the line of one column.
-fn one_column(
-    out: &mut [u8],
-    at: usize,
-    j: u32,
-    way: Way,
-    width: u32,
-    sizes: &[u32],
-    leasts: &[u32],
-    shares: &[u32],
-    column: &[u32],
-    cause: &[u32],
-) -> usize
-    requires { Place out.old at }
-    ensures { Place out.new result }
-{
-    let share = share_shown(way, number_at(shares, 1, j), width);
-    let at_wide = four_spaced(
-        out,
-        at,
-        j,
-        number_at(sizes, 1, j),
-        number_at(leasts, 1, j),
-        share,
-    );
-    let at_cause = spaced(out, at_wide, number_at(column, 1, j));
-    word(out, at_cause, number_at(cause, 1, j))
-}
-
-// Puts the line of every column.
-fn each_column(
-    out: &mut [u8],
-    at: usize,
-    way: Way,
-    width: u32,
-    sizes: &[u32],
-    leasts: &[u32],
-    shares: &[u32],
-    column: &[u32],
-    cause: &[u32],
-) -> usize
-    requires place { Place out.old at }
-    requires sizes_len_bound { length sizes.now ≤ max_position }
-    ensures { Place out.new result }
-{
-    let count = sizes.len() as u32;
-    let mut next = at;
-    let mut j = 0u32;
-    while j < count {
-        next = one_column(
-            out, next, j, way, width, sizes, leasts, shares, column, cause,
-        );
-        j += 1;
-    }
-    next
-}
-
-// The same, with a place for each column's size, least and share, which are made first.
+// Puts the line of every column, with a place for each column's size, least and share, which are made first.
 fn figured(
-    out: &mut [u8],
-    at: usize,
+    out: &mut Output,
     way: Way,
     width: u32,
     figures: &[u32],
@@ -124,21 +84,27 @@ fn figured(
     sizes: &mut [u32],
     leasts: &mut [u32],
     shares: &mut [u32],
-) -> usize
-    requires place { Place out.old at }
+)
     requires raisable { Raisable (entries_of entries.now) (figures_of figures.now) sizes.old leasts.old }
     requires shares_len { (length shares.old ≡ length sizes.old) × (length sizes.old ≤ max_position) }
-    ensures { Place out.new result }
 {
     sizing::raise_columns(entries, figures, sizes, leasts);
     widths::write_shares(sizes, leasts, width, shares);
-    each_column(out, at, way, width, sizes, leasts, shares, column, cause)
+    let figures = Figures {
+        way,
+        width,
+        sizes,
+        leasts,
+        shares,
+        column,
+        cause,
+    };
+    figures.put(out);
 }
 
 // The same in room that may be longer.
 fn figured_front(
-    out: &mut [u8],
-    at: usize,
+    out: &mut Output,
     way: Way,
     width: u32,
     c: usize,
@@ -149,15 +115,12 @@ fn figured_front(
     sizes: &mut [u32],
     leasts: &mut [u32],
     shares: &mut [u32],
-) -> usize
-    requires place { Place out.old at }
+)
     requires entered { Entered (entries_of entries.now) (figures_of figures.now) c }
     requires column_rooms { ColumnRooms c sizes.old leasts.old shares.old }
-    ensures { Place out.new result }
 {
     figured(
         out,
-        at,
         way,
         width,
         figures,
@@ -167,13 +130,12 @@ fn figured_front(
         &mut sizes[..c],
         &mut leasts[..c],
         &mut shares[..c],
-    )
+    );
 }
 
 // Puts the heading, and the line of every column, whose final widths and causes are given.
 pub fn columns(
-    out: &mut [u8],
-    at: usize,
+    out: &mut Output,
     way: Way,
     width: u32,
     c: usize,
@@ -181,19 +143,16 @@ pub fn columns(
     entries: &[u32],
     column: &[u32],
     cause: &[u32],
-) -> usize
-    requires place { Place out.old at }
+)
     requires entered { Entered (entries_of entries.now) (figures_of figures.now) c }
     requires c_le_max_position { c ≤ max_position }
-    ensures { Place out.new result }
 {
     let mut sizes = [0u32; MAX_POSITION];
     let mut leasts = [0u32; MAX_POSITION];
     let mut shares = [0u32; MAX_POSITION];
-    let next = words(out, at, b"column size least share width cause\n");
+    words(out, b"column size least share width cause\n");
     figured_front(
         out,
-        next,
         way,
         width,
         c,
@@ -204,5 +163,5 @@ pub fn columns(
         &mut sizes,
         &mut leasts,
         &mut shares,
-    )
+    );
 }

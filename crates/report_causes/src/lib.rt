@@ -5,22 +5,20 @@
 mod columns_told; // columns_told.rt: a line for each column, with its cause
 mod losses; // losses.rt: which entries are missing, and how many
 
-ghost use Rattle.std.specs.Prelude.{◌≤◌};
 ghost use Rattle.records.specs.Kept.{entries_of};
 ghost use Rattle.estimates.specs.inner.Figures.{figures_of};
 ghost use Rattle.causes.specs.inner.Fronts.{FrontReady};
-ghost use Rattle.writing.specs.Writing.{Place};
 
 use answers::Way;
 use columns_told::columns;
 use gridding::Counts;
-use losses::losses;
+use losses::Missed;
+use printing::Output;
 
 // Puts what is told of a table, whose grid and final widths stand in the front of their slices. The last two are room for the missing entries and the
 // causes.
 pub fn told(
-    out: &mut [u8],
-    at: usize,
+    out: &mut Output,
     way: Way,
     raw: u32,
     width: u32,
@@ -31,15 +29,19 @@ pub fn told(
     column: &[u32],
     missing: &mut [u32],
     cause: &mut [u32],
-) -> usize
-    requires place { Place out.old at }
-    requires front_ready { FrontReady counts.entries counts.columns (entries_of grid.now) (figures_of figures.now) missing.old cause.old }
-    ensures { Place out.new result }
+)
+    requires { FrontReady counts.entries counts.columns (entries_of grid.now) (figures_of figures.now) missing.old cause.old }
 {
     let n = counts.entries;
     let c = counts.columns;
     let count = causes::fronts::explain_front(n, c, grid, figures, raw, width, missing, cause);
-    let end = 3 * n;
-    let next = columns(out, at, way, width, c, figures, &grid[..end], column, cause);
-    losses(out, next, rows, grid, figures, missing, count as u32)
+    columns(out, way, width, c, figures, &grid[..3 * n], column, cause);
+    let missed = Missed {
+        rows,
+        grid,
+        figures,
+        missing,
+        count: count as u32,
+    };
+    missed.put(out);
 }

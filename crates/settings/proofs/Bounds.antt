@@ -7,15 +7,14 @@ use native.Mathlib.Omega.{arith}
 use lib.Dec.{leb}
 use lib.ListN.{length, take, drop}
 use borrow.Author.Tests.{leb-true}
+use Rattle.std.specs.Prelude.{Ok, Err}
 use Rattle.lists.specs.Limits.{max_wrap, max_width}
 use Rattle.text.specs.Decimal.{plain, minus}
 use Rattle.kinds.specs.Kinds.{same}
 use Rattle.fields.specs.Lines.{feed}
 use Rattle.fields.specs.Numbers.{Numeral, numeral, unwritten, number_of}
-use Rattle.settings.specs.Settings.{Part, part, unstopped, until, with_part, with_numeral, then_setting, settings_heading, settings_in, settings_of}
+use Rattle.settings.specs.Settings.{Part, part, unstopped, until, with_part, with_numeral, then_setting, settings_heading, settings_in, settings_of, Settled, malformed}
 use Rattle.settings.specs.declared.Given.{Given}
-use Rattle.settings.specs.declared.Settled.{Settled}
-use Rattle.settings.specs.declared.Settled.TheVariants.{Set, Malformed}
 
 pub record InRange (all : ℕ) (g : Given) : Type 0 where
   pub wrap : g.wrap ≤ max_wrap
@@ -24,8 +23,8 @@ pub record InRange (all : ℕ) (g : Given) : Type 0 where
   pub sheet : g.sheet ≤ all
 
 abbrev SettledIn : ℕ → Settled → Type 0
-SettledIn all (Set g) = InRange all g
-SettledIn all Malformed = Unit {0}
+SettledIn all (Ok g) = InRange all g
+SettledIn all (Err e) = Unit {0}
 
 module _ (all most : ℕ) (f : ℕ → List ℕ → Settled) (h : (v : ℕ) (r : List ℕ) → v ≤ most → SettledIn all (f v r)) where
   sound_numeral : (x : Numeral) (r : List ℕ) → SettledIn all (with_numeral x most (λ n. f n r))
@@ -33,7 +32,7 @@ module _ (all most : ℕ) (f : ℕ → List ℕ → Settled) (h : (v : ℕ) (r :
   sound_numeral (numeral (minus v)) r = tt
   sound_numeral (numeral (plain v)) r = go (leb v most) refl
     where
-      go : (t : Bool) → leb v most ≡ t → SettledIn all (cond t (f v r) Malformed)
+      go : (t : Bool) → leb v most ≡ t → SettledIn all (cond t (f v r) malformed)
       go true e = h v r (leb-true v most e)
       go false e = tt
 
@@ -56,10 +55,10 @@ sound_in all s =
     32 s₁)
     32 s
 
-pub settings_in_range : (s : List ℕ) (g : Given) → settings_of s ≡ Set g → InRange (length s) g
+pub settings_in_range : (s : List ℕ) (g : Given) → settings_of s ≡ Ok g → InRange (length s) g
 unfolding settings_of
 settings_in_range s g e = subst (SettledIn (length s)) e (go (same (take 15 s) settings_heading))
   where
-    go : (t : Bool) → SettledIn (length s) (cond t (settings_in (length s) (drop 15 s)) Malformed)
+    go : (t : Bool) → SettledIn (length s) (cond t (settings_in (length s) (drop 15 s)) malformed)
     go true = sound_in (length s) (drop 15 s)
     go false = tt

@@ -1,4 +1,3 @@
-pub mod Words
 pub mod Stops
 pub mod Digits
 pub mod Told

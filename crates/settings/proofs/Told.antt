@@ -2,34 +2,31 @@
 use mathlib.Core.Path.{◌≡◌, refl, ap, subst, ◌∙◌}
 use mathlib.Core.Bool.{Bool, true, false, cond}
 use mathlib.Core.List.{List}
-use Prim.Native.Nat.{ℕ, suc, ◌+◌, ◌-◌, ◌≤◌, ◌<◌}
+use Prim.Native.Nat.{ℕ, suc, ◌+◌, ◌-◌, ◌≤◌}
 use native.Mathlib.Omega.{arith}
 use lib.Dec.{ltb}
 use lib.ListN.{length, take, drop, length-drop}
 use lib.Seq.{drop-drop}
-use borrow.Author.Tests.{ltb-true, lt-ltb, le-ltb}
+use borrow.Author.Tests.{ltb-true}
+use Rattle.std.specs.Prelude.{Option, Some, None}
 use Rattle.fields.specs.Numbers.{Numeral, numeral, unwritten, number_of, up_to, magnitude}
-use Rattle.fields.specs.declared.FieldRead.{FieldRead}
-use Rattle.fields.specs.declared.FieldRead.TheVariants.{Sound, Unsound}
-use Rattle.settings.specs.Settings.{part, unstopped, with_part, with_numeral, then_setting}
-use Rattle.settings.specs.Reading.{count_before, written_in, ended_at, setting_read}
-use Rattle.settings.specs.declared.Settled.{Settled}
-use Rattle.settings.specs.declared.Settled.TheVariants.{Malformed}
-use Rattle.settings.specs.declared.Written.{Written}
-use Rattle.settings.specs.declared.Written.TheVariants.{Value, Nothing}
-use Rattle.settings.proofs.Stops.{until_cut}
+use Rattle.fields.specs.Reading.{FieldRead}
+use Rattle.fields.specs.declared.Field.{Field}
+use Rattle.settings.specs.Settings.{part, unstopped, with_part, with_numeral, then_setting, Settled, malformed}
+use Rattle.settings.specs.Reading.{count_before, stop_read, written_in, ended_at, setting_read}
+use Rattle.settings.proofs.Stops.{until_cut, stop_found, stop_none}
 
 -- what follows a setting that was read at a place
 abbrev after : List ℕ → FieldRead → (ℕ → List ℕ → Settled) → Settled
-after s (Sound v next) f = f v (drop next s)
-after s Unsound f = Malformed
+after s (Some r) f = f r.value (drop r.next s)
+after s None f = malformed
 
 module _ (most : ℕ) (s : List ℕ) (f : ℕ → List ℕ → Settled) where
   numeral_after : (x : Numeral) (next : ℕ) → with_numeral x most (λ n. f n (drop next s)) ≡ after s (ended_at next (written_in most x)) f
   numeral_after unwritten next = refl
   numeral_after (numeral n) next = go (up_to most n)
     where
-      go : (t : Bool) → cond t (f (magnitude n) (drop next s)) Malformed ≡ after s (ended_at next (cond t (Value (magnitude n)) Nothing)) f
+      go : (t : Bool) → cond t (f (magnitude n) (drop next s)) malformed ≡ after s (ended_at next (cond t (Some (magnitude n)) None)) f
       go true = refl
       go false = refl
 
@@ -48,7 +45,7 @@ module _ (most : ℕ) (s : List ℕ) (f : ℕ → List ℕ → Settled) where
 
       go : (t : Bool)
           → with_part (cond t (part (take n (drop at s)) (drop (suc n) (drop at s))) unstopped) (λ b r. with_numeral (number_of b) most (λ v. f v r))
-          ≡ after s (cond t (ended_at (at + n + 1) (written_in most field)) Unsound) f
+          ≡ after s (cond t (ended_at (at + n + 1) (written_in most field)) None) f
       go true = rw place (numeral_after field (at + n + 1))
       go false = refl
 
@@ -56,27 +53,29 @@ module _ (stop most at : ℕ) (s : List ℕ) where
   abbrev found : FieldRead
   found = setting_read stop most at (drop at s)
 
-  -- by the place where the search for the stop ends
-  module _ (end : ℕ) (e : end ≡ at + count_before stop (drop at s)) where
-    pub setting_open : length s ≤ end → found ≡ Unsound
-    unfolding setting_read
-    setting_open h = rw (le-ltb (count_before stop (drop at s)) (length (drop at s)) (omega (arith, length-drop at s)))
+  -- by what the search for the stop tells
 
-    pub setting_ended : end < length s → found ≡ ended_at (end + 1) (written_in most (number_of (take (end - at) (drop at s))))
-    unfolding setting_read
-    setting_ended h =
-        let n : end - at ≡ count_before stop (drop at s) = omega arith in
-        rw (lt-ltb (count_before stop (drop at s)) (length (drop at s)) (omega (arith, length-drop at s)), n, e)
+  pub setting_open : stop_read stop at (drop at s) ≡ None → found ≡ None
+  unfolding setting_read
+  setting_open e = rw (stop_none stop at (drop at s) e)
 
-  pub setting_told : {v next : ℕ} → found ≡ Sound v next → (f : ℕ → List ℕ → Settled) → then_setting stop most (drop at s) f ≡ f v (drop next s)
+  module _ {end : ℕ} (e : stop_read stop at (drop at s) ≡ Some end) where
+    pub setting_ended : found ≡ ended_at (end + 1) (written_in most (number_of (take (end - at) (drop at s))))
+    unfolding setting_read
+    setting_ended =
+        let told = stop_found stop at (drop at s) e in
+        let n : end - at ≡ count_before stop (drop at s) = omega (arith, told.1) in
+        rw (told.0, n, ← told.1)
+
+  pub setting_told : {r : Field} → found ≡ Some r → (f : ℕ → List ℕ → Settled) → then_setting stop most (drop at s) f ≡ f r.value (drop r.next s)
   setting_told e f = setting_after most s f stop at ∙ ap (λ (r : FieldRead). after s r f) e
 
-  pub setting_none : found ≡ Unsound → (f : ℕ → List ℕ → Settled) → then_setting stop most (drop at s) f ≡ Malformed
+  pub setting_none : found ≡ None → (f : ℕ → List ℕ → Settled) → then_setting stop most (drop at s) f ≡ malformed
   setting_none e f = setting_after most s f stop at ∙ ap (λ (r : FieldRead). after s r f) e
 
   abbrev Ends : FieldRead → Type 0
-  Ends (Sound v next) = next ≤ length s
-  Ends Unsound = Unit {0}
+  Ends (Some r) = r.next ≤ length s
+  Ends None = Unit {0}
 
   ends : Ends found
   unfolding setting_read
@@ -85,11 +84,11 @@ module _ (stop most at : ℕ) (s : List ℕ) where
       n : ℕ
       n = count_before stop (drop at s)
 
-      go : (t : Bool) → ltb n (length (drop at s)) ≡ t → (x : Written) → Ends (cond t (ended_at (at + n + 1) x) Unsound)
-      go true e (Value v) = omega (arith, ltb-true n (length (drop at s)) e, length-drop at s)
-      go true e Nothing = tt
+      go : (t : Bool) → ltb n (length (drop at s)) ≡ t → (x : Option ℕ) → Ends (cond t (ended_at (at + n + 1) x) None)
+      go true e (Some v) = omega (arith, ltb-true n (length (drop at s)) e, length-drop at s)
+      go true e None = tt
       go false e x = tt
 
   -- the place after a setting, counted from the end of the input
-  pub setting_place : {v next : ℕ} → found ≡ Sound v next → length s - length (drop next s) ≡ next
-  setting_place {v} {next} e = let h : next ≤ length s = subst Ends e ends in omega (arith, length-drop next s)
+  pub setting_place : {r : Field} → found ≡ Some r → length s - length (drop r.next s) ≡ r.next
+  setting_place {r} e = let h : r.next ≤ length s = subst Ends e ends in omega (arith, length-drop r.next s)

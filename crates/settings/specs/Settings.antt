@@ -1,14 +1,14 @@
 -- The settings before the sheet in the input of a program: two lines, the first "wrap raw width", the second these three numbers, one
 -- space between, written as in a sheet. These are definitions; nothing is assumed.
-use Rattle.std.specs.Prelude.{cond, List, [], ◌∷◌, ℕ, ◌-◌, eqb, length, take, drop}
+use Rattle.std.specs.Prelude.{cond, List, [], ◌∷◌, ℕ, ◌-◌, eqb, length, take, drop, Result, Ok, Err}
 use Rattle.lists.specs.Limits.{max_wrap, max_width}
-use Rattle.lists.specs.declared.Verdict.{Verdict}
-use Rattle.lists.specs.declared.Verdict.TheVariants.{Accepted, Refused}
+use Rattle.lists.specs.Refusals.{refusal}
+use Rattle.lists.specs.declared.Reason.TheVariants.{Setting}
+use Rattle.lists.specs.declared.Refusal.{Refusal}
 use Rattle.kinds.specs.Kinds.{same}
 use Rattle.fields.specs.Lines.{feed}
 use Rattle.fields.specs.Numbers.{Numeral, numeral, unwritten, number_of, up_to, magnitude}
-use Rattle.settings.specs.declared.Settled.{Settled}
-use Rattle.settings.specs.declared.Settled.TheVariants.{Set, Malformed}
+use Rattle.settings.specs.declared.Given.{Given}
 
 -- "wrap raw width" and its line feed
 abbrev pub settings_heading : List ℕ
@@ -27,13 +27,21 @@ unfoldable pub until : ℕ → List ℕ → Part
 until stop [] = unstopped
 until stop (b ∷ bs) = cond (eqb b stop) (part [] bs) (longer b (until stop bs))
 
+-- what settings are: these, or refused with 9, line 0
+
+abbrev pub Settled : Type 0
+Settled = Result Given Refusal
+
+abbrev pub malformed : Settled
+malformed = Err (refusal Setting 0)
+
 abbrev pub with_numeral : Numeral → ℕ → (ℕ → Settled) → Settled
-with_numeral (numeral n) most f = cond (up_to most n) (f (magnitude n)) Malformed
-with_numeral unwritten most f = Malformed
+with_numeral (numeral n) most f = cond (up_to most n) (f (magnitude n)) malformed
+with_numeral unwritten most f = malformed
 
 abbrev pub with_part : Part → (List ℕ → List ℕ → Settled) → Settled
 with_part (part f r) g = g f r
-with_part unstopped g = Malformed
+with_part unstopped g = malformed
 
 -- a number of at most `most` before the byte `stop`, and what follows
 unfoldable pub then_setting : ℕ → ℕ → List ℕ → (ℕ → List ℕ → Settled) → Settled
@@ -45,12 +53,7 @@ settings_in all s =
     then_setting 32 max_wrap s (λ wrap s₁.
     then_setting 32 1 s₁ (λ raw s₂.
     then_setting feed max_width s₂ (λ width sheet.
-    Set (record { wrap = wrap; raw = raw; width = width; sheet = all - length sheet }))))
-
--- what a program answers to them: 9, line 0, where they are malformed
-unfoldable pub settled_verdict : Settled → Verdict
-settled_verdict (Set given) = Accepted
-settled_verdict Malformed = Refused 9 0
+    Ok (record { wrap = wrap; raw = raw; width = width; sheet = all - length sheet }))))
 
 unfoldable pub settings_of : List ℕ → Settled
-settings_of s = cond (same (take 15 s) settings_heading) (settings_in (length s) (drop 15 s)) Malformed
+settings_of s = cond (same (take 15 s) settings_heading) (settings_in (length s) (drop 15 s)) malformed

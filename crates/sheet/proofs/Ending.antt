@@ -10,7 +10,9 @@ use lib.Dec.{leb}
 use lib.ListN.{length, get_or, drop, drop_of_length-le, length-map, get_or-map}
 use lib.Seq.{drop-cons}
 use borrow.Author.Tests.{le-leb, lt-leb}
-use Rattle.lists.specs.Refusals.{Check, check, first_answer}
+use Rattle.std.specs.Prelude.{Err, Ok}
+use Rattle.lists.specs.declared.Reason.TheVariants.{Nesting}
+use Rattle.lists.specs.Refusals.{Check, check, first_answer, refusal}
 use Rattle.records.specs.Kept.{no_kept, kept_count, kepts_of}
 use Rattle.records.proofs.Kepts.{length_kepts}
 use Rattle.records.specs.declared.Kept.{Kept}
@@ -19,7 +21,6 @@ use Rattle.sheet.specs.Nesting.{childless, left_empty, depth_at}
 use Rattle.sheet.specs.Sheet.{empty_checks}
 use Rattle.sheet.specs.Reading.{kept_of}
 use Rattle.sheet.specs.Steps.{empty_at, line_end, bare_line, bare}
-use Rattle.sheet.specs.declared.Reading.TheVariants.{Lines, Refused}
 
 -- the line at a place is left empty by what stands at the next place
 
@@ -51,13 +52,13 @@ bare_checks : (k : ℕ) (ls : List Line) → empty_checks k (bare (map kept_of l
 unfolding empty_checks childless
 bare_checks k [] = refl
 bare_checks k (l ∷ []) = refl
-bare_checks k (l ∷ m ∷ ls) = ap (λ (cs : List Check). check (left_empty l (m ∷ ls)) 4 k ∷ cs) (bare_checks (suc k) (m ∷ ls))
+bare_checks k (l ∷ m ∷ ls) = ap (λ (cs : List Check). check (left_empty l (m ∷ ls)) Nesting k ∷ cs) (bare_checks (suc k) (m ∷ ls))
 
 pub bare_end : (ls : List Line) → line_end (bare (map kept_of ls)) ≡ line_end ls
 unfolding line_end
 bare_end [] = refl
 bare_end (l ∷ ls) =
-    ap₂ (λ (m : ℕ) (cs : List Check). first_answer Refused (Lines m) (check false 4 0 ∷ cs))
+    ap₂ (λ (m : ℕ) (cs : List Check). first_answer Err (Ok m) (check false Nesting 0 ∷ cs))
     (length-map (map kept_of (l ∷ ls)) bare_line ∙ length-map (l ∷ ls) kept_of)
     (bare_checks 1 (l ∷ ls))
 
@@ -65,13 +66,13 @@ bare_end (l ∷ ls) =
 
 module _ (ls : List Line) where
   unfoldable pub EndsFrom : ℕ → Type 0
-  EndsFrom i = line_end ls ≡ first_answer Refused (Lines (length ls)) (empty_checks (suc i) (drop i ls))
+  EndsFrom i = line_end ls ≡ first_answer Err (Ok (length ls)) (empty_checks (suc i) (drop i ls))
 
-  pub ends_none : length ls ≡ 0 → Refused 4 0 ≡ line_end ls
+  pub ends_none : length ls ≡ 0 → Err (refusal Nesting 0) ≡ line_end ls
   unfolding line_end first_answer
   ends_none e = at ls e
     where
-      at : (ms : List Line) → length ms ≡ 0 → Refused 4 0 ≡ line_end ms
+      at : (ms : List Line) → length ms ≡ 0 → Err (refusal Nesting 0) ≡ line_end ms
       at [] e = refl
       at (m ∷ ms) e = absurd (omega arith)
 
@@ -79,7 +80,7 @@ module _ (ls : List Line) where
   unfolding EndsFrom line_end first_answer
   ends_start h = at ls h
     where
-      at : (ms : List Line) → 0 < length ms → line_end ms ≡ first_answer Refused (Lines (length ms)) (empty_checks 1 ms)
+      at : (ms : List Line) → 0 < length ms → line_end ms ≡ first_answer Err (Ok (length ms)) (empty_checks 1 ms)
       at [] h = absurd (omega arith)
       at (m ∷ ms) h = refl
 
@@ -88,10 +89,10 @@ module _ (ls : List Line) where
     unfolding EndsFrom empty_checks first_answer
     ends_more e = f ∙ rw (add-one i, drop-cons ls i no_line h, (rw (add-one i) at e))
 
-    pub ends_at : left_empty_at ls i ≡ true → Refused 4 (i + 1) ≡ line_end ls
+    pub ends_at : left_empty_at ls i ≡ true → Err (refusal Nesting (i + 1)) ≡ line_end ls
     unfolding EndsFrom empty_checks first_answer
     ends_at e = sym (f ∙ rw (add-one i, drop-cons ls i no_line h, (rw (add-one i) at e)))
 
-  pub ends_all : (i : ℕ) → length ls ≤ i → EndsFrom i → Lines (length ls) ≡ line_end ls
+  pub ends_all : (i : ℕ) → length ls ≤ i → EndsFrom i → Ok (length ls) ≡ line_end ls
   unfolding EndsFrom empty_checks first_answer
   ends_all i h f = sym (f ∙ rw (drop_of_length-le ls h))

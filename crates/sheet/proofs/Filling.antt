@@ -2,18 +2,18 @@
 use mathlib.Core.Path.{◌≡◌, sym, ◌∙◌}
 use mathlib.Core.Bool.{false, ◌||◌}
 use mathlib.Core.List.{List}
-use Prim.Native.Nat.{ℕ, zero, suc, ◌+◌, ◌-◌, ◌≤◌, ◌<◌}
+use Prim.Native.Nat.{ℕ, zero, suc, ◌+◌, ◌≤◌, ◌<◌}
 use native.Mathlib.Numerals.{add-one}
 use native.Mathlib.Omega.{arith}
 use native.Mathlib.Decide.{ℕ_discrete}
 use lib.Dec.{eqb}
 use lib.ListN.{length, get_or, length-map}
 use borrow.Author.Tests.{lt-leb}
+use Rattle.std.specs.Prelude.{Ok}
 use Rattle.records.specs.Kept.{no_kept}
 use Rattle.records.specs.declared.Kept.{Kept}
 use Rattle.kinds.specs.Kinds.{table_kind, body_kind}
 use Rattle.sheet.specs.Steps.{empty_at, FilledTo, Lacks, line_end, bare, bare_line}
-use Rattle.sheet.specs.declared.Reading.TheVariants.{Lines}
 use Rattle.sheet.proofs.Ending.{EndsFrom, bare_empty, ends_start, ends_more, ends_all}
 
 module _ (ks : List Kept) where
@@ -40,7 +40,7 @@ module _ (ks : List Kept) where
       rw (← add-one i)
       (ends_more (bare ks) i (omega (arith, length-map ks bare_line)) (ends_to some i (omega arith) (λ k g. f k (omega arith))) (sym (bare_empty ks i) ∙ f i (omega arith)))
 
-  pub filled_ends : 0 < length ks → FilledTo ks (length ks) → Lines (length ks) ≡ line_end (bare ks)
+  pub filled_ends : 0 < length ks → FilledTo ks (length ks) → Ok (length ks) ≡ line_end (bare ks)
   filled_ends some f =
       rw (← length-map ks bare_line)
       (ends_all (bare ks) (length ks) (omega (arith, length-map ks bare_line)) (ends_to some (length ks) (omega arith) f))

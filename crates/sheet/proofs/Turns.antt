@@ -2,33 +2,34 @@
 use mathlib.Core.Path.{◌≡◌, refl, sym, ap, subst, ◌∙◌}
 use mathlib.Core.Bool.{Bool, true, false, cond}
 use mathlib.Core.List.{List, [], ◌∷◌, ◌++◌, map}
-use Prim.Native.Nat.{ℕ, suc, ◌+◌, ◌-◌, ◌≤◌, ◌<◌}
+use Prim.Native.Nat.{ℕ, suc, ◌+◌, ◌≤◌, ◌<◌}
 use native.Mathlib.Numerals.{add-one}
 use native.Mathlib.Omega.{arith}
 use lib.ListN.{length, get_or, take, drop, set, replicate}
 use lib.Seq.{take_all}
 use borrow.Author.Tests.{le-ltb}
+use Rattle.std.specs.Prelude.{Err, Ok, Result}
+use Rattle.lists.specs.declared.Reason.{Reason}
+use Rattle.lists.specs.declared.Reason.TheVariants.{TextByte, Nesting, NoExpression, OutOfBounds}
+use Rattle.lists.specs.declared.Reason.TheVariants as reason
+use Rattle.lists.specs.declared.Refusal.{Refusal}
 use Rattle.lists.specs.Limits.{max_bytes, max_feeds, max_depth, depths}
-use Rattle.lists.specs.Refusals.{first_answer}
+use Rattle.lists.specs.Refusals.{first_answer, refusal}
 use Rattle.kinds.specs.Kinds.{kind_count}
 use Rattle.records.specs.Kept.{kept_with, kepts_of, kept_count}
 use Rattle.records.proofs.Kepts.{length_kepts}
-use Rattle.fields.specs.Lines.{Piece, feeds, pieces, headed, node_pieces, heading_bytes}
+use Rattle.fields.specs.Lines.{Piece, feeds, pieces, node_pieces, heading_bytes}
 use Rattle.line.specs.Fields.{Line, no_line, read_line, is_unread, has_bad_byte, not_expression, out_of_bounds, or_none}
-use Rattle.line.specs.LineAt.{piece_at, node_of, line_in, line_at}
+use Rattle.line.specs.LineAt.{LineRead, piece_at, node_of, line_in, line_at}
 use Rattle.line.proofs.Pieces.{pieces_at, pieces_end, feeds_at}
 use Rattle.line.proofs.Told.{good_line}
 use Rattle.line.specs.declared.Node.{Node}
-use Rattle.line.specs.declared.LineRead.{LineRead}
-use Rattle.line.specs.declared.LineRead.TheVariants.{Good, BadFields, BadByte, NotExpression, OutOfBounds}
 use Rattle.eights.specs.inner.Briefs.{figures_of}
 use Rattle.eights.specs.declared.Brief.{Brief}
 use Rattle.sheet.specs.Nesting.{misplaced}
 use Rattle.sheet.specs.Sheet.{lines_checks, lines_of, sheet_lines, sheet_checks}
 use Rattle.sheet.specs.Reading.{reading_of, kept_of}
-use Rattle.sheet.specs.Steps.{sound, faulty, breaks_nesting, judgement_of, BriefOf, end_checks, line_end, bare, Begun}
-use Rattle.sheet.specs.declared.Reading.{Reading}
-use Rattle.sheet.specs.declared.Reading.TheVariants.{Lines, Refused}
+use Rattle.sheet.specs.Steps.{breaks_nesting, judgement_of, BriefOf, end_checks, line_end, bare, Begun}
 use Rattle.sheet.proofs.Heading.{heading_long, heading_feeds}
 use Rattle.sheet.proofs.Earlier.{earlier, drop_here, drop_none, lines_drop, lines_length}
 use Rattle.sheet.proofs.Chain.{Linked, linked_none, linked_more, linked_told}
@@ -45,7 +46,7 @@ pub record ReadingLoop (s : List ℕ) (a b : List ℕ) (chain : List ℕ) (previ
   pub few : n + 1 + feeds (drop at s) ≤ feeds s
   pub linked : Linked chain n previous (earlier n (sheet_lines s))
   pub answer : reading_of s
-      ≡ first_answer Refused (Lines (length (sheet_lines s)))
+      ≡ first_answer Err (Ok (length (sheet_lines s)))
       (lines_checks (suc n) (earlier n (sheet_lines s)) (drop n (node_pieces s)) ++ end_checks (sheet_lines s))
   pub stored : take n (kepts_of b) ≡ map kept_of (take n (sheet_lines s))
   pub same : length b ≡ length a
@@ -63,7 +64,7 @@ turns_start s a g = record {
   same = refl;
 }
   where
-    start : reading_of s ≡ first_answer Refused (Lines (length (sheet_lines s))) (lines_checks 1 [] (node_pieces s) ++ end_checks (sheet_lines s))
+    start : reading_of s ≡ first_answer Err (Ok (length (sheet_lines s))) (lines_checks 1 [] (node_pieces s) ++ end_checks (sheet_lines s))
     start = rw (le-ltb max_bytes (length s) g.short, le-ltb max_feeds (feeds s) g.few, g.headed)
 
 -- what is known of a sound line before it is stored
@@ -78,38 +79,36 @@ pub record NextLine (s : List ℕ) (at n depth kind next : ℕ) : Type 0 where
 
 -- the answer for a line, from the tests for 2, 3, 13 and 14
 abbrev answered : Bool → Bool → Bool → Bool → Node → LineRead
-answered u y x z w = cond u BadFields (cond y BadByte (cond x NotExpression (cond z OutOfBounds (Good w))))
+answered u y x z w = cond u (Err reason.Fields) (cond y (Err TextByte) (cond x (Err NoExpression) (cond z (Err OutOfBounds) (Ok w))))
 
 module _ (chain : List ℕ) (n previous : ℕ) where
-  told_good : (r : LineRead) (v : Node) → judgement_of chain n previous r ≡ sound v → (r ≡ Good v) × (breaks_nesting chain n previous v.depth v.kind ≡ false)
+  told_good : (r : LineRead) (v : Node) → judgement_of chain n previous r ≡ Ok v → (r ≡ Ok v) × (breaks_nesting chain n previous v.depth v.kind ≡ false)
   unfolding judgement_of
-  told_good BadFields v e = let z : ◌≡◌ {A = ℕ} 0 1 = cc in absurd (omega arith)
-  told_good BadByte v e = let z : ◌≡◌ {A = ℕ} 0 1 = cc in absurd (omega arith)
-  told_good NotExpression v e = let z : ◌≡◌ {A = ℕ} 0 1 = cc in absurd (omega arith)
-  told_good OutOfBounds v e = let z : ◌≡◌ {A = ℕ} 0 1 = cc in absurd (omega arith)
-  told_good (Good w) v e = at (breaks_nesting chain n previous w.depth w.kind) refl e
+  told_good (Err why) v e = let z : ◌≡◌ {A = ℕ} 0 1 = cc in absurd (omega arith)
+  told_good (Ok w) v e = at (breaks_nesting chain n previous w.depth w.kind) refl e
     where
-      at : (m : Bool) → breaks_nesting chain n previous w.depth w.kind ≡ m → cond m (faulty 4) (sound w) ≡ sound v
-          → (Good w ≡ Good v) × (breaks_nesting chain n previous v.depth v.kind ≡ false)
+      at : (m : Bool) → breaks_nesting chain n previous w.depth w.kind ≡ m → ◌≡◌ {A = LineRead} (cond m (Err Nesting) (Ok w)) (Ok v)
+          → (◌≡◌ {A = LineRead} (Ok w) (Ok v)) × (breaks_nesting chain n previous v.depth v.kind ≡ false)
       at true q e = let z : ◌≡◌ {A = ℕ} 0 1 = cc in absurd (omega arith)
-      at false q e = let f : w ≡ v = cc in (ap Good f, rw f at q)
+      at false q e = let f : w ≡ v = cc in (ap Ok f, rw f at q)
 
-  told_faulty : (u y x z m : Bool) (w : Node) (r : Reading) (k line : ℕ) → breaks_nesting chain n previous w.depth w.kind ≡ m
-      → judgement_of chain n previous (answered u y x z w) ≡ faulty k
-      → cond u (Refused 2 line) (cond y (Refused 3 line) (cond x (Refused 13 line) (cond z (Refused 14 line) (cond m (Refused 4 line) r)))) ≡ Refused k line
+  told_faulty : (u y x z m : Bool) (w : Node) (r : Result ℕ Refusal) (why : Reason) (line : ℕ) → breaks_nesting chain n previous w.depth w.kind ≡ m
+      → judgement_of chain n previous (answered u y x z w) ≡ Err why
+      → cond u (Err (refusal reason.Fields line)) (cond y (Err (refusal TextByte line)) (cond x (Err (refusal NoExpression line))
+      (cond z (Err (refusal OutOfBounds line)) (cond m (Err (refusal Nesting line)) r)))) ≡ Err (refusal why line)
   unfolding judgement_of
-  told_faulty true y x z m w r k line q e = let f : 2 ≡ k = cc in rw f
-  told_faulty false true x z m w r k line q e = let f : 3 ≡ k = cc in rw f
-  told_faulty false false true z m w r k line q e = let f : 13 ≡ k = cc in rw f
-  told_faulty false false false true m w r k line q e = let f : 14 ≡ k = cc in rw f
-  told_faulty false false false false true w r k line q e =
-      let g : cond (breaks_nesting chain n previous w.depth w.kind) (faulty 4) (sound w) ≡ faulty k = e in
-      let g' : faulty 4 ≡ faulty k = rw q at g in
-      let f : 4 ≡ k = cc in
+  told_faulty true y x z m w r why line q e = let f : reason.Fields ≡ why = cc in rw f
+  told_faulty false true x z m w r why line q e = let f : TextByte ≡ why = cc in rw f
+  told_faulty false false true z m w r why line q e = let f : NoExpression ≡ why = cc in rw f
+  told_faulty false false false true m w r why line q e = let f : OutOfBounds ≡ why = cc in rw f
+  told_faulty false false false false true w r why line q e =
+      let g : ◌≡◌ {A = LineRead} (cond (breaks_nesting chain n previous w.depth w.kind) (Err Nesting) (Ok w)) (Err why) = e in
+      let g' : ◌≡◌ {A = LineRead} (Err Nesting) (Err why) = rw q at g in
+      let f : Nesting ≡ why = cc in
       rw f
-  told_faulty false false false false false w r k line q e =
-      let g : cond (breaks_nesting chain n previous w.depth w.kind) (faulty 4) (sound w) ≡ faulty k = e in
-      let g' : sound w ≡ faulty k = rw q at g in
+  told_faulty false false false false false w r why line q e =
+      let g : ◌≡◌ {A = LineRead} (cond (breaks_nesting chain n previous w.depth w.kind) (Err Nesting) (Ok w)) (Err why) = e in
+      let g' : ◌≡◌ {A = LineRead} (Ok w) (Err why) = rw q at g in
       let z : ◌≡◌ {A = ℕ} 0 1 = cc in
       absurd (omega arith)
 
@@ -120,7 +119,7 @@ record Fair (u y x z : Bool) (w v : Node) : Type 0 where
   bounds : z ≡ false
   same : w ≡ v
 
-told_line : (u y x z : Bool) (w v : Node) → answered u y x z w ≡ Good v → Fair u y x z w v
+told_line : (u y x z : Bool) (w v : Node) → answered u y x z w ≡ Ok v → Fair u y x z w v
 told_line true y x z w v e = let z : ◌≡◌ {A = ℕ} 0 1 = cc in absurd (omega arith)
 told_line false true x z w v e = let z : ◌≡◌ {A = ℕ} 0 1 = cc in absurd (omega arith)
 told_line false false true z w v e = let z : ◌≡◌ {A = ℕ} 0 1 = cc in absurd (omega arith)
@@ -143,12 +142,12 @@ module _ {s a b chain : List ℕ} {previous at n : ℕ} (t : ReadingLoop s a b c
   line_here = drop_here no_line (sheet_lines s) n here (lines_of after) (lines_drop n (node_pieces s) ∙ ap lines_of rest)
 
   asked : reading_of s ≡
-      cond (is_unread (read_line (piece_at s at))) (Refused 2 (suc n))
-      (cond (has_bad_byte (read_line (piece_at s at))) (Refused 3 (suc n))
-      (cond (not_expression (read_line (piece_at s at))) (Refused 13 (suc n))
-      (cond (out_of_bounds (read_line (piece_at s at))) (Refused 14 (suc n))
-      (cond (misplaced (earlier n (sheet_lines s)) here) (Refused 4 (suc n))
-      (first_answer Refused (Lines (length (sheet_lines s))) (lines_checks (suc (suc n)) (here ∷ earlier n (sheet_lines s)) after ++ end_checks (sheet_lines s)))))))
+      cond (is_unread (read_line (piece_at s at))) (Err (refusal reason.Fields (suc n)))
+      (cond (has_bad_byte (read_line (piece_at s at))) (Err (refusal TextByte (suc n)))
+      (cond (not_expression (read_line (piece_at s at))) (Err (refusal NoExpression (suc n)))
+      (cond (out_of_bounds (read_line (piece_at s at))) (Err (refusal OutOfBounds (suc n)))
+      (cond (misplaced (earlier n (sheet_lines s)) here) (Err (refusal Nesting (suc n)))
+      (first_answer Err (Ok (length (sheet_lines s))) (lines_checks (suc (suc n)) (here ∷ earlier n (sheet_lines s)) after ++ end_checks (sheet_lines s)))))))
   unfolding here lines_checks first_answer
   asked = t.answer ∙ rw rest
 
@@ -156,17 +155,17 @@ module _ {s a b chain : List ℕ} {previous at n : ℕ} (t : ReadingLoop s a b c
   unfolding here
   broken = linked_told t.linked here (piece_ranged (piece_at s at)).0.deep
 
-  pub turns_refuse : (k : ℕ) → judgement_of chain n previous (line_at s at) ≡ faulty k → Refused k (n + 1) ≡ reading_of s
+  pub turns_refuse : (why : Reason) → judgement_of chain n previous (line_at s at) ≡ Err why → Err (refusal why (n + 1)) ≡ reading_of s
   unfolding here line_at line_in
-  turns_refuse k e =
+  turns_refuse why e =
       sym
       (asked
       ∙ told_faulty chain n previous (is_unread (read_line (piece_at s at))) (has_bad_byte (read_line (piece_at s at)))
       (not_expression (read_line (piece_at s at))) (out_of_bounds (read_line (piece_at s at))) (misplaced (earlier n (sheet_lines s)) here)
-      (node_of at (piece_at s at) here) _ k (suc n) broken e
-      ∙ ap (λ (i : ℕ). Refused k i) (sym (add-one n)))
+      (node_of at (piece_at s at) here) _ why (suc n) broken e
+      ∙ ap (λ (i : ℕ). Err (refusal why i)) (sym (add-one n)))
 
-  read_fair : (v : Node) → line_at s at ≡ Good v
+  read_fair : (v : Node) → line_at s at ≡ Ok v
       → Fair (is_unread (read_line (piece_at s at))) (has_bad_byte (read_line (piece_at s at))) (not_expression (read_line (piece_at s at)))
       (out_of_bounds (read_line (piece_at s at))) (node_of at (piece_at s at) here) v
   unfolding here line_at line_in
@@ -176,7 +175,7 @@ module _ {s a b chain : List ℕ} {previous at n : ℕ} (t : ReadingLoop s a b c
   unfolding earlier
   earlier_here = rw (add-one n, line_here.1)
 
-  module _ (good : line_at s at ≡ Good (node_of at (piece_at s at) here)) (fits : breaks_nesting chain n previous here.depth here.kind ≡ false)
+  module _ (good : line_at s at ≡ Ok (node_of at (piece_at s at) here)) (fits : breaks_nesting chain n previous here.depth here.kind ≡ false)
       (c : List ℕ) (r : n < kept_count a) (same : length c ≡ length b) (p : kepts_of c ≡ set (kepts_of b) n (kept_of here)) where
     more : ReadingLoop s a c (set chain here.depth here.kind) here.depth (at + length (piece_at s at).bytes + 1) (n + 1)
     unfolding here after line_at line_in
@@ -196,8 +195,8 @@ module _ {s a b chain : List ℕ} {previous at n : ℕ} (t : ReadingLoop s a b c
         }
 
   -- a sound line is the one that stands at the place
-  as_read : (v : Node) (G : Node → Type 0) → judgement_of chain n previous (line_at s at) ≡ sound v
-      → (line_at s at ≡ Good (node_of at (piece_at s at) here) → breaks_nesting chain n previous here.depth here.kind ≡ false → G (node_of at (piece_at s at) here))
+  as_read : (v : Node) (G : Node → Type 0) → judgement_of chain n previous (line_at s at) ≡ Ok v
+      → (line_at s at ≡ Ok (node_of at (piece_at s at) here) → breaks_nesting chain n previous here.depth here.kind ≡ false → G (node_of at (piece_at s at) here))
       → G v
   unfolding here line_at line_in
   as_read v G e k =
@@ -206,7 +205,7 @@ module _ {s a b chain : List ℕ} {previous at n : ℕ} (t : ReadingLoop s a b c
       subst G q (k (rw (sym q) at g) (rw (sym q) at f))
 
   -- the line as it is kept
-  module _ (x : Brief) (w : (node : Node) × (judgement_of chain n previous (line_at s at) ≡ sound node) × BriefOf node x) where
+  module _ (x : Brief) (w : (node : Node) × (judgement_of chain n previous (line_at s at) ≡ Ok node) × BriefOf node x) where
     pub turns_next : NextLine s at n x.depth x.kind x.next
     unfolding here
     turns_next =

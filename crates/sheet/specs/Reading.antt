@@ -1,17 +1,16 @@
 -- What the reader answers, and what it leaves in the slice that is lent to it. These are definitions; nothing is assumed.
-use Rattle.std.specs.Prelude.{◌≡◌, List, map, ℕ, length, take}
-use Rattle.lists.specs.Refusals.{first_answer}
+use Rattle.std.specs.Prelude.{◌≡◌, List, map, ℕ, length, take, Ok, Result}
+use Rattle.lists.specs.Refusals.{answer_by}
+use Rattle.lists.specs.declared.Refusal.{Refusal}
 use Rattle.records.specs.Kept.{kepts_of}
 use Rattle.records.specs.declared.Kept.{Kept}
 use Rattle.text.specs.Decimal.{shifted}
 use Rattle.line.specs.Fields.{Line, own_size}
 use Rattle.sheet.specs.Sheet.{sheet_checks, sheet_lines}
-use Rattle.sheet.specs.declared.Reading.{Reading}
-use Rattle.sheet.specs.declared.Reading.TheVariants.{Lines, Refused}
 
 -- the number of lines, or the first refusal that applies
-unfoldable pub reading_of : List ℕ → Reading
-reading_of s = first_answer Refused (Lines (length (sheet_lines s))) (sheet_checks s)
+unfoldable pub reading_of : List ℕ → Result ℕ Refusal
+reading_of s = answer_by (length (sheet_lines s)) (sheet_checks s)
 
 -- what is kept of a line: not its text, only the size that it takes by itself. The number n of an ol may be below 0, and what is kept is
 -- not: it stands shifted up by 1,000,000,000, the largest that n can lie from 0, so that 0 is kept for the lowest.
@@ -19,6 +18,6 @@ abbrev pub kept_of : Line → Kept
 kept_of l = record { depth = l.depth; kind = l.kind; number = shifted l.n; cols = l.cols; rows = l.rows; own = own_size l }
 
 -- what the reader does with a sheet: its answer, and if it accepts, what the slice holds then
-pub record Reads (s : List ℕ) (r : Reading) (lines : List ℕ) : Type 0 where
+pub record Reads (s : List ℕ) (r : Result ℕ Refusal) (lines : List ℕ) : Type 0 where
   pub answer : r ≡ reading_of s
-  pub stored : (n : ℕ) → r ≡ Lines n → take n (kepts_of lines) ≡ map kept_of (sheet_lines s)
+  pub stored : (n : ℕ) → r ≡ Ok n → take n (kepts_of lines) ≡ map kept_of (sheet_lines s)

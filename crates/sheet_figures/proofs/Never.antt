@@ -1,5 +1,8 @@
 -- No call answers 7, whatever the sheet: the answer of every call is what it accepts, or a refusal of another number. By the numbers of the checks.
 -- Assumes nothing.
+use Rattle.lists.specs.declared.Reason.{Reason}
+use Rattle.lists.specs.declared.Reason.TheVariants.{Fields, Heading, Nesting, NoExpression, NoTable, OutOfBounds, RowEnd, TextByte, TooLong, TooManyEntries}
+use Rattle.lists.specs.declared.Refusal.{Refusal}
 use mathlib.Core.Path.{◌≡◌, refl}
 use mathlib.Core.Logic.{◌⊎◌, inl, inr}
 use mathlib.Core.Bool.{Bool, true, false, cond}
@@ -7,7 +10,7 @@ use mathlib.Core.List.{List, [], ◌∷◌, ◌++◌}
 use Prim.Native.Nat.{ℕ, suc}
 use native.Mathlib.Omega.{arith}
 use lib.Dec.{eqb}
-use Rattle.lists.specs.Refusals.{Check, check, first_answer}
+use Rattle.lists.specs.Refusals.{reason_number, Check, check, first_answer}
 use Rattle.lists.specs.Lists.{All}
 use Rattle.lists.proofs.All.{all_append}
 use Rattle.kinds.specs.Kinds.{table_kind}
@@ -23,13 +26,13 @@ use Rattle.sheet_figures.specs.Calls.{check_checks, asked_checks}
 
 -- a check of another refusal
 abbrev pub Other : Check → Type 0
-Other c = c.number ≡ 7 → ⊥
+Other c = reason_number c.refusal.reason ≡ 7 → ⊥
 
 pub no_more : All Other []
 unfolding All
 no_more = tt
 
-pub more : (n : ℕ) → (n ≡ 7 → ⊥) → (b : Bool) (line : ℕ) (cs : List Check) → All Other cs → All Other (check b n line ∷ cs)
+pub more : (n : Reason) → (reason_number n ≡ 7 → ⊥) → (b : Bool) (line : ℕ) (cs : List Check) → All Other cs → All Other (check b n line ∷ cs)
 unfolding All
 more n p b line cs ps = (p, ps)
 
@@ -39,25 +42,25 @@ lines_other : (k : ℕ) (earlier : List Line) (ps : List Piece) → All Other (l
 unfolding lines_checks
 lines_other k earlier [] = no_more
 lines_other k earlier (p ∷ ps) =
-    more 2 (λ e. omega (arith, e)) _ _ _
-    (more 3 (λ e. omega (arith, e)) _ _ _
-    (more 13 (λ e. omega (arith, e)) _ _ _
-    (more 14 (λ e. omega (arith, e)) _ _ _
-    (more 4 (λ e. omega (arith, e)) _ _ _ (lines_other (suc k) (or_none (read_line p) ∷ earlier) ps)))))
+    more Fields (λ e. omega (arith, e)) _ _ _
+    (more TextByte (λ e. omega (arith, e)) _ _ _
+    (more NoExpression (λ e. omega (arith, e)) _ _ _
+    (more OutOfBounds (λ e. omega (arith, e)) _ _ _
+    (more Nesting (λ e. omega (arith, e)) _ _ _ (lines_other (suc k) (or_none (read_line p) ∷ earlier) ps)))))
 
 empty_other : (k : ℕ) (ls : List Line) → All Other (empty_checks k ls)
 unfolding empty_checks
 empty_other k [] = no_more
-empty_other k (l ∷ ls) = more 4 (λ e. omega (arith, e)) _ _ _ (empty_other (suc k) ls)
+empty_other k (l ∷ ls) = more Nesting (λ e. omega (arith, e)) _ _ _ (empty_other (suc k) ls)
 
 sheet_other : (s : List ℕ) → All Other (sheet_checks s)
 unfolding sheet_checks
 sheet_other s =
-    more 8 (λ e. omega (arith, e)) _ _ _ (more 1 (λ e. omega (arith, e)) _ _ _ (all_append Other _ _ (lines_other 1 [] (node_pieces s)) (more 4 (λ e. omega (arith, e)) _ _ _ (empty_other 1 (sheet_lines s)))))
+    more TooLong (λ e. omega (arith, e)) _ _ _ (more Heading (λ e. omega (arith, e)) _ _ _ (all_append Other _ _ (lines_other 1 [] (node_pieces s)) (more Nesting (λ e. omega (arith, e)) _ _ _ (empty_other 1 (sheet_lines s)))))
 
 table_other : (t : ℕ) (table : List cells.Row) → All Other (table_checks t table)
 unfolding table_checks
-table_other t table = more 5 (λ e. omega (arith, e)) _ _ _ (more 6 (λ e. omega (arith, e)) _ _ _ no_more)
+table_other t table = more RowEnd (λ e. omega (arith, e)) _ _ _ (more TooManyEntries (λ e. omega (arith, e)) _ _ _ no_more)
 
 tables_other : (t : ℕ) (ls : List Kept) → All Other (tables_checks t ls)
 unfolding tables_checks
@@ -75,22 +78,21 @@ check_other s = all_append Other _ _ (sheet_other s) (tables_other 1 (kept_lines
 
 -- those of a call that asks for a table
 pub asked_other : (arguments : List Check) → All Other arguments → (s : List ℕ) (line : ℕ) → All Other (arguments ++ asked_checks s line)
-asked_other arguments a s line = all_append Other _ _ a (all_append Other _ _ (sheet_other s) (more 10 (λ e. omega (arith, e)) _ _ _ (tables_other 1 (kept_lines s))))
+asked_other arguments a s line = all_append Other _ _ a (all_append Other _ _ (sheet_other s) (more NoTable (λ e. omega (arith, e)) _ _ _ (tables_other 1 (kept_lines s))))
 
 -- ---- the answers
 
-pub record Refusal {A : Type 0} (refused : ℕ → ℕ → A) (answer : A) : Type 0 where
-  pub number : ℕ
-  pub line : ℕ
-  pub other : number ≡ 7 → ⊥
-  pub is : answer ≡ refused number line
+pub record Refused {A : Type 0} (refused : Refusal → A) (answer : A) : Type 0 where
+  pub why : Refusal
+  pub other : reason_number why.reason ≡ 7 → ⊥
+  pub is : answer ≡ refused why
 
-pub never_seven : {A : Type 0} (refused : ℕ → ℕ → A) (accepted : A) (cs : List Check) → All Other cs → (first_answer refused accepted cs ≡ accepted) ⊎ Refusal refused (first_answer refused accepted cs)
+pub never_seven : {A : Type 0} (refused : Refusal → A) (accepted : A) (cs : List Check) → All Other cs → (first_answer refused accepted cs ≡ accepted) ⊎ Refused refused (first_answer refused accepted cs)
 unfolding All first_answer
 never_seven refused accepted [] p = inl refl
 never_seven refused accepted (c ∷ cs) p = go c.applies (never_seven refused accepted cs p.1)
   where
-    go : (b : Bool) → (first_answer refused accepted cs ≡ accepted) ⊎ Refusal refused (first_answer refused accepted cs)
-        → (cond b (refused c.number c.line) (first_answer refused accepted cs) ≡ accepted) ⊎ Refusal refused (cond b (refused c.number c.line) (first_answer refused accepted cs))
-    go true r = inr (record { number = c.number; line = c.line; other = p.0; is = refl })
+    go : (b : Bool) → (first_answer refused accepted cs ≡ accepted) ⊎ Refused refused (first_answer refused accepted cs)
+        → (cond b (refused c.refusal) (first_answer refused accepted cs) ≡ accepted) ⊎ Refused refused (cond b (refused c.refusal) (first_answer refused accepted cs))
+    go true r = inr (record { why = c.refusal; other = p.0; is = refl })
     go false r = r

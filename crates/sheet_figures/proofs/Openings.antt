@@ -1,4 +1,7 @@
 -- What the answer of opening a sheet says of the checks, of the sheet's lines and of the line that a call asks for. Assumes nothing.
+use mathlib.Core.Logic.{inl, inr}
+use Rattle.lists.specs.declared.Refusal.{Refusal}
+use Rattle.std.specs.Prelude.{Err, Ok, Result, Option, Some}
 use mathlib.Core.Path.{◌≡◌, refl, sym, ap, ◌∙◌}
 use mathlib.Core.Bool.{Bool, true, false}
 use mathlib.Core.List.{List, [], append-nil}
@@ -10,12 +13,10 @@ use Rattle.records.specs.Kept.{kept_count, kepts_of}
 use Rattle.records.proofs.Kepts.{kepts_take}
 use Rattle.sheet.specs.Sheet.{sheet_lines}
 use Rattle.sheet.specs.Steps.{room_for}
-use Rattle.sheet.specs.declared.Reading.{Reading}
-use Rattle.sheet.specs.declared.Reading.TheVariants.{Lines, Refused}
 use Rattle.sheet.proofs.First.{first_passes, first_carries}
 use Rattle.opening.specs.Opening.{kept_lines, open_checks, opened_of}
 use Rattle.opening.specs.inner.Opened.{Apt, Opened}
-use Rattle.opening.specs.inner.Measures.{LinesIn, SufficeIn}
+use Rattle.opening.specs.inner.Measures.{LinesIn, Enough, EnoughIn}
 use Rattle.opening.proofs.Answers.{table_apt}
 use Rattle.opening.proofs.Ready.{kept_lined, kept_nests}
 use Rattle.opening.proofs.Opens.{opened_asked}
@@ -26,55 +27,55 @@ use Rattle.sheet_figures.specs.inner.Opened.{lines_in, AskedIn, MostIn, OpenedAt
 
 -- ---- the checks
 
-module _ (asks : Bool) (s : List ℕ) (line : ℕ) where
+module _ (asked : Option ℕ) (s : List ℕ) where
   -- a refused sheet has not passed every check
-  pub failed : (number l : ℕ) → opened_of asks s line ≡ Refused number l → passes (open_checks asks s line) ≡ false
+  pub failed : (why : Refusal) → opened_of asked s ≡ Err why → passes (open_checks asked s) ≡ false
   unfolding opened_of
-  failed number l e = at (passes (open_checks asks s line)) refl
+  failed why e = at (passes (open_checks asked s)) refl
     where
-      at : (b : Bool) → passes (open_checks asks s line) ≡ b → b ≡ false
+      at : (b : Bool) → passes (open_checks asked s) ≡ b → b ≡ false
       at true p =
-          let q = sym (first_passes Refused (Lines (length (sheet_lines s))) (open_checks asks s line) p) ∙ e in
+          let q = sym (first_passes Err (Ok (length (sheet_lines s))) (open_checks asked s) p) ∙ e in
           let z : ◌≡◌ {A = ℕ} 0 1 = cc in absurd (omega arith)
       at false p = refl
 
   -- and every call that asks the same refuses it so
-  pub told : {A : Type 0} (refused : ℕ → ℕ → A) (accepted : A) (number l : ℕ) → opened_of asks s line ≡ Refused number l
-      → first_answer refused accepted (open_checks asks s line) ≡ refused number l
+  pub told : {A : Type 0} (refused : Refusal → A) (accepted : A) (why : Refusal) → opened_of asked s ≡ Err why
+      → first_answer refused accepted (open_checks asked s) ≡ refused why
   unfolding opened_of
-  told refused accepted number l e =
-      let cs = open_checks asks s line in
+  told refused accepted why e =
+      let cs = open_checks asked s in
       ap (first_answer refused accepted) (sym (append-nil cs))
-      ∙ first_carries Refused (Lines (length (sheet_lines s))) refused accepted number l (λ n m f. (cc, cc)) (λ f. let z : ◌≡◌ {A = ℕ} 0 1 = cc in omega arith) cs [] e
+      ∙ first_carries Err (Ok (length (sheet_lines s))) refused accepted why (λ w f. cc) (λ f. let z : ◌≡◌ {A = ℕ} 0 1 = cc in omega arith) cs [] e
 
   -- there are no more lines than there is room for
-  pub lines_few : (r : Reading) → r ≡ opened_of asks s line → lines_in r ≤ room_for s
+  pub lines_few : (r : Result ℕ Refusal) → r ≡ opened_of asked s → lines_in r ≤ room_for s
   unfolding lines_in
-  lines_few (Lines n) e = (passed asks s line n (sym e)).room
-  lines_few (Refused number l) e = omega arith
+  lines_few (Ok n) e = (passed asked s n (sym e)).room
+  lines_few (Err why) e = omega arith
 
   -- the lines are the first records
-  pub lines_in_fits : {r : Reading} {lines : List ℕ} → Opened asks s line r lines → room_for s ≤ kept_count lines → LinesIn r lines
-  lines_in_fits w h n e = omega (arith, (passed asks s line n (sym w.answer ∙ e)).room)
+  pub lines_in_fits : {r : Result ℕ Refusal} {lines : List ℕ} → Opened asked s r lines → room_for s ≤ kept_count lines → LinesIn r lines
+  lines_in_fits w h n e = omega (arith, (passed asked s n (sym w.answer ∙ e)).room)
 
 -- ---- the line asked for
 
-module _ {s : List ℕ} {line : ℕ} {r : Reading} {lines : List ℕ} (w : Opened true s line r lines) where
+module _ {s : List ℕ} {line : ℕ} {r : Result ℕ Refusal} {lines : List ℕ} (w : Opened (Some line) s r lines) where
   pub opened_at : OpenedAt s line r lines
   opened_at = record {
     answer = w.answer;
     holds = w.holds;
     sound = λ n e.
-        let t = table_apt (kept_lines s) line (opened_asked true s line n (sym w.answer ∙ e) refl) in
+        let t = table_apt (kept_lines s) line (opened_asked (Some line) s n (sym w.answer ∙ e) line refl) in
         (w.sound n e).at (line - 1) (omega (arith, t.from_one, t.within)) t.kind;
   }
 
-module _ {s : List ℕ} {line : ℕ} {r : Reading} {lines : List ℕ} (w : OpenedAt s line r lines) where
-  pub opened_passed : (n : ℕ) → r ≡ Lines n → Passed true s line n
-  opened_passed n e = passed true s line n (sym w.answer ∙ e)
+module _ {s : List ℕ} {line : ℕ} {r : Result ℕ Refusal} {lines : List ℕ} (w : OpenedAt s line r lines) where
+  pub opened_passed : (n : ℕ) → r ≡ Ok n → Passed (Some line) s n
+  opened_passed n e = passed (Some line) s n (sym w.answer ∙ e)
 
-  pub opened_apt : (n : ℕ) → r ≡ Lines n → Apt (kept_lines s) line
-  opened_apt n e = table_apt (kept_lines s) line (opened_asked true s line n (sym w.answer ∙ e) refl)
+  pub opened_apt : (n : ℕ) → r ≡ Ok n → Apt (kept_lines s) line
+  opened_apt n e = table_apt (kept_lines s) line (opened_asked (Some line) s n (sym w.answer ∙ e) line refl)
 
   pub asked_in : room_for s ≤ kept_count lines → AskedIn r lines line
   asked_in h = record {
@@ -93,23 +94,24 @@ module _ {s : List ℕ} {line : ℕ} {r : Reading} {lines : List ℕ} (w : Opene
   }
 
 -- the same of the lines that stand in the first places
-pub front_asked : {read : Reading} {lines : List ℕ} {line n : ℕ} → AskedIn read lines line → read ≡ Lines n → Asked (kepts_of (take (2 * n) lines)) line
+pub front_asked : {read : Result ℕ Refusal} {lines : List ℕ} {line n : ℕ} → AskedIn read lines line → read ≡ Ok n → Asked (kepts_of (take (2 * n) lines)) line
 front_asked {lines = lines} {n = n} a e = rw (kepts_take lines n (a.front n e)) (a.asked n e)
 
 -- ---- records for its grid
 
-pub most_few : {read : Reading} {lines : List ℕ} {line e r : ℕ} → AskedIn read lines line → SufficeIn read lines e r → MostIn read lines line e r
-most_few a z n e = suffice_most (a.asked n e) (z n e)
+pub most_few : {read : Result ℕ Refusal} {lines : List ℕ} {line most held : ℕ} → AskedIn read lines line → EnoughIn read lines most held → MostIn read lines line most held
+most_few {read} {lines} {line} {most} {held} a z n e = by (z n e)
+  where
+    by : Enough most held (take n (kepts_of lines)) → Most most held (take n (kepts_of lines)) line
+    by (inl s) = suffice_most (a.asked n e) s
+    by (inr m) = let t = any_most (a.asked n e) in record { entries_most = omega (arith, t.entries_most, m.0); lines_most = omega (arith, t.lines_most, m.1) }
 
-pub most_any : {read : Reading} {lines : List ℕ} {line : ℕ} → AskedIn read lines line → MostIn read lines line 8192 4096
+pub most_any : {read : Result ℕ Refusal} {lines : List ℕ} {line : ℕ} → AskedIn read lines line → MostIn read lines line 8192 4096
 most_any a n e = any_most (a.asked n e)
 
-pub front_most : {read : Reading} {lines : List ℕ} {line e r n : ℕ} → AskedIn read lines line → MostIn read lines line e r → read ≡ Lines n → Most e r (kepts_of (take (2 * n) lines)) line
+pub front_most : {read : Result ℕ Refusal} {lines : List ℕ} {line e r n : ℕ} → AskedIn read lines line → MostIn read lines line e r → read ≡ Ok n → Most e r (kepts_of (take (2 * n) lines)) line
 front_most {lines = lines} {n = n} a m e = rw (kepts_take lines n (a.front n e)) (m n e)
 
 -- where fewer do
-pub most_room : {read : Reading} {lines : List ℕ} {line e r e' r' : ℕ} → AskedIn read lines line → MostIn read lines line e r → e ≤ e' → r ≤ r' → MostIn read lines line e' r'
+pub most_room : {read : Result ℕ Refusal} {lines : List ℕ} {line e r e' r' : ℕ} → AskedIn read lines line → MostIn read lines line e r → e ≤ e' → r ≤ r' → MostIn read lines line e' r'
 most_room a m h g n e = record { entries_most = omega (arith, (m n e).entries_most); lines_most = omega (arith, (m n e).lines_most) }
-
-pub suffice_room : (read : Reading) (lines : List ℕ) {e r e' r' : ℕ} → SufficeIn read lines e r → e ≤ e' → r ≤ r' → SufficeIn read lines e' r'
-suffice_room read lines z h g n e = let s = z n e in record { few = omega (arith, s.few); most = s.most; within = omega (arith, s.within); small = s.small; bound = s.bound }

@@ -4,14 +4,12 @@
 ghost use Rattle.std.specs.Prelude.{◌≡◌};
 ghost use Rattle.sheet_figures.specs.inner.Opened.{lines_in};
 
-use sheet::Reading;
+use lists::Refusal;
 
 // How many lines were read; 0 if the sheet is refused.
-pub fn line_count(read: Reading) -> usize
+#[tactic(auto, unfolding(crate::specs::inner::Opened::lines_in))]
+pub fn line_count(read: Result<usize, Refusal>) -> usize
     ensures { result ≡ lines_in read }
 {
-    match read {
-        Reading::Lines(n) => n,
-        Reading::Refused { number: _, line: _ } => 0,
-    }
+    read.unwrap_or(0)
 }

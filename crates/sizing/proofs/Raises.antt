@@ -4,10 +4,8 @@ use mathlib.Core.Path.{◌≡◌, sym, ap, ap₂, ◌∙◌}
 use mathlib.Core.List.{List, [], ◌++◌, map}
 use Prim.Native.Nat.{ℕ, ◌+◌, ◌/◌, ◌≤◌, ◌<◌, max}
 use native.Mathlib.Omega.{arith}
-use lib.ListN.{length, get_or, take, drop, length-map, get_or-map}
+use lib.ListN.{length, get_or, take, drop, replicate, length-replicate, length-map, get_or-map}
 use lib.Seq.{take_all}
-use Rattle.lists.specs.Lists.{padded}
-use Rattle.lists.proofs.Write.{length_padded}
 use Rattle.lists.proofs.All.{at_all}
 use Rattle.text.specs.declared.Estimate.{Estimate}
 use Rattle.records.specs.Kept.{no_entry}
@@ -28,10 +26,10 @@ module _ {es : List Entry} {figures : List Estimate} {sizes₀ leasts₀ : List 
   abbrev bs : List Box
   bs = map (entry_box figures) es
 
-  none_yet : (f : Box → ℕ) (m : ℕ) (l : List ℕ) → l ≡ padded m [] → m ≡ n → l ≡ largest f [] n
-  none_yet f m l e d = rw (← (ap length e ∙ length_padded m [] (omega arith) ∙ d)) (largest_none f m l e)
+  none_yet : (f : Box → ℕ) (m : ℕ) (l : List ℕ) → l ≡ replicate m 0 → m ≡ n → l ≡ largest f [] n
+  none_yet f m l e d = rw (← (ap length e ∙ length-replicate m 0 ∙ d)) (largest_none f m l e)
 
-  pub raise_start : {sizes leasts : List ℕ} → sizes ≡ padded (length sizes₀) [] → leasts ≡ padded (length leasts₀) [] → Sofar es figures n sizes leasts 0
+  pub raise_start : {sizes leasts : List ℕ} → sizes ≡ replicate (length sizes₀) 0 → leasts ≡ replicate (length leasts₀) 0 → Sofar es figures n sizes leasts 0
   raise_start {sizes} {leasts} e f =
       record {
         at_most = omega arith;

@@ -21,14 +21,9 @@ fn figures_of(figures: &[u32], cell: u32) -> Estimate
     ensures { result ≡ figure_at (figures_of figures.now) cell }
 {
     if cell == 0 {
-        return Estimate {
-            size: 0,
-            least: 0,
-            prefix: 0,
-        };
+        return estimates::NONE;
     }
-    let at = lists::index(cell - 1);
-    estimates::packed::estimate_at(figures, at)
+    estimates::packed::estimate_at(figures, (cell - 1) as usize)
 }
 
 // The largest quotient of figure and span in each column, as `render_table_tree` takes it of sizes and of least widths.
@@ -37,22 +32,17 @@ pub fn raise_columns(entries: &[u32], figures: &[u32], sizes: &mut [u32], leasts
     requires { Raisable (entries_of entries.now) (figures_of figures.now) sizes.old leasts.old }
     ensures { Raised (entries_of entries.now) (figures_of figures.now) (length sizes.old) sizes.new leasts.new }
 {
-    // none of the places of another slice, and then zeros
-    lists::copy_out(entries, 0, sizes);
-    lists::copy_out(entries, 0, leasts);
-    let count = entries.len() / 3;
-    let mut i = 0;
-    while i < count {
+    sizes.fill(0);
+    leasts.fill(0);
+    for i in 0..entries.len() / 3 {
         let e = records::entry_at(entries, i);
         let f = figures_of(figures, e.cell);
-        if f.size == 0 {
-            i += 1; // nothing to raise, as with every filler: no least is above its size
-        } else {
-            let from = lists::index(e.first);
-            let to = from + lists::index(e.span);
+        // without a size, as with every filler, there is nothing to raise: no least is above its size
+        if f.size != 0 {
+            let from = e.first as usize;
+            let to = from + e.span as usize;
             columns::raise(&mut sizes[from..to], f.size / e.span);
             columns::raise(&mut leasts[from..to], f.least / e.span);
-            i += 1;
         }
     }
 }
@@ -105,33 +95,21 @@ fn lay_front(
     )
 }
 
-// Few columns.
-fn lay_few(entries: &[u32], figures: &[u32], raw: u32, width: u32, column: &mut [u32]) -> Laid
+// The same in room of N places of its own.
+fn lay_sized<const N: usize>(
+    entries: &[u32],
+    figures: &[u32],
+    raw: u32,
+    width: u32,
+    column: &mut [u32],
+) -> Laid
     requires entered { Entered (entries_of entries.now) (figures_of figures.now) (length column.old) }
-    requires column_len_bound { length column.old ≤ 64 }
+    requires room { length column.old ≤ N }
+    requires few { N ≤ max_position }
     ensures { LaidOut (sizes_in (entries_of entries.now) (figures_of figures.now) (length column.old)) (leasts_in (entries_of entries.now) (figures_of figures.now) (length column.old)) raw width column.new result }
 {
-    let mut sizes = [0u32; FEW_COLUMNS];
-    let mut leasts = [0u32; FEW_COLUMNS];
-    lay_front(
-        entries,
-        figures,
-        raw,
-        width,
-        &mut sizes,
-        &mut leasts,
-        column,
-    )
-}
-
-// Any number of columns.
-fn lay_many(entries: &[u32], figures: &[u32], raw: u32, width: u32, column: &mut [u32]) -> Laid
-    requires entered { Entered (entries_of entries.now) (figures_of figures.now) (length column.old) }
-    requires column_len_bound { length column.old ≤ max_position }
-    ensures { LaidOut (sizes_in (entries_of entries.now) (figures_of figures.now) (length column.old)) (leasts_in (entries_of entries.now) (figures_of figures.now) (length column.old)) raw width column.new result }
-{
-    let mut sizes = [0u32; MAX_POSITION];
-    let mut leasts = [0u32; MAX_POSITION];
+    let mut sizes = [0u32; N];
+    let mut leasts = [0u32; N];
     lay_front(
         entries,
         figures,
@@ -156,8 +134,8 @@ pub fn lay_columns(
     ensures { LaidOut (sizes_in (entries_of entries.now) (figures_of figures.now) (length column.old)) (leasts_in (entries_of entries.now) (figures_of figures.now) (length column.old)) raw width column.new result }
 {
     if column.len() <= FEW_COLUMNS {
-        lay_few(entries, figures, raw, width, column)
+        lay_sized::<FEW_COLUMNS>(entries, figures, raw, width, column)
     } else {
-        lay_many(entries, figures, raw, width, column)
+        lay_sized::<MAX_POSITION>(entries, figures, raw, width, column)
     }
 }

@@ -1,4 +1,6 @@
 -- One table of a measured sheet, laid out: the row's place among its entries, and every row's places in the slices. Assumes nothing.
+use Rattle.lists.specs.declared.Refusal.{Refusal}
+use Rattle.std.specs.Prelude.{Result}
 use mathlib.Core.Path.{◌≡◌, sym, ap, ◌∙◌}
 use mathlib.Core.List.{List, map}
 use Prim.Native.Nat.{ℕ, suc, ◌+◌, ◌-◌, ◌≤◌, ◌/◌}
@@ -30,7 +32,7 @@ use Rattle.table.specs.inner.Asked.{Asked}
 use Rattle.table.specs.inner.Room.{LayoutRoom}
 use Rattle.table.proofs.LayoutFitted.{layout_room}
 use Rattle.spots.specs.Rows.{start_in}
-use Rattle.spots.specs.declared.Spot.{Spot}
+use Rattle.spots.specs.declared.Span.{Span}
 use Rattle.spots.specs.inner.Spots.{HasRows, spot_in, PlacesRoom, RowsTold, SpotMade}
 use Rattle.spots.proofs.RowStarts.{start_all, start_next, start_boxes}
 
@@ -77,7 +79,7 @@ module _ {ks : List Kept} {line : ℕ} (a : Asked ks line) where
     pub rows_enough : max_lines ≤ length rows / 2 → counts.rows ≤ length rows / 2
     rows_enough h = omega (arith, m.made.rows_are, grid_rows T a.sound, held_few ks (line - 1), a.lined.short)
 
-    pub spot_made : {row : ℕ} {r : Spot} → PlacesRoom x wide → ((g : List GridRow) → HasRows counts.rows rows g → r ≡ spot_in laid.way g row)
+    pub spot_made : {row : ℕ} {r : Result Span Refusal} → PlacesRoom x wide → ((g : List GridRow) → HasRows counts.rows rows g → r ≡ spot_in laid.way g row)
         → SpotMade ks line figures raw width row r x wide
     spot_made {row} room s = record {
       made = λ wrap f.

@@ -1,4 +1,6 @@
 -- Where the rows of a grid start among its entries: by the records of the rows, and by the rows of boxes. Assumes nothing.
+use Rattle.lists.specs.declared.Reason.TheVariants.{NoTable}
+use Rattle.std.specs.Prelude.{Ok, Err}
 use mathlib.Core.Path.{◌≡◌, refl, sym, ap, ◌∙◌}
 use mathlib.Core.Bool.{true, false}
 use mathlib.Core.List.{List, [], ◌∷◌, map}
@@ -9,7 +11,7 @@ use native.Mathlib.Omega.{arith}
 use lib.ListN.{length, get_or, take, length-append, length-map}
 use lib.Seq.{length-take-le, take_all, get_or-take}
 use borrow.Author.Tests.{le-leb, lt-leb}
-use Rattle.lists.specs.Refusals.{first_answer}
+use Rattle.lists.specs.Refusals.{first_answer, refusal}
 use Rattle.records.specs.Kept.{no_row, row_by, rows_of}
 use Rattle.records.specs.declared.Row.{Row}
 use Rattle.records.proofs.Records.{length_of}
@@ -18,8 +20,7 @@ use Rattle.grid.specs.Grid.{Entry, GridRow, entries_of}
 use Rattle.gridding.specs.Packed.{ended_rows}
 use Rattle.answers.specs.declared.Way.{Way}
 use Rattle.spots.specs.Rows.{start_in, goes_down}
-use Rattle.spots.specs.declared.Spot.TheVariants as spot
-use Rattle.spots.specs.inner.Spots.{HasRows, spot_in}
+use Rattle.spots.specs.inner.Spots.{HasRows, span_with, spot_in}
 
 start_cons : (r : GridRow) (g : List GridRow) (k : ℕ) → start_in (r ∷ g) (suc k) ≡ length r.entries + start_in g k
 unfolding entries_of
@@ -110,15 +111,15 @@ module _ (n : ℕ) (rows : List ℕ) (room : n ≤ length rows / 2) (g : List Gr
 -- ---- the row
 
 module _ (way : Way) (g : List GridRow) (row : ℕ) where
-  pub spot_down : goes_down way ≡ true → spot.Refused 10 0 ≡ spot_in way g row
+  pub spot_down : goes_down way ≡ true → Err (refusal NoTable 0) ≡ spot_in way g row
   unfolding spot_in first_answer
   spot_down d = rw d
 
   module _ (side : goes_down way ≡ false) where
-    pub spot_past : length g ≤ row → spot.Refused 10 0 ≡ spot_in way g row
+    pub spot_past : length g ≤ row → Err (refusal NoTable 0) ≡ spot_in way g row
     unfolding spot_in first_answer
     spot_past h = rw (side, le-leb (length g) row h)
 
-    pub spot_there : {a b c : ℕ} → row < length g → a ≡ start_in g row → b ≡ start_in g (row + 1) → c ≡ start_in g (row + 2) → spot.Row a b c ≡ spot_in way g row
+    pub spot_there : {a b c : ℕ} → row < length g → a ≡ start_in g row → b ≡ start_in g (row + 1) → c ≡ start_in g (row + 2) → Ok (span_with a b c) ≡ spot_in way g row
     unfolding spot_in first_answer
     spot_there h p q r = rw (side, lt-leb (length g) row h, p, q, r)

@@ -1,4 +1,5 @@
 -- A row of a table's grid: its entries, their places, and the refusal where there is no such row. These are definitions; nothing is assumed.
+use Rattle.lists.specs.declared.Reason.TheVariants.{NoTable}
 use Rattle.std.specs.Prelude.{Bool, true, false, ◌||◌, List, [], ℕ, leb, length, get_or, take}
 use Rattle.lists.specs.Refusals.{Check, check}
 use Rattle.grid.specs.Grid.{GridRow, entries_of}
@@ -30,7 +31,7 @@ goes_down Down = true
 
 -- 10: the table goes down, or has no such row
 abbrev pub row_check : Way → List GridRow → ℕ → Check
-row_check way g row = check (goes_down way || leb (length g) row) 10 0
+row_check way g row = check (goes_down way || leb (length g) row) NoTable 0
 
 abbrev pub late_check : List ℕ → ℕ → ℕ → ℕ → ℕ → ℕ → Check
 late_check s line wrap raw width row = row_check (way_at s line wrap raw width) (rows_at s line) row

@@ -4,90 +4,75 @@
 mod making; // the row of one table of a measured sheet
 mod starts; // where the rows of a grid start
 
-ghost use Rattle.std.specs.Prelude.{◌≡◌, true, ◌∷◌, ◌/◌, ◌≤◌, length};
+ghost use Rattle.std.specs.Prelude.{◌≡◌, true, ◌∷◌, ◌/◌, ◌≤◌, length, Some};
 ghost use Rattle.lists.specs.Limits.{max_entries, max_lines, max_size};
-ghost use Rattle.lists.specs.declared.Verdict.TheVariants.{Accepted};
 ghost use Rattle.estimates.specs.inner.Figures.{figures_of};
 ghost use Rattle.opening.specs.Opening.{open_checks};
 ghost use Rattle.sheet_figures.specs.inner.Opened.{AskedIn, MeasuredIn};
 ghost use Rattle.sheet_figures.specs.inner.Early.{early};
 ghost use Rattle.spots.specs.inner.Spots.{PlacesRoom, SpotRead, SpotFound};
 
-use lists::{MAX_ENTRIES, MAX_LINES, Verdict};
-use sheet::Reading;
+use arguments::Settings;
+use lists::{MAX_ENTRIES, MAX_LINES, Refusal};
 
-// Where a row stands: the numbers of the entries at which it starts, at which it ends, and at which the next one ends; or the refusal.
-#[derive(Clone, Copy)]
-pub enum Spot {
-    Row {
-        first: usize,
-        end: usize,
-        next: usize,
-    },
-    Refused {
-        number: u32,
-        line: u32,
-    },
+// Where a row stands: the numbers of the entries at which it starts, at which it ends, and at which the next one ends.
+#[derive(Clone, Copy, Debug, PartialEq, Eq)]
+pub struct Span {
+    pub first: usize,
+    pub end: usize,
+    pub next: usize,
 }
 
 // That of the table in a line of a measured sheet, or the refusal. The sheet's lines are the first records.
 fn find_read(
-    read: Reading,
+    read: Result<usize, Refusal>,
     line: u32,
     lines: &[u32],
     figures: &[u32],
-    raw: u32,
-    width: u32,
+    settings: Settings,
     row: u32,
     entries: &mut [u32],
     rows: &mut [u32],
     column: &mut [u32],
     x: &mut [u32],
     wide: &mut [u32],
-) -> Spot
+) -> Result<Span, Refusal>
     requires asked_in { AskedIn read lines.now line }
     requires max_entries_in_bounds { (max_entries ≤ length entries.old / 3) × (max_lines ≤ length rows.old / 2) }
     requires max_lines_in_bounds { max_lines ≤ length column.old }
     requires measured_in { MeasuredIn read lines.now line (figures_of figures.now) }
-    requires width_le_max_size { width ≤ max_size }
+    requires width_le_max_size { settings.width ≤ max_size }
     requires places_room { PlacesRoom x.old wide.old }
-    ensures { SpotRead read lines.now line (figures_of figures.now) raw width row result x.new wide.new }
+    ensures { SpotRead read lines.now line (figures_of figures.now) settings.raw settings.width row result x.new wide.new }
 {
-    match read {
-        Reading::Refused { number, line: at } => Spot::Refused { number, line: at },
-        Reading::Lines(n) => {
-            let end = records::WIDTH * n;
-            crate::making::find_row(
-                line,
-                &lines[..end],
-                figures,
-                raw,
-                width,
-                row,
-                entries,
-                rows,
-                column,
-                x,
-                wide,
-            )
-        }
-    }
+    let n = read?;
+    let end = records::WIDTH * n;
+    crate::making::find_row(
+        line,
+        &lines[..end],
+        figures,
+        settings,
+        row,
+        entries,
+        rows,
+        column,
+        x,
+        wide,
+    )
 }
 
 // Opens and measures the sheet. All below works in these arrays.
 fn find_sheet(
     sheet: &[u8],
     line: u32,
-    wrap: u32,
-    raw: u32,
-    width: u32,
+    settings: Settings,
     row: u32,
     x: &mut [u32],
     wide: &mut [u32],
-) -> Spot
-    requires width_le_max_size { width ≤ max_size }
+) -> Result<Span, Refusal>
+    requires width_le_max_size { settings.width ≤ max_size }
     requires places_room { PlacesRoom x.old wide.old }
-    ensures { SpotFound (open_checks true sheet.now line) sheet.now line wrap raw width row result x.new wide.new }
+    ensures { SpotFound (open_checks (Some line) sheet.now) sheet.now line settings.wrap settings.raw settings.width row result x.new wide.new }
 {
     let mut lines = [0u32; records::WIDTH * MAX_LINES];
     let mut figures = [0u32; 3 * MAX_LINES];
@@ -97,7 +82,7 @@ fn find_sheet(
     let read = opening::measuring::measure_table(
         sheet,
         line,
-        wrap,
+        settings.wrap,
         &mut lines,
         &mut figures,
         &mut column,
@@ -109,8 +94,7 @@ fn find_sheet(
         line,
         &lines,
         &figures,
-        raw,
-        width,
+        settings,
         row,
         &mut entries,
         &mut rows,
@@ -124,21 +108,17 @@ fn find_sheet(
 pub fn find(
     sheet: &[u8],
     line: u32,
-    wrap: u32,
-    raw: u32,
-    width: u32,
+    settings: Settings,
     row: u32,
-    asked: Verdict,
+    asked: Result<(), Refusal>,
     x: &mut [u32],
     wide: &mut [u32],
-) -> Spot
-    requires width_le_max_size { asked ≡ Accepted → width ≤ max_size }
+) -> Result<Span, Refusal>
+    requires width_le_max_size { asked ≡ Ok tt → settings.width ≤ max_size }
     requires places_room { PlacesRoom x.old wide.old }
-    ensures { SpotFound (early asked ∷ open_checks true sheet.now line) sheet.now line wrap raw width row result
+    ensures { SpotFound (early asked ∷ open_checks (Some line) sheet.now) sheet.now line settings.wrap settings.raw settings.width row result
         x.new wide.new }
 {
-    match asked {
-        Verdict::Refused { number, line: at } => Spot::Refused { number, line: at },
-        Verdict::Accepted => find_sheet(sheet, line, wrap, raw, width, row, x, wide),
-    }
+    asked?;
+    find_sheet(sheet, line, settings, row, x, wide)
 }

@@ -7,33 +7,43 @@ ghost use Rattle.table.specs.Arranging.{TableMeasured};
 ghost use Rattle.table.specs.inner.Asked.{Asked};
 ghost use Rattle.spots.specs.inner.Spots.{PlacesRoom, SpotMade};
 
-use crate::Spot;
+use crate::Span;
+use arguments::Settings;
+use lists::Refusal;
 
 // Where it stands; the places of all entries of the table are left in the slices.
 pub fn find_row(
     line: u32,
     lines: &[u32],
     figures: &[u32],
-    raw: u32,
-    width: u32,
+    settings: Settings,
     row: u32,
     entries: &mut [u32],
     rows: &mut [u32],
     column: &mut [u32],
     x: &mut [u32],
     wide: &mut [u32],
-) -> Spot
+) -> Result<Span, Refusal>
     requires asked { Asked (kepts_of lines.now) line }
     requires max_entries_in_bounds { (max_entries ≤ length entries.old / 3) × (max_lines ≤ length rows.old / 2) }
     requires max_lines_in_bounds { max_lines ≤ length column.old }
     requires table_measured { TableMeasured (kepts_of lines.now) (line - 1) (figures_of figures.now) }
-    requires width_le_max_size { width ≤ max_size }
+    requires width_le_max_size { settings.width ≤ max_size }
     requires places_room { PlacesRoom x.old wide.old }
-    ensures { SpotMade (kepts_of lines.now) line (figures_of figures.now) raw width row result x.new wide.new }
+    ensures { SpotMade (kepts_of lines.now) line (figures_of figures.now) settings.raw settings.width row result x.new wide.new }
 {
     let at = (line - 1) as usize;
     let a = table::arrange(
-        lines, figures, at, raw, width, entries, rows, column, x, wide,
+        lines,
+        figures,
+        at,
+        settings.raw,
+        settings.width,
+        entries,
+        rows,
+        column,
+        x,
+        wide,
     );
     let counts = a.counts;
     let laid = a.laid;

@@ -4,17 +4,16 @@ ghost use Rattle.grid.specs.Grid.{GridRow};
 ghost use Rattle.spots.specs.Rows.{start_in, goes_down};
 ghost use Rattle.spots.specs.inner.Spots.{HasRows, spot_in};
 
-use crate::Spot;
+use crate::Span;
 use answers::Way;
+use lists::{Reason, Refusal};
 
 // Whether the table goes down.
+#[tactic(auto, unfolding(crate::specs::Rows::goes_down))]
 fn is_down(way: Way) -> bool
     ensures { result ≡ goes_down way }
 {
-    match way {
-        Way::Sideways => false,
-        Way::Down => true,
-    }
+    matches!(way, Way::Down)
 }
 
 // How many entries stand in the first k of n rows; all of them, if there are fewer rows.
@@ -37,25 +36,16 @@ fn entries_before(rows: &[u32], n: usize, k: usize) -> usize
 }
 
 // The row of a table with n rows, unless the table goes down or has no such row.
-pub fn row_in(way: Way, rows: &[u32], n: usize, row: u32) -> Spot
+pub fn row_in(way: Way, rows: &[u32], n: usize, row: u32) -> Result<Span, Refusal>
     requires { n ≤ length rows.now / 2 }
     ensures { (g : List GridRow) → HasRows n rows.now g → result ≡ spot_in way g row }
 {
-    if is_down(way) {
-        return Spot::Refused {
-            number: 10,
-            line: 0,
-        };
-    }
     let k = row as usize;
-    if n <= k {
-        return Spot::Refused {
-            number: 10,
-            line: 0,
-        };
+    if is_down(way) || n <= k {
+        return Err(Reason::NoTable.at(0));
     }
     let first = entries_before(rows, n, k);
     let end = entries_before(rows, n, k + 1);
     let next = entries_before(rows, n, k + 2);
-    Spot::Row { first, end, next }
+    Ok(Span { first, end, next })
 }

@@ -1,7 +1,7 @@
 -- A text that reads as a tree has that tree's result. Assumes nothing.
 use mathlib.Core.Bool.{Bool, true, false, cond}
 use mathlib.Core.Path.{◌≡◌, refl, sym, ap, ◌∙◌}
-use mathlib.Core.Option.{some}
+use Rattle.std.specs.Prelude.{Some}
 use mathlib.Core.List.{List, [], ◌∷◌, ◌++◌, append_assoc, append-nil}
 use Prim.Native.Nat.{ℕ, suc, ◌+◌, ◌*◌, ◌-◌, ◌≤◌, ◌<◌}
 use native.Mathlib.Omega.{arith}
@@ -142,8 +142,8 @@ module _ {A : Type 0} (k : Kit A) (m : Meaning k) where
   reads (one_term {d} {w} {t} r) = λ fs rest room e. ((λ x. x), m.of t, refl, reads r (λ x. x) fs rest room e)
   reads (sum {o} {d} {v} {w} {a} {b} i r q) = added d v w a b i (reads r) (reads q)
 
-  pub complete : (w : List ℕ) (t : Tree) → ReadsAs w t → run k start w ≡ some (m.of t)
+  pub complete : (w : List ℕ) (t : Tree) → ReadsAs w t → run k start w ≡ Some (m.of t)
   unfolding Goal run total finish next
   complete w t r =
       let h = reads r [] [] (omega arith) refl in
-      ap (λ (l : List ℕ). run k start l) (sym (append-nil w)) ∙ h.3 ∙ ap (λ (x : A). some x) h.2
+      ap (λ (l : List ℕ). run k start l) (sym (append-nil w)) ∙ h.3 ∙ ap (λ (x : A). Some x) h.2

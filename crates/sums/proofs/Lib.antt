@@ -1,6 +1,6 @@
 pub mod Bytes
 pub mod Complete
 pub mod Sound
-pub mod Signs
+pub mod Steps
 pub mod Theorems
 pub mod Cases

@@ -1,7 +1,7 @@
 -- A text that has a result reads as a tree with that result: at each byte, what was read so far is a part of such a reading. Assumes nothing.
 use mathlib.Core.Bool.{Bool, true, false, cond}
 use mathlib.Core.Path.{◌≡◌, refl, sym, ap, ◌∙◌, subst}
-use mathlib.Core.Option.{Option, none, some}
+use Rattle.std.specs.Prelude.{Option, None, Some}
 use mathlib.Core.List.{List, [], ◌∷◌, ◌++◌, append_assoc, append-nil}
 use Prim.Native.Nat.{ℕ, zero, suc, ◌+◌, ◌*◌, ◌-◌, ◌≤◌, ◌<◌}
 use native.Mathlib.Omega.{arith}
@@ -129,8 +129,8 @@ module _ {A : Type 0} (k : Kit A) (m : Meaning k) where
     InvOf r s = Inv s.place s.outer r
 
     EndedBy : Option A → List (Waiting A) → List ℕ → Type 0
-    EndedBy none fs r = Unit {0}
-    EndedBy (some x) fs r = Ended x fs r
+    EndedBy None fs r = Unit {0}
+    EndedBy (Some x) fs r = Ended x fs r
 
     numbered : {n v : ℕ} {f : Waiting A} {fs : List (Waiting A)} {r : List ℕ} → Numbered n v f fs r → Had f.sum (f.product (k.lit v)) fs r
     numbered {n} {v} {f} {fs} {r} h =
@@ -161,9 +161,9 @@ module _ {A : Type 0} (k : Kit A) (m : Meaning k) where
     -- the state after each kind of byte
     at_close : (o : Option A) (fs : List (Waiting A)) (r : List ℕ) → EndedBy o fs (41 ∷ r) → InvOf r (closed o fs)
     unfolding EndedBy InvOf Inv closed
-    at_close none fs r h = tt
-    at_close (some x) [] r h = tt
-    at_close (some x) (f ∷ fs) r h = up h.outer h.read
+    at_close None fs r h = tt
+    at_close (Some x) [] r h = tt
+    at_close (Some x) (f ∷ fs) r h = up h.outer h.read
       where
         up : {d : ℕ} {s : List ℕ} → Outer d (f ∷ fs) s → Worth k m expr d s (41 ∷ r) x → Had f.sum (f.product x) fs r
         up (below {d} {u = u} o g q) e =
@@ -252,19 +252,19 @@ module _ {A : Type 0} (k : Kit A) (m : Meaning k) where
         (λ e. at_inner c p fs r h))
 
     Read : Option A → Type 0
-    Read none = Unit {0}
-    Read (some x) = (t : Tree) × ReadsAs whole t × (m.of t ≡ x)
+    Read None = Unit {0}
+    Read (Some x) = (t : Tree) × ReadsAs whole t × (m.of t ≡ x)
 
     at_end : (o : Option A) (fs : List (Waiting A)) → EndedBy o fs [] → Read (finish o fs)
     unfolding Read EndedBy finish
-    at_end none [] h = tt
-    at_end none (f ∷ fs) h = tt
-    at_end (some x) [] h = up h.outer h.read
+    at_end None [] h = tt
+    at_end None (f ∷ fs) h = tt
+    at_end (Some x) [] h = up h.outer h.read
       where
         up : {d : ℕ} {s : List ℕ} → Outer d [] s → Worth k m expr d s [] x → (t : Tree) × ReadsAs whole t × (m.of t ≡ x)
         up top w =
             (w.tree, subst (λ (l : List ℕ). ReadsAs l w.tree) (sym (w.splits ∙ append-nil w.text)) w.reads, w.worth)
-    at_end (some x) (f ∷ fs) h = tt
+    at_end (Some x) (f ∷ fs) h = tt
 
     goes : (r : List ℕ) (s : State A) → InvOf r s → Read (run k s r)
     unfolding run InvOf
@@ -276,6 +276,6 @@ module _ {A : Type 0} (k : Kit A) (m : Meaning k) where
     begin =
         record { d = 32; from = whole; mid = whole; outer = top; sums = λ r x w. w_term w; products = λ r x w. w_factor w }
 
-  pub sound : (w : List ℕ) (x : A) → run k start w ≡ some x → (t : Tree) × ReadsAs w t × (m.of t ≡ x)
+  pub sound : (w : List ℕ) (x : A) → run k start w ≡ Some x → (t : Tree) × ReadsAs w t × (m.of t ≡ x)
   unfolding Read
   sound w x e = subst (Read w) e (goes w w start (begin w))

@@ -1,23 +1,22 @@
 -- The answer for a text: its value, or 13, or 14. These are definitions; nothing is assumed.
-use Rattle.std.specs.Prelude.{Bool, true, false, List, ℕ, ℤ, pos, negsuc, nat_abs}
-use Rattle.std.proofs.Math.Option.{Option, none, some}
-use Rattle.sums.specs.declared.Answer.{Answer}
-use Rattle.sums.specs.declared.Answer.TheVariants.{Value, NotAnExpression, OutOfBounds}
+use Rattle.std.specs.Prelude.{Bool, true, false, List, ℕ, ℤ, pos, negsuc, Option, None, Some, Result, Ok, Err}
+use Rattle.lists.specs.declared.Reason.{Reason}
+use Rattle.lists.specs.declared.Reason.TheVariants.{NoExpression, OutOfBounds}
 use Rattle.sums.specs.Tree.{both}
 use Rattle.sums.specs.Machine.{Kit, run, start}
 
 -- results that are values
 abbrev pub values : Kit (Option ℤ)
-values = record { lit = λ n. some (pos n); join = both }
+values = record { lit = λ n. Some (pos n); join = both }
 
 abbrev pub negative : ℤ → Bool
 negative (pos n) = false
 negative (negsuc n) = true
 
-unfoldable pub answer_by : Option (Option ℤ) → Answer
-answer_by none = NotAnExpression
-answer_by (some none) = OutOfBounds
-answer_by (some (some z)) = Value (negative z) (nat_abs z)
+unfoldable pub answer_by : Option (Option ℤ) → Result ℤ Reason
+answer_by None = Err NoExpression
+answer_by (Some None) = Err OutOfBounds
+answer_by (Some (Some z)) = Ok z
 
-unfoldable pub answer_of : List ℕ → Answer
+unfoldable pub answer_of : List ℕ → Result ℤ Reason
 answer_of text = answer_by (run values start text)

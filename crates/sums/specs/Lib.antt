@@ -2,4 +2,3 @@ pub mod Tree
 pub mod Grammar
 pub mod Machine
 pub mod Answers
-pub mod inner

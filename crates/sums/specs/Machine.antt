@@ -1,6 +1,5 @@
 -- A reader that goes through a text byte by byte, over any kind of results: trees, or values. These are definitions; nothing is assumed.
-use Rattle.std.specs.Prelude.{cond, List, [], ◌∷◌, ℕ, ◌+◌, ◌*◌, ◌-◌, eqb, ltb, length}
-use Rattle.std.proofs.Math.Option.{Option, none, some}
+use Rattle.std.specs.Prelude.{cond, List, [], ◌∷◌, ℕ, ◌+◌, ◌*◌, ◌-◌, eqb, ltb, length, Option, None, Some}
 use Rattle.sums.specs.declared.Op.{Op}
 use Rattle.sums.specs.declared.Op.TheVariants.{Plus, Minus, Times, Over}
 use Rattle.sums.specs.Grammar.{digit}
@@ -38,17 +37,17 @@ state p fs = record { place = p; outer = fs }
 
 -- the result of what stands within the innermost bracket, if it may end here
 unfoldable pub total : {A : Type 0} → Kit A → Place A → Option A
-total k wrong = none
-total k (want f) = none
-total k (within n v f) = some (f.sum (f.product (k.lit v)))
-total k (have s p) = some (s p)
+total k wrong = None
+total k (want f) = None
+total k (within n v f) = Some (f.sum (f.product (k.lit v)))
+total k (have s p) = Some (s p)
 
 -- the operators that wait, if a factor has to come here
 unfoldable pub wanted : {A : Type 0} → Place A → Option (Waiting A)
-wanted wrong = none
-wanted (want f) = some f
-wanted (within n v f) = none
-wanted (have s p) = none
+wanted wrong = None
+wanted (want f) = Some f
+wanted (within n v f) = None
+wanted (have s p) = None
 
 -- an operator after a factor
 unfoldable pub operator : {A : Type 0} → Kit A → ℕ → (A → A) → A → Place A
@@ -69,14 +68,14 @@ inner k c (have s p) = operator k c s p
 
 -- a bracket that opens, where a factor has to come
 unfoldable pub opened : {A : Type 0} → Option (Waiting A) → List (Waiting A) → State A
-opened none fs = state wrong fs
-opened (some f) fs = cond (ltb (length fs) 32) (state (want fresh) (f ∷ fs)) (state wrong fs)
+opened None fs = state wrong fs
+opened (Some f) fs = cond (ltb (length fs) 32) (state (want fresh) (f ∷ fs)) (state wrong fs)
 
 -- a bracket that closes
 unfoldable pub closed : {A : Type 0} → Option A → List (Waiting A) → State A
-closed none fs = state wrong fs
-closed (some x) [] = state wrong []
-closed (some x) (f ∷ fs) = state (have f.sum (f.product x)) fs
+closed None fs = state wrong fs
+closed (Some x) [] = state wrong []
+closed (Some x) (f ∷ fs) = state (have f.sum (f.product x)) fs
 
 unfoldable pub step : {A : Type 0} → Kit A → State A → ℕ → State A
 step k s c =
@@ -85,7 +84,7 @@ step k s c =
 
 unfoldable pub finish : {A : Type 0} → Option A → List (Waiting A) → Option A
 finish r [] = r
-finish r (f ∷ fs) = none
+finish r (f ∷ fs) = None
 
 -- the result of a text that is read on from a state
 unfoldable pub run : {A : Type 0} → Kit A → State A → List ℕ → Option A

@@ -1,14 +1,11 @@
-// Sums in a cell: the steps of the reckoning, one operator at a time, and the answer for a result. What a sum is, and its value, stand in specs.
+// Sums in a cell: the steps of the reckoning, one operator at a time. What a sum is, and its value, stand in specs.
 #![tactic(auto)]
 
-ghost use Rattle.std.specs.Prelude.{◌≡◌, ◌+◌, ◌+ℤ◌, ◌*ℤ◌};
-ghost use Rattle.std.proofs.Math.Option.{some};
+ghost use Rattle.std.specs.Prelude.{◌≡◌, option_and_then};
 ghost use Rattle.sums.specs.Tree.{within, result_of, both};
-ghost use Rattle.sums.specs.Answers.{answer_by};
-ghost use Rattle.sums.specs.inner.Worth.{signed, worth};
 
 // The bound of each step's result.
-const LIMIT: u64 = 1000000000000;
+const LIMIT: u64 = 1_000_000_000_000;
 
 #[derive(Clone, Copy)]
 pub enum Op {
@@ -18,110 +15,31 @@ pub enum Op {
     Over,
 }
 
-// A result: outside the bounds, or a sign and a size.
-#[derive(Clone, Copy)]
-pub enum Num {
-    Outside,
-    Whole(bool, u64),
-}
-
-// The answer for a text: a value, as its sign and its size; or 13; or 14.
-#[derive(Clone, Copy)]
-pub enum Answer {
-    Value(bool, u64),
-    NotAnExpression,
-    OutOfBounds,
-}
-
-// A size with a sign, if it is within the bounds.
-fn bounded(minus: bool, a: u64) -> Num
-    ensures { worth result ≡ within (signed minus a) }
+// A result that 64 bits hold, if it is within the bounds.
+fn bounded(x: Option<i64>) -> Option<i64>
+    ensures { result ≡ option_and_then within x }
 {
-    if a <= LIMIT {
-        Num::Whole(minus, a)
-    } else {
-        Num::Outside
+    match x {
+        Some(x) if x.unsigned_abs() <= LIMIT => Some(x),
+        _ => None,
     }
 }
 
-// The sum of two sizes of one sign.
-fn together(minus: bool, a: u64, b: u64) -> Num
-    ensures { worth result ≡ within (signed minus (a + b)) }
+// The result of an operator on two values. A quotient is towards zero; there is none by nought.
+fn reckoned(o: Op, a: i64, b: i64) -> Option<i64>
+    ensures { result ≡ result_of o a b }
 {
-    if b > LIMIT {
-        return Num::Outside;
+    match o {
+        Op::Plus => bounded(a.checked_add(b)),
+        Op::Minus => bounded(a.checked_sub(b)),
+        Op::Times => bounded(a.checked_mul(b)),
+        Op::Over => bounded(a.checked_div(b)),
     }
-    if a > LIMIT - b {
-        return Num::Outside;
-    }
-    Num::Whole(minus, a + b)
-}
-
-// The sum of two sizes with their signs.
-fn added(s: bool, a: u64, t: bool, b: u64) -> Num
-    ensures { worth result ≡ within (signed s a +ℤ signed t b) }
-{
-    if s == t {
-        return together(s, a, b);
-    }
-    if b <= a {
-        return bounded(s, a - b);
-    }
-    bounded(t, b - a)
-}
-
-// A product. The test by division comes first, so that it never wraps.
-fn multiplied(s: bool, a: u64, t: bool, b: u64) -> Num
-    ensures { worth result ≡ within (signed s a *ℤ signed t b) }
-{
-    if b == 0 {
-        return Num::Whole(false, 0);
-    }
-    if a > LIMIT / b {
-        return Num::Outside;
-    }
-    Num::Whole(s != t, a * b)
-}
-
-// A quotient, towards zero; there is none by nought.
-fn divided(s: bool, a: u64, t: bool, b: u64) -> Num
-    ensures { worth result ≡ result_of Op.Over (signed s a) (signed t b) }
-{
-    if b == 0 {
-        return Num::Outside;
-    }
-    bounded(s != t, a / b)
 }
 
 // A step: the result of an operator on two results, outside the bounds if one of them is.
-pub fn joined(o: Op, a: Num, b: Num) -> Num
-    ensures { worth result ≡ both o (worth a) (worth b) }
+pub fn joined(o: Op, a: Option<i64>, b: Option<i64>) -> Option<i64>
+    ensures { result ≡ both o a b }
 {
-    let Num::Whole(s, x) = a else {
-        return Num::Outside;
-    };
-    let Num::Whole(t, y) = b else {
-        return Num::Outside;
-    };
-    match o {
-        Op::Plus => added(s, x, t, y),
-        Op::Minus => added(s, x, !t, y),
-        Op::Times => multiplied(s, x, t, y),
-        Op::Over => divided(s, x, t, y),
-    }
-}
-
-// The answer for a result. Nought has no sign.
-pub fn figure(x: Num) -> Answer
-    ensures { result ≡ answer_by (some (worth x)) }
-{
-    match x {
-        Num::Outside => Answer::OutOfBounds,
-        Num::Whole(minus, n) => {
-            if n == 0 {
-                return Answer::Value(false, 0);
-            }
-            Answer::Value(minus, n)
-        }
-    }
+    reckoned(o, a?, b?)
 }

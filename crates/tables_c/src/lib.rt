@@ -24,7 +24,7 @@ use crossing::{
 pub extern "C" fn tables_check(sheet: &[u8]) -> CheckResult
     ensures { result ≡ check_result (verdict_of (check_checks sheet.now)) }
 {
-    crossing::check_result(call_estimates::check(sheet))
+    CheckResult::from(call_estimates::check(sheet))
 }
 
 // The figures of one text, as text or svg, or as img.
@@ -32,7 +32,7 @@ pub extern "C" fn tables_check(sheet: &[u8]) -> CheckResult
 pub extern "C" fn tables_measure(text: &[u8], wrap: u32, img: u32) -> MeasureResult
     ensures { result ≡ measure_result (measure_of text.now wrap (as_img img)) }
 {
-    crossing::measure_result(text::measure(text, wrap, crossing::as_img(img)))
+    MeasureResult::from(text::measure(text, wrap, crossing::as_img(img)))
 }
 
 // The size, the least width and the prefix of every line of a sheet.
@@ -48,7 +48,7 @@ pub extern "C" fn tables_estimates(
     ensures estimates_buffers { EstimatesBuffers sheet.now wrap size.old least.old prefix.old
         size.new least.new prefix.new }
 {
-    crossing::estimates_result(call_estimates::estimates(sheet, wrap, size, least, prefix))
+    EstimatesResult::from(call_estimates::estimates(sheet, wrap, size, least, prefix))
 }
 
 // The grid of the table in a line.
@@ -67,7 +67,7 @@ pub extern "C" fn tables_grid(
     ensures grid_buffers { GridBuffers sheet.now line cell.old first.old span.old row.old row_end.old
         cell.new first.new span.new row.new row_end.new }
 {
-    crossing::grid_result(call_grid::grid(sheet, line, cell, first, span, row, row_end))
+    GridResult::from(call_grid::grid(sheet, line, cell, first, span, row, row_end))
 }
 
 // The layout of the table in a line.
@@ -86,7 +86,7 @@ pub extern "C" fn tables_layout(
     ensures layout_buffers { LayoutBuffers sheet.now line wrap raw width column.old x.old wide.old
         column.new x.new wide.new }
 {
-    crossing::layout_result(call_layout::layout(sheet, line, wrap, raw, width, column, x, wide))
+    LayoutResult::from(call_layout::layout(sheet, line, wrap, raw, width, column, x, wide))
 }
 
 // The missing entries of the table in a line, and the causes of its columns.
@@ -104,7 +104,7 @@ pub extern "C" fn tables_missing(
     ensures missing_left { MissingLeft sheet.now line wrap raw width entry.old cause.old
         entry.new cause.new }
 {
-    crossing::missing_result(missing::missing(sheet, line, wrap, raw, width, entry, cause))
+    MissingResult::from(missing::missing(sheet, line, wrap, raw, width, entry, cause))
 }
 
 // What lies at a character column of a row.
@@ -120,7 +120,7 @@ pub extern "C" fn tables_at(
 ) -> AtResult
     ensures { result ≡ at_result (pointed_of sheet.now line wrap raw width row x) }
 {
-    crossing::at_result(preview::at(sheet, line, wrap, raw, width, row, x))
+    AtResult::from(preview::at(sheet, line, wrap, raw, width, row, x))
 }
 
 // The printed cells of a row that lie wholly in a stretch of character columns.
@@ -139,7 +139,7 @@ pub extern "C" fn tables_within(
     ensures value { result ≡ within_result (listed_of sheet.now line wrap raw width row from to (for_listed entry.old)) }
     ensures within_left { WithinLeft sheet.now line wrap raw width row from to entry.old entry.new }
 {
-    crossing::within_result(preview::within(sheet, line, wrap, raw, width, row, from, to, entry))
+    WithinResult::from(preview::within(sheet, line, wrap, raw, width, row, from, to, entry))
 }
 
 // The joining character at a character column between a row and the next.
@@ -155,7 +155,7 @@ pub extern "C" fn tables_joining(
 ) -> JoiningResult
     ensures { result ≡ joining_result (joined_of sheet.now line wrap raw width row x) }
 {
-    crossing::joining_result(preview::joining(sheet, line, wrap, raw, width, row, x))
+    JoiningResult::from(preview::joining(sheet, line, wrap, raw, width, row, x))
 }
 
 // The widths of a sheet's lines, from the first line's down: whether each has one, and which.
@@ -173,7 +173,7 @@ pub extern "C" fn tables_walk(
     ensures walk_left { WalkLeft sheet.now wrap raw width overflow given.old wide.old
         given.new wide.new }
 {
-    crossing::walk_result(walks::walk(sheet, wrap, raw, width, overflow, given, wide))
+    WalkResult::from(walks::walk(sheet, wrap, raw, width, overflow, given, wide))
 }
 
 // The layout of the table in a line, at the width that the walk gives it.
@@ -193,7 +193,5 @@ pub extern "C" fn tables_nested(
     ensures nested_left { NestedLeft sheet.now line wrap raw width overflow column.old x.old wide.old
         column.new x.new wide.new }
 {
-    crossing::nested_result(nested::nested(
-        sheet, line, wrap, raw, width, overflow, column, x, wide,
-    ))
+    NestedResult::from(nested::nested(sheet, line, wrap, raw, width, overflow, column, x, wide))
 }

@@ -1,5 +1,6 @@
 -- A table of an accepted sheet: its lines nest, its grid is sound and its rows of boxes tile the columns; its entries are cells and fillers, each cell
 -- once. Assumes nothing.
+use Rattle.std.specs.Prelude.{Err, Ok}
 use mathlib.Core.Path.{◌≡◌, refl, sym, ap, ◌∙◌}
 use mathlib.Core.Bool.{Bool, true, false, cond}
 use mathlib.Core.List.{List, [], ◌∷◌, map}
@@ -18,7 +19,6 @@ use Rattle.records.specs.Kept.{no_kept}
 use Rattle.records.specs.declared.Kept.{Kept}
 use Rattle.sheet.specs.Sheet.{sheet_checks, sheet_lines}
 use Rattle.sheet.specs.Reading.{reading_of}
-use Rattle.sheet.specs.declared.Reading.TheVariants.{Lines, Refused}
 use Rattle.sheet.proofs.First.{both_true, first_passes, passes_append, accepted_passes}
 use Rattle.columns.specs.Boxes.{Box, box, flat, TilesAll}
 use Rattle.columns.proofs.Listed.{none}
@@ -140,9 +140,9 @@ module _ {s : List ℕ} {line : ℕ} (w : TableIn s line) where
   passed : (passes (sheet_checks s) ≡ true) × (passes (every_table s) ≡ true)
   passed = both_true (passes (sheet_checks s)) (passes (every_table s)) (sym (passes_append (sheet_checks s) (every_table s)) ∙ accepted_passes _ w.accepted)
 
-  reads : reading_of s ≡ Lines (length (sheet_lines s))
+  reads : reading_of s ≡ Ok (length (sheet_lines s))
   unfolding reading_of
-  reads = first_passes Refused (Lines (length (sheet_lines s))) (sheet_checks s) passed.0
+  reads = first_passes Err (Ok (length (sheet_lines s))) (sheet_checks s) passed.0
 
   lined : Lined ks
   lined = kept_lined s (length (sheet_lines s)) reads

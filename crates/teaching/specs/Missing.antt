@@ -1,10 +1,9 @@
 -- Which cells can go missing: what holds of every table of every accepted sheet, at every wrap, raw and width that is allowed.
 -- These are statements; proofs/Missing.antt has their proofs, under the same names. Nothing is assumed.
-use Rattle.std.specs.Prelude.{◌≡◌, true, List, map, ℕ, ◌+◌, ◌-◌, ◌*◌, ◌≤◌, ◌<◌, length, get_or}
+use Rattle.std.specs.Prelude.{◌≡◌, true, List, map, ℕ, ◌+◌, ◌-◌, ◌*◌, ◌≤◌, ◌<◌, length, get_or, Ok}
 use Rattle.lists.specs.Lists.{sum}
 use Rattle.lists.specs.Limits.{max_wrap, max_size}
 use Rattle.lists.specs.Refusals.{verdict_of}
-use Rattle.lists.specs.declared.Verdict.TheVariants.{Accepted}
 use Rattle.kinds.specs.Kinds.{table_kind, link_kind, has_text}
 use Rattle.records.specs.Parents.{Parent}
 use Rattle.records.specs.Kept.{no_kept}
@@ -29,7 +28,7 @@ use Rattle.sheet_figures.specs.Calls.{check_checks}
 
 -- a line of an accepted sheet that is a table
 pub record TableIn (s : List ℕ) (line : ℕ) : Type 0 where
-  pub accepted : verdict_of (check_checks s) ≡ Accepted
+  pub accepted : verdict_of (check_checks s) ≡ (Ok tt)
   pub table : is_table (kept_lines s) line ≡ true
 
 -- settings in their ranges; a table inside another may get a width past the page's limit

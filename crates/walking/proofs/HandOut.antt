@@ -1,4 +1,5 @@
 -- A table gives its cells their widths: the entries of its grid that are cells stand on the lines of its cells, each of them on one. Assumes nothing.
+use Rattle.std.specs.Prelude.{None, Option, Some}
 use mathlib.Core.Path.{◌≡◌, refl, sym, ap, ◌∙◌, subst}
 use mathlib.Core.Bool.{Bool, true, false, cond, ◌||◌}
 use mathlib.Core.List.{List, [], ◌∷◌, map, map-map}
@@ -40,8 +41,6 @@ use Rattle.table.specs.inner.Room.{LayoutRoom}
 use Rattle.passing.specs.Walk.{width_in, printed_in, cell_width, given_number, width_number}
 use Rattle.passing.specs.inner.Places.{width_place}
 use Rattle.walking.specs.inner.Steps.{cell_in, printed_by, Walkable, Rooms, AtMost, HandReady, CellsFit, HandedOut}
-use Rattle.passing.specs.declared.Width.{Width}
-use Rattle.passing.specs.declared.Width.TheVariants.{Wide, Without}
 use Rattle.walking.proofs.CellLoop.{place_other, place_cell}
 
 -- ---- the lines that entries show
@@ -129,7 +128,7 @@ module _ {ks : List Kept} {figures : List Estimate} (p : Walkable ks figures) {t
           let k : suc i - 1 ≡ i = omega arith in
           not_true (mem (suc i) (cell_owners es)) (λ m. c (subst (CellOf ks t) k (owner_cell p.lined t h (suc i) m).1))
 
-      pub handed : HandedOut ks t figures raw (Wide v) ps₀ ps
+      pub handed : HandedOut ks t figures raw (Some v) ps₀ ps
       unfolding cell_width
       handed = record {
         cell = λ wrap f i c _.
@@ -149,20 +148,20 @@ module _ {ks : List Kept} {figures : List Estimate} (p : Walkable ks figures) {t
               ∙ sym (ap length (ap (λ (m : ℕ). map cell_in (take m qs)) e ∙ cells_are) ∙ length-map es shown_line)
 
 -- the width of the line
-pub small_here : {ks : List Kept} {t : ℕ} {w : Width} {v : ℕ} → w ≡ Wide v → HandReady ks t w → v ≤ max_size
+pub small_here : {ks : List Kept} {t : ℕ} {w : Option ℕ} {v : ℕ} → w ≡ Some v → HandReady ks t w → v ≤ max_size
 unfolding AtMost
 small_here e r = rw e at r.small
 
-pub handed_at : {ks : List Kept} {t : ℕ} {figures : List Estimate} {raw : ℕ} {w : Width} {v : ℕ} {ps₀ ps : List Place} → w ≡ Wide v
-    → HandedOut ks t figures raw (Wide v) ps₀ ps → HandedOut ks t figures raw w ps₀ ps
+pub handed_at : {ks : List Kept} {t : ℕ} {figures : List Estimate} {raw : ℕ} {w : Option ℕ} {v : ℕ} {ps₀ ps : List Place} → w ≡ Some v
+    → HandedOut ks t figures raw (Some v) ps₀ ps → HandedOut ks t figures raw w ps₀ ps
 handed_at e h = rw e h
 
 -- ---- nothing is given
 
-pub handed_other : {ks : List Kept} {t : ℕ} {figures : List Estimate} {raw : ℕ} {w : Width} {ps : List Place} (k : Kept) → k ≡ get_or ks t no_kept → (k.kind ≡ table_kind → ⊥)
+pub handed_other : {ks : List Kept} {t : ℕ} {figures : List Estimate} {raw : ℕ} {w : Option ℕ} {ps : List Place} (k : Kept) → k ≡ get_or ks t no_kept → (k.kind ≡ table_kind → ⊥)
     → HandedOut ks t figures raw w ps ps
 handed_other k q n = record { cell = λ wrap f i c. absurd (n (ap (λ (x : Kept). x.kind) q ∙ c.0)); other = λ i c. refl }
 
-pub handed_none : {ks : List Kept} {t : ℕ} {figures : List Estimate} {raw : ℕ} {w : Width} {ps : List Place} → w ≡ Without → HandedOut ks t figures raw w ps ps
+pub handed_none : {ks : List Kept} {t : ℕ} {figures : List Estimate} {raw : ℕ} {w : Option ℕ} {ps : List Place} → w ≡ None → HandedOut ks t figures raw w ps ps
 unfolding cell_width given_number width_number
-handed_none {ks} {t} {raw = raw} e = record { cell = λ wrap f i c z. z ∙ sym (ap (λ (x : Width). width_place (cell_width wrap raw ks t x i)) e); other = λ i c. refl }
+handed_none {ks} {t} {raw = raw} e = record { cell = λ wrap f i c z. z ∙ sym (ap (λ (x : Option ℕ). width_place (cell_width wrap raw ks t x i)) e); other = λ i c. refl }

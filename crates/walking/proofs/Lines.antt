@@ -1,4 +1,5 @@
 -- The walk on plain lists: its front stays, the nearest line of a depth, and the table of a cell. Assumes nothing.
+use Rattle.std.specs.Prelude.{None, Option}
 use mathlib.Core.Path.{◌≡◌, refl, sym, ap, ◌∙◌}
 use mathlib.Core.Bool.{true, cond, true≢false}
 use mathlib.Core.List.{List, [], ◌∷◌}
@@ -19,8 +20,6 @@ use Rattle.estimates.specs.Sheet.{Sheet, line_at}
 use Rattle.estimates.proofs.Nesting.{Allowed, may, parent}
 use Rattle.passing.specs.Walk.{from_nearest, line_width, walk_to}
 use Rattle.walking.specs.inner.Steps.{CellIn}
-use Rattle.passing.specs.declared.Width.{Width}
-use Rattle.passing.specs.declared.Width.TheVariants.{Without}
 
 -- ---- the front of a walk
 
@@ -30,7 +29,7 @@ past_end d (x ∷ xs) zero h = absurd (not-suc-le-zero h)
 past_end d (x ∷ xs) (suc k) h = past_end d xs k (omega arith)
 
 module _ (wrap raw root : ℕ) (ks : List Kept) where
-  abbrev W : ℕ → List Width
+  abbrev W : ℕ → List (Option ℕ)
   W n = walk_to wrap raw root ks n
 
   pub length_walk : (n : ℕ) → length (walk_to wrap raw root ks n) ≡ n
@@ -38,42 +37,42 @@ module _ (wrap raw root : ℕ) (ks : List Kept) where
   length_walk zero = refl
   length_walk (suc n) = length-append (W n) (line_width wrap raw root ks (W n) n ∷ []) ∙ omega (arith, length_walk n)
 
-  pub walk_past : (n k : ℕ) → n ≤ k → get_or (walk_to wrap raw root ks n) k Without ≡ Without
-  walk_past n k h = past_end Without (W n) k (omega (arith, length_walk n))
+  pub walk_past : (n k : ℕ) → n ≤ k → get_or (walk_to wrap raw root ks n) k None ≡ None
+  walk_past n k h = past_end None (W n) k (omega (arith, length_walk n))
 
-  pub walk_last : (n : ℕ) → get_or (walk_to wrap raw root ks (suc n)) n Without ≡ line_width wrap raw root ks (walk_to wrap raw root ks n) n
+  pub walk_last : (n : ℕ) → get_or (walk_to wrap raw root ks (suc n)) n None ≡ line_width wrap raw root ks (walk_to wrap raw root ks n) n
   unfolding walk_to
-  walk_last n = get_or_at (W n) (line_width wrap raw root ks (W n) n) [] Without n (length_walk n)
+  walk_last n = get_or_at (W n) (line_width wrap raw root ks (W n) n) [] None n (length_walk n)
 
   -- a line more changes no other's width
-  pub walk_at : (n k : ℕ) → (k ≡ n → ⊥) → get_or (walk_to wrap raw root ks (suc n)) k Without ≡ get_or (walk_to wrap raw root ks n) k Without
+  pub walk_at : (n k : ℕ) → (k ≡ n → ⊥) → get_or (walk_to wrap raw root ks (suc n)) k None ≡ get_or (walk_to wrap raw root ks n) k None
   unfolding walk_to
   walk_at n k h = go (dec_lt k n)
     where
-      front : k < n → get_or (walk_to wrap raw root ks (suc n)) k Without ≡ get_or (walk_to wrap raw root ks n) k Without
-      front l = get_or-append (W n) (line_width wrap raw root ks (W n) n ∷ []) Without k (omega (arith, length_walk n))
+      front : k < n → get_or (walk_to wrap raw root ks (suc n)) k None ≡ get_or (walk_to wrap raw root ks n) k None
+      front l = get_or-append (W n) (line_width wrap raw root ks (W n) n ∷ []) None k (omega (arith, length_walk n))
 
-      go : Dec (k < n) → get_or (walk_to wrap raw root ks (suc n)) k Without ≡ get_or (walk_to wrap raw root ks n) k Without
+      go : Dec (k < n) → get_or (walk_to wrap raw root ks (suc n)) k None ≡ get_or (walk_to wrap raw root ks n) k None
       go (yes l) = front l
       go (no l) = walk_past (suc n) k (omega arith) ∙ sym (walk_past n k (omega arith))
 
-  pub walk_stays : (m n k : ℕ) → k < n → n ≤ m → get_or (walk_to wrap raw root ks m) k Without ≡ get_or (walk_to wrap raw root ks n) k Without
+  pub walk_stays : (m n k : ℕ) → k < n → n ≤ m → get_or (walk_to wrap raw root ks m) k None ≡ get_or (walk_to wrap raw root ks n) k None
   walk_stays zero n k h l = absurd (omega arith)
   walk_stays (suc m) n k h l = go (ℕ_discrete n (suc m)) (λ g. walk_stays m n k h g)
     where
-      go : Dec (n ≡ suc m) → (n ≤ m → get_or (walk_to wrap raw root ks m) k Without ≡ get_or (walk_to wrap raw root ks n) k Without)
-          → get_or (walk_to wrap raw root ks (suc m)) k Without ≡ get_or (walk_to wrap raw root ks n) k Without
-      go (yes e) ih = ap (λ (x : ℕ). get_or (walk_to wrap raw root ks x) k Without) (sym e)
+      go : Dec (n ≡ suc m) → (n ≤ m → get_or (walk_to wrap raw root ks m) k None ≡ get_or (walk_to wrap raw root ks n) k None)
+          → get_or (walk_to wrap raw root ks (suc m)) k None ≡ get_or (walk_to wrap raw root ks n) k None
+      go (yes e) ih = ap (λ (x : ℕ). get_or (walk_to wrap raw root ks x) k None) (sym e)
       go (no e) ih = walk_at m k (λ q. omega arith) ∙ ih (omega arith)
 
 -- ---- the nearest line of a depth
 
-pub nearest_same : (f g : ℕ → Width) (ks : List Kept) (d i : ℕ) → ((k : ℕ) → k < i → f k ≡ g k) → from_nearest f ks d i ≡ from_nearest g ks d i
+pub nearest_same : (f g : ℕ → Option ℕ) (ks : List Kept) (d i : ℕ) → ((k : ℕ) → k < i → f k ≡ g k) → from_nearest f ks d i ≡ from_nearest g ks d i
 unfolding from_nearest
 nearest_same f g ks d zero h = refl
 nearest_same f g ks d (suc i) h = (λ j. cond (eqb (get_or ks i no_kept).depth d) (h i (omega arith) j) (nearest_same f g ks d i (λ k l. h k (omega arith)) j))
 
-pub nearest_is : (f : ℕ → Width) (ks : List Kept) (d i t : ℕ) → t < i → (get_or ks t no_kept).depth ≡ d → ((k : ℕ) → t < k → k < i → (get_or ks k no_kept).depth ≡ d → ⊥)
+pub nearest_is : (f : ℕ → Option ℕ) (ks : List Kept) (d i t : ℕ) → t < i → (get_or ks t no_kept).depth ≡ d → ((k : ℕ) → t < k → k < i → (get_or ks k no_kept).depth ≡ d → ⊥)
     → from_nearest f ks d i ≡ f t
 unfolding from_nearest
 nearest_is f ks d zero t h e n = absurd (not-suc-le-zero h)
@@ -154,7 +153,7 @@ module _ {ks : List Kept} (w : Sheet ks) where
       go x y z k a b (no p) (no q) (no r) (no s) = omega (arith, z.1.deeper, y.1.deeper, x.1.between k (omega arith) b)
 
   -- what a cell's table gives it is what the nearest line three less deep gives
-  pub cell_nearest : (f : ℕ → Width) (i : ℕ) (c : InTable ks i) → from_nearest f ks ((get_or ks i no_kept).depth - 3) i ≡ f c.table
+  pub cell_nearest : (f : ℕ → Option ℕ) (i : ℕ) (c : InTable ks i) → from_nearest f ks ((get_or ks i no_kept).depth - 3) i ≡ f c.table
   cell_nearest f i c =
       nearest_is f ks ((get_or ks i no_kept).depth - 3) i c.table c.cell.1.before (omega (arith, c.cell.1.deeper))
       (λ k a b e. omega (arith, c.cell.1.deeper, c.cell.1.between k a b))

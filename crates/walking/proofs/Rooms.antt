@@ -1,4 +1,7 @@
 -- The loop over the lines with its slices: what each call asks for is there, the slices keep their lengths, and the answers. Assumes nothing.
+use Rattle.lists.specs.Refusals.{refusal}
+use Rattle.lists.specs.declared.Reason.TheVariants.{TooNarrow}
+use Rattle.std.specs.Prelude.{Err, Ok, Option}
 use mathlib.Core.Path.{◌≡◌, refl, ◌∙◌}
 use mathlib.Core.Bool.{Bool, true, false, ◌&&◌}
 use mathlib.Core.List.{List}
@@ -7,7 +10,6 @@ use native.Mathlib.Omega.{arith}
 use lib.Dec.{eqb}
 use lib.ListN.{length, get_or, take, replicate}
 use Rattle.lists.specs.Limits.{max_size, depths}
-use Rattle.lists.specs.declared.Verdict.TheVariants.{Accepted, Refused}
 use Rattle.text.specs.declared.Estimate.{Estimate}
 use Rattle.records.specs.Kept.{no_kept, kept_count, kepts_of, place_by, places_of}
 use Rattle.records.specs.declared.Kept.{Kept}
@@ -18,7 +20,6 @@ use Rattle.estimates.specs.Estimates.{none, estimates}
 use Rattle.estimates.specs.inner.Figures.{figure_by, figures_of}
 use Rattle.passing.specs.Walk.{too_narrow}
 use Rattle.walking.specs.inner.Steps.{Walkable, Rooms, Kepts, HandReady, HandedOut, LineHere, Stepped, Cleared, Walked}
-use Rattle.passing.specs.declared.Width.{Width}
 use Rattle.walking.proofs.Clear.{no_place_lem}
 use Rattle.walking.proofs.WalkLoop.{Sofar, start, stop, step_small, turn_refused, turn}
 
@@ -55,20 +56,20 @@ module _ (lines figures walk₀ : List ℕ) (p : Walkable (kepts_of lines) (figu
 
     module _ (walk passed : List ℕ) (e : length walk ≡ length walk₀) (f : length passed ≡ (2 * depths)) (i : ℕ)
         (z : SofarAny (kepts_of lines) (figures_of figures) raw root overflow (places_of walk) (places_of passed) i) where
-      pub walked_all : length (kepts_of lines) ≤ i → Walked (kepts_of lines) (figures_of figures) raw root overflow Accepted (places_of walk)
+      pub walked_all : length (kepts_of lines) ≤ i → Walked (kepts_of lines) (figures_of figures) raw root overflow (Ok tt) (places_of walk)
       walked_all h = record {
         answer = λ wrap same. (stop p wrap same small (z p wrap same) h (walk_room walk e)).0;
         widths = λ wrap same _. (stop p wrap same small (z p wrap same) h (walk_room walk e)).1;
         small = λ wrap same _. (stop p wrap same small (z p wrap same) h (walk_room walk e)).2;
       }
 
-      module _ (h : i < length (kepts_of lines)) (w : Width) (ps qs : List Place)
+      module _ (h : i < length (kepts_of lines)) (w : Option ℕ) (ps qs : List Place)
           (s : Stepped (kepts_of lines) (figures_of figures) root i w (places_of walk) (places_of passed) ps qs) where
         pub hand_ready : HandReady (kepts_of lines) i w
         hand_ready = record { within = h; small = step_small p p.measured.wrap p.measured.figures_are small (z p p.measured.wrap p.measured.figures_are) h s }
 
         module _ (b : Bool) (o : b ≡ (eqb overflow 0 && too_narrow (get_or (kepts_of lines) i no_kept).kind (get_or (figures_of figures) i none) w)) where
-          pub walked_refused : b ≡ true → (last : List Place) → Walked (kepts_of lines) (figures_of figures) raw root overflow (Refused 12 (i + 1)) last
+          pub walked_refused : b ≡ true → (last : List Place) → Walked (kepts_of lines) (figures_of figures) raw root overflow (Err (refusal TooNarrow (i + 1))) last
           walked_refused t last = record {
             answer = λ wrap same. turn_refused p wrap same small (z p wrap same) h s b o t;
             widths = λ wrap same a. let x : ◌≡◌ {A = ℕ} 0 1 = cc in absurd (omega arith);

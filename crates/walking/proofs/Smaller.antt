@@ -1,5 +1,6 @@
 -- No width passes what its line was given: an entry is no wider than its table, and a line passes on no more than it has, or its least width.
 -- Assumes nothing.
+use Rattle.std.specs.Prelude.{None, Option, Some}
 use mathlib.Core.Path.{◌≡◌, refl, ap}
 use mathlib.Core.Bool.{Bool, true, false, cond}
 use mathlib.Core.List.{List, [], ◌∷◌, ◌++◌, map}
@@ -27,25 +28,23 @@ use Rattle.placing.specs.Place.{Placed, at, across, place_side, place_down, plac
 use Rattle.table.specs.Laying.{way_in, places_in}
 use Rattle.passing.specs.Walk.{takes_off, passed_on, printed_in, from_nearest}
 use Rattle.walking.specs.inner.Steps.{AtMost}
-use Rattle.passing.specs.declared.Width.{Width}
-use Rattle.passing.specs.declared.Width.TheVariants.{Wide, Without}
 
 -- ---- widths
 
-pub most_none : (m : ℕ) → AtMost m Without
+pub most_none : (m : ℕ) → AtMost m None
 unfolding AtMost
 most_none m = tt
 
-pub most_passed : (m kind : ℕ) (e : Estimate) (w : Width) → e.least ≤ m → AtMost m w → AtMost m (passed_on kind e w)
+pub most_passed : (m kind : ℕ) (e : Estimate) (w : Option ℕ) → e.least ≤ m → AtMost m w → AtMost m (passed_on kind e w)
 unfolding AtMost passed_on
-most_passed m kind e Without l h = tt
-most_passed m kind e (Wide w) l h = go (takes_off kind)
+most_passed m kind e None l h = tt
+most_passed m kind e (Some w) l h = go (takes_off kind)
   where
     go : (b : Bool) → cond b (max (w - e.prefix) (e.least - e.prefix)) w ≤ m
     go true = omega arith
     go false = h
 
-pub most_nearest : (m : ℕ) (f : ℕ → Width) (ks : List Kept) (d i : ℕ) → ((k : ℕ) → k < i → AtMost m (f k)) → AtMost m (from_nearest f ks d i)
+pub most_nearest : (m : ℕ) (f : ℕ → Option ℕ) (ks : List Kept) (d i : ℕ) → ((k : ℕ) → k < i → AtMost m (f k)) → AtMost m (from_nearest f ks d i)
 unfolding from_nearest AtMost
 most_nearest m f ks d zero h = tt
 most_nearest m f ks d (suc i) h = go (eqb (get_or ks i no_kept).depth d) (most_nearest m f ks d i (λ k l. h k (omega arith)))
@@ -54,10 +53,10 @@ most_nearest m f ks d (suc i) h = go (eqb (get_or ks i no_kept).depth d) (most_n
     go true r = h i (omega arith)
     go false r = r
 
-pub most_weaker : (m n : ℕ) (w : Width) → m ≤ n → AtMost m w → AtMost n w
+pub most_weaker : (m n : ℕ) (w : Option ℕ) → m ≤ n → AtMost m w → AtMost n w
 unfolding AtMost
-most_weaker m n Without h l = tt
-most_weaker m n (Wide w) h l = omega arith
+most_weaker m n None h l = tt
+most_weaker m n (Some w) h l = omega arith
 
 -- each of the figures is at most m
 abbrev pub Low : ℕ → List ℕ → Type 0
@@ -74,7 +73,7 @@ most_printed m [] vs line h = tt
 most_printed m (c ∷ cs) [] line h = tt
 most_printed m (c ∷ cs) (v ∷ vs) line h = go (eqb c line) (eqb v 0) (most_printed m cs vs line h.1)
   where
-    go : (a b : Bool) → AtMost m (printed_in cs vs line) → AtMost m (cond a (cond b Without (Wide v)) (printed_in cs vs line))
+    go : (a b : Bool) → AtMost m (printed_in cs vs line) → AtMost m (cond a (cond b None (Some v)) (printed_in cs vs line))
     go true true r = tt
     go true false r = h.0
     go false b r = r

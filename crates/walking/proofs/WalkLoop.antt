@@ -1,5 +1,7 @@
 -- The loop over the lines on plain lists: the lines that are passed have their widths, the cells of the tables that are passed have theirs already, and
 -- the nearest line of each depth passes on what is kept for that depth. Assumes nothing.
+use Rattle.lists.specs.declared.Reason.TheVariants.{TooNarrow}
+use Rattle.std.specs.Prelude.{Err, Ok, None, Option, Some}
 use mathlib.Core.Path.{◌≡◌, refl, sym, ap, ◌∙◌}
 use mathlib.Core.Bool.{Bool, true, false, cond, ◌&&◌}
 use mathlib.Core.List.{List, map}
@@ -13,8 +15,7 @@ use lib.Seq.{get_or-take, length-take-le, get_or-set_same, get_or-set_other, ext
 use borrow.Author.Tests.{eq-eqb, ne_eqb, eqb-true}
 use Rattle.lists.specs.Limits.{max_size, depths}
 use Rattle.lists.specs.Lists.{All}
-use Rattle.lists.specs.Refusals.{Check, first_answer, verdict_of}
-use Rattle.lists.specs.declared.Verdict.TheVariants.{Accepted, Refused}
+use Rattle.lists.specs.Refusals.{Check, first_answer, verdict_of, refusal}
 use Rattle.text.specs.declared.Estimate.{Estimate}
 use Rattle.kinds.specs.Kinds.{table_kind, cell_kind}
 use Rattle.records.specs.Kept.{no_kept, no_place}
@@ -33,17 +34,15 @@ use Rattle.table.proofs.Boxes.{tiles_of_grid}
 use Rattle.passing.specs.Walk.{passed_on, too_narrow, width_in, cell_width, from_nearest, passed_by, line_width, walk_to, walk, narrow_at, narrow_from, narrow_checks, given_number, width_number}
 use Rattle.passing.specs.inner.Places.{width_place, width_by}
 use Rattle.walking.specs.inner.Steps.{Walkable, AtMost, CellIn, HandedOut, own_width, Stepped, Cleared}
-use Rattle.passing.specs.declared.Width.{Width}
-use Rattle.passing.specs.declared.Width.TheVariants.{Wide, Without}
 use Rattle.walking.proofs.Lines.{length_walk, walk_past, walk_last, walk_at, walk_stays, nearest_same, one_table, cell_table, cell_nearest}
 use Rattle.walking.proofs.Smaller.{most_passed, most_nearest, most_weaker, most_printed, table_low}
 
 -- ---- numbers
 
-pub width_back : (w : Width) → width_by (width_place w) ≡ w
+pub width_back : (w : Option ℕ) → width_by (width_place w) ≡ w
 unfolding width_by given_number width_number
-width_back Without = refl
-width_back (Wide w) = refl
+width_back None = refl
+width_back (Some w) = refl
 
 -- ---- a table of the sheet
 
@@ -60,7 +59,7 @@ module _ {ks : List Kept} {figures : List Estimate} (p : Walkable ks figures) (w
       rw (get_or-map est_of (measured wrap 1 ks) k undone) at (rw e at f))
 
   -- no cell is wider than its table
-  pub cell_most : (raw t w i : ℕ) → t < length ks → (get_or ks t no_kept).kind ≡ table_kind → AtMost w (cell_width wrap raw ks t (Wide w) i)
+  pub cell_most : (raw t w i : ℕ) → t < length ks → (get_or ks t no_kept).kind ≡ table_kind → AtMost w (cell_width wrap raw ks t (Some w) i)
   unfolding cell_width
   cell_most raw t w i h e =
       most_printed w (map shown_line (entries_of (grid_of (table_rows ks t)))) (map width_in (places_in (columns_of (table_rows ks t)) (boxes_at wrap ks t) raw w)) (i + 1)
@@ -69,29 +68,29 @@ module _ {ks : List Kept} {figures : List Estimate} (p : Walkable ks figures) (w
       (grid_tiles (table_rows ks t) (p.sound t h e) (held_spanned ks t))
       (all_drop Fits (t + 1) (measured wrap 1 ks) fits)))
 
-  wide_small : (w : ℕ) (v : Width) → AtMost max_size (Wide w) → AtMost w v → AtMost max_size v
+  wide_small : (w : ℕ) (v : Option ℕ) → AtMost max_size (Some w) → AtMost w v → AtMost max_size v
   unfolding AtMost
   wide_small w v s l = most_weaker w max_size v s l
 
-  none_small : (raw t i : ℕ) → AtMost max_size (cell_width wrap raw ks t Without i)
+  none_small : (raw t i : ℕ) → AtMost max_size (cell_width wrap raw ks t None i)
   unfolding cell_width AtMost
   none_small raw t i = tt
 
-  cell_small : (raw t i : ℕ) (v : Width) → t < length ks → (get_or ks t no_kept).kind ≡ table_kind → AtMost max_size v → AtMost max_size (cell_width wrap raw ks t v i)
-  cell_small raw t i Without h e s = none_small raw t i
-  cell_small raw t i (Wide w) h e s = wide_small w (cell_width wrap raw ks t (Wide w) i) s (cell_most raw t w i h e)
+  cell_small : (raw t i : ℕ) (v : Option ℕ) → t < length ks → (get_or ks t no_kept).kind ≡ table_kind → AtMost max_size v → AtMost max_size (cell_width wrap raw ks t v i)
+  cell_small raw t i None h e s = none_small raw t i
+  cell_small raw t i (Some w) h e s = wide_small w (cell_width wrap raw ks t (Some w) i) s (cell_most raw t w i h e)
 
   -- ---- the loop
 
   pub record Sofar (raw root overflow : ℕ) (ps qs : List Place) (i : ℕ) : Type 0 where
     pub at : i ≤ length ks
-    pub front : (k : ℕ) → k < i → get_or ps k no_place ≡ width_place (get_or (walk_to wrap raw root ks i) k Without)
-    pub ahead : (t j : ℕ) → CellIn ks t j → i ≤ j → get_or ps j no_place ≡ width_place (cell_width wrap raw ks t (get_or (walk_to wrap raw root ks i) t Without) j)
+    pub front : (k : ℕ) → k < i → get_or ps k no_place ≡ width_place (get_or (walk_to wrap raw root ks i) k None)
+    pub ahead : (t j : ℕ) → CellIn ks t j → i ≤ j → get_or ps j no_place ≡ width_place (cell_width wrap raw ks t (get_or (walk_to wrap raw root ks i) t None) j)
     pub passes : (d : ℕ) → d < depths → get_or qs d no_place ≡ width_place (from_nearest (passed_by wrap ks (walk_to wrap raw root ks i)) ks d i)
-    pub small : (k : ℕ) → AtMost max_size (get_or (walk_to wrap raw root ks i) k Without)
+    pub small : (k : ℕ) → AtMost max_size (get_or (walk_to wrap raw root ks i) k None)
     pub narrow : verdict_of (narrow_from wrap raw root overflow ks (length ks - i) i) ≡ verdict_of (narrow_checks wrap raw root overflow ks)
 
-  none_yet : (raw t j : ℕ) → no_place ≡ width_place (cell_width wrap raw ks t Without j)
+  none_yet : (raw t j : ℕ) → no_place ≡ width_place (cell_width wrap raw ks t None j)
   unfolding cell_width given_number width_number
   none_yet raw t j = refl
 
@@ -107,15 +106,15 @@ module _ {ks : List Kept} {figures : List Estimate} (p : Walkable ks figures) (w
   }
 
   module _ {raw root overflow : ℕ} (root-small : root ≤ max_size) {ps qs : List Place} {i : ℕ} (z : Sofar raw root overflow ps qs i) where
-    abbrev W : ℕ → List Width
+    abbrev W : ℕ → List (Option ℕ)
     W n = walk_to wrap raw root ks n
 
-    abbrev own : Width
+    abbrev own : Option ℕ
     own = line_width wrap raw root ks (W i) i
 
     -- every line is passed
-    pub stop : length ks ≤ i → length ks ≤ length ps → (Accepted ≡ verdict_of (narrow_checks wrap raw root overflow ks)) × (take (length ks) ps ≡ map width_place (walk wrap raw root ks))
-        × ((k : ℕ) → AtMost max_size (get_or (walk wrap raw root ks) k Without))
+    pub stop : length ks ≤ i → length ks ≤ length ps → ((Ok tt) ≡ verdict_of (narrow_checks wrap raw root overflow ks)) × (take (length ks) ps ≡ map width_place (walk wrap raw root ks))
+        × ((k : ℕ) → AtMost max_size (get_or (walk wrap raw root ks) k None))
     unfolding narrow_from verdict_of first_answer given_number width_number
     stop h r =
         let e : i ≡ length ks = omega (arith, z.at) in
@@ -125,31 +124,31 @@ module _ {ks : List Kept} {figures : List Estimate} (p : Walkable ks figures) (w
               (length-take-le (length ks) ps r ∙ sym (length-map (walk wrap raw root ks) width_place ∙ length_walk wrap raw root ks (length ks)))
               (λ k l.
               let b : k < length ks = omega (arith, length-take-le (length ks) ps r) in
-              get_or-take (length ks) ps k no_place b ∙ z.front k (omega arith) ∙ ap (λ (n : ℕ). width_place (get_or (W n) k Without)) e
+              get_or-take (length ks) ps k no_place b ∙ z.front k (omega arith) ∙ ap (λ (n : ℕ). width_place (get_or (W n) k None)) e
               ∙ sym (placed (walk wrap raw root ks) k)),
           λ k. rw e at (z.small k),
         )
       where
-        placed : (ws : List Width) (k : ℕ) → get_or (map width_place ws) k no_place ≡ width_place (get_or ws k Without)
-        placed ws k = get_or-map width_place ws k Without
+        placed : (ws : List (Option ℕ)) (k : ℕ) → get_or (map width_place ws) k no_place ≡ width_place (get_or ws k None)
+        placed ws k = get_or-map width_place ws k None
 
     module _ (h : i < length ks) where
       abbrev here : Kept
       here = get_or ks i no_kept
 
       -- the line's own width
-      cell_own : here.kind ≡ cell_kind → get_or ps i no_place ≡ width_place (from_nearest (λ t. cell_width wrap raw ks t (get_or (W i) t Without) i) ks (here.depth - 3) i)
+      cell_own : here.kind ≡ cell_kind → get_or ps i no_place ≡ width_place (from_nearest (λ t. cell_width wrap raw ks t (get_or (W i) t None) i) ks (here.depth - 3) i)
       cell_own e =
           let c = cell_table p.sheet i h e in
-          z.ahead c.table i c.cell (omega arith) ∙ ap width_place (sym (cell_nearest p.sheet (λ t. cell_width wrap raw ks t (get_or (W i) t Without) i) i c))
+          z.ahead c.table i c.cell (omega arith) ∙ ap width_place (sym (cell_nearest p.sheet (λ t. cell_width wrap raw ks t (get_or (W i) t None) i) i c))
 
       pub own_is : own_width root i (get_or ks i no_kept) ps qs ≡ line_width wrap raw root ks (walk_to wrap raw root ks i) i
       unfolding line_width
       own_is = go (eqb i 0) (eqb here.kind cell_kind) refl
         where
           go : (a b : Bool) → eqb here.kind cell_kind ≡ b
-              → cond a (Wide root) (cond b (width_by (get_or ps i no_place)) (width_by (get_or qs (here.depth - 1) no_place)))
-              ≡ cond a (Wide root) (cond b (from_nearest (λ t. cell_width wrap raw ks t (get_or (W i) t Without) i) ks (here.depth - 3) i) (from_nearest (passed_by wrap ks (W i)) ks (here.depth - 1) i))
+              → cond a (Some root) (cond b (width_by (get_or ps i no_place)) (width_by (get_or qs (here.depth - 1) no_place)))
+              ≡ cond a (Some root) (cond b (from_nearest (λ t. cell_width wrap raw ks t (get_or (W i) t None) i) ks (here.depth - 3) i) (from_nearest (passed_by wrap ks (W i)) ks (here.depth - 1) i))
           go true b e = refl
           go false true e = ap width_by (cell_own (eqb-true here.kind cell_kind e)) ∙ width_back _
           go false false e = ap width_by (z.passes (here.depth - 1) (omega (arith, p.lined.shallow i))) ∙ width_back _
@@ -160,37 +159,37 @@ module _ {ks : List Kept} {figures : List Estimate} (p : Walkable ks figures) (w
         where
           passed_small : (k : ℕ) → k < i → AtMost max_size (passed_by wrap ks (W i) k)
           passed_small k l =
-              most_passed max_size (get_or ks k no_kept).kind (get_or (estimates wrap ks) k none) (get_or (W i) k Without)
+              most_passed max_size (get_or ks k no_kept).kind (get_or (estimates wrap ks) k none) (get_or (W i) k None)
               (omega (arith, p.small k (omega arith), ap (λ (e : Estimate). e.least) (figure_at_lem k (omega arith)))) (z.small k)
 
           go : (a b : Bool) → eqb here.kind cell_kind ≡ b
-              → AtMost max_size (cond a (Wide root) (cond b (from_nearest (λ t. cell_width wrap raw ks t (get_or (W i) t Without) i) ks (here.depth - 3) i) (from_nearest (passed_by wrap ks (W i)) ks (here.depth - 1) i)))
+              → AtMost max_size (cond a (Some root) (cond b (from_nearest (λ t. cell_width wrap raw ks t (get_or (W i) t None) i) ks (here.depth - 3) i) (from_nearest (passed_by wrap ks (W i)) ks (here.depth - 1) i)))
           go true b e = root-small
           go false true e =
               let c = cell_table p.sheet i h (eqb-true here.kind cell_kind e) in
-              rw (cell_nearest p.sheet (λ t. cell_width wrap raw ks t (get_or (W i) t Without) i) i c)
-              (cell_small raw c.table i (get_or (W i) c.table Without) (omega (arith, c.cell.1.before)) c.cell.0 (z.small c.table))
+              rw (cell_nearest p.sheet (λ t. cell_width wrap raw ks t (get_or (W i) t None) i) i c)
+              (cell_small raw c.table i (get_or (W i) c.table None) (omega (arith, c.cell.1.before)) c.cell.0 (z.small c.table))
           go false false e = most_nearest max_size (passed_by wrap ks (W i)) ks (here.depth - 1) i passed_small
 
       -- 12
       abbrev rest : List Check
       rest = narrow_from wrap raw root overflow ks (length ks - (i + 1)) (i + 1)
 
-      here_narrow : (w : Width) → w ≡ own → narrow_at wrap raw root ks i ≡ too_narrow here.kind (get_or figures i none) w
+      here_narrow : (w : Option ℕ) → w ≡ own → narrow_at wrap raw root ks i ≡ too_narrow here.kind (get_or figures i none) w
       here_narrow w e =
           (λ j. too_narrow here.kind (sym (figure_at_lem i h) j) ((walk_stays wrap raw root ks (length ks) (suc i) i (omega arith) h ∙ walk_last wrap raw root ks i ∙ sym e) j))
 
-      verdict_here : (w : Width) → w ≡ own → (b : Bool) → b ≡ (eqb overflow 0 && too_narrow here.kind (get_or figures i none) w)
-          → verdict_of (narrow_checks wrap raw root overflow ks) ≡ cond b (Refused 12 (i + 1)) (verdict_of rest)
+      verdict_here : (w : Option ℕ) → w ≡ own → (b : Bool) → b ≡ (eqb overflow 0 && too_narrow here.kind (get_or figures i none) w)
+          → verdict_of (narrow_checks wrap raw root overflow ks) ≡ cond b (Err (refusal TooNarrow (i + 1))) (verdict_of rest)
       unfolding narrow_from verdict_of first_answer
       verdict_here w e b f =
           let s : length ks - i ≡ suc (length ks - (i + 1)) = omega arith in
           sym z.narrow
           ∙ ap (λ (n : ℕ). verdict_of (narrow_from wrap raw root overflow ks n i)) s
-          ∙ ap (λ (c : Bool). cond (eqb overflow 0 && c) (Refused 12 (i + 1)) (verdict_of rest)) (here_narrow w e)
-          ∙ ap (λ (c : Bool). cond c (Refused 12 (i + 1)) (verdict_of rest)) (sym f)
+          ∙ ap (λ (c : Bool). cond (eqb overflow 0 && c) (Err (refusal TooNarrow (i + 1))) (verdict_of rest)) (here_narrow w e)
+          ∙ ap (λ (c : Bool). cond c (Err (refusal TooNarrow (i + 1))) (verdict_of rest)) (sym f)
 
-      module _ {w : Width} {ps₁ qs₁ : List Place} (s : Stepped ks figures root i w ps qs ps₁ qs₁) where
+      module _ {w : Option ℕ} {ps₁ qs₁ : List Place} (s : Stepped ks figures root i w ps qs ps₁ qs₁) where
         w_is : w ≡ own
         w_is = s.width_is ∙ own_is
 
@@ -198,39 +197,39 @@ module _ {ks : List Kept} {figures : List Estimate} (p : Walkable ks figures) (w
         step_small = rw w_is own_small
 
         pub turn_refused : (b : Bool) → b ≡ (eqb overflow 0 && too_narrow (get_or ks i no_kept).kind (get_or figures i none) w) → b ≡ true
-            → Refused 12 (i + 1) ≡ verdict_of (narrow_checks wrap raw root overflow ks)
+            → Err (refusal TooNarrow (i + 1)) ≡ verdict_of (narrow_checks wrap raw root overflow ks)
         turn_refused b f t = sym (verdict_here w w_is b f ∙ rw t)
 
         module _ {ps₂ : List Place} (g : HandedOut ks i figures raw w ps₁ ps₂) (line_room : length ks ≤ length ps) (depth-room : depths ≤ length qs) where
-          now_own : get_or (W (suc i)) i Without ≡ w
+          now_own : get_or (W (suc i)) i None ≡ w
           now_own = walk_last wrap raw root ks i ∙ sym w_is
 
           off : (k : ℕ) → (k ≡ i → ⊥) → get_or ps₁ k no_place ≡ get_or ps k no_place
           off k n = ap (λ (l : List Place). get_or l k no_place) s.written ∙ get_or-set_other ps i k (width_place w) no_place n
 
-          front_next : (k : ℕ) → k < suc i → Dec (k ≡ i) → get_or ps₂ k no_place ≡ width_place (get_or (W (suc i)) k Without)
+          front_next : (k : ℕ) → k < suc i → Dec (k ≡ i) → get_or ps₂ k no_place ≡ width_place (get_or (W (suc i)) k None)
           front_next k l (yes e) =
               g.other k (λ c. omega (arith, c.1.before))
               ∙ ap (λ (x : ℕ). get_or ps₁ x no_place) e
               ∙ ap (λ (y : List Place). get_or y i no_place) s.written
               ∙ get_or-set_same ps i (width_place w) no_place (omega arith)
               ∙ ap width_place (sym now_own)
-              ∙ ap (λ (x : ℕ). width_place (get_or (W (suc i)) x Without)) (sym e)
+              ∙ ap (λ (x : ℕ). width_place (get_or (W (suc i)) x None)) (sym e)
           front_next k l (no e) =
               g.other k (λ c. omega (arith, c.1.before))
               ∙ off k e ∙ z.front k (omega arith) ∙ ap width_place (sym (walk_at wrap raw root ks i k e))
 
-          ahead_next : (t j : ℕ) → CellIn ks t j → suc i ≤ j → Dec (t ≡ i) → get_or ps₂ j no_place ≡ width_place (cell_width wrap raw ks t (get_or (W (suc i)) t Without) j)
+          ahead_next : (t j : ℕ) → CellIn ks t j → suc i ≤ j → Dec (t ≡ i) → get_or ps₂ j no_place ≡ width_place (cell_width wrap raw ks t (get_or (W (suc i)) t None) j)
           ahead_next t j c l (yes e) =
               let c' : CellIn ks i j = rw e at c in
-              let past = ap (λ (v : Width). width_place (cell_width wrap raw ks i v j)) (walk_past wrap raw root ks i i (omega arith)) in
+              let past = ap (λ (v : Option ℕ). width_place (cell_width wrap raw ks i v j)) (walk_past wrap raw root ks i i (omega arith)) in
               g.cell wrap same j c' (off j (λ q. omega arith) ∙ z.ahead i j c' (omega arith) ∙ past ∙ sym (none_yet raw i j))
               ∙ (λ n. width_place (cell_width wrap raw ks i (sym now_own n) j))
-              ∙ ap (λ (x : ℕ). width_place (cell_width wrap raw ks x (get_or (W (suc i)) x Without) j)) (sym e)
+              ∙ ap (λ (x : ℕ). width_place (cell_width wrap raw ks x (get_or (W (suc i)) x None) j)) (sym e)
           ahead_next t j c l (no e) =
               g.other j (λ d. e (one_table t i j c.1 d.1))
               ∙ off j (λ q. omega arith) ∙ z.ahead t j c (omega arith)
-              ∙ ap (λ (v : Width). width_place (cell_width wrap raw ks t v j)) (sym (walk_at wrap raw root ks i t e))
+              ∙ ap (λ (v : Option ℕ). width_place (cell_width wrap raw ks t v j)) (sym (walk_at wrap raw root ks i t e))
 
           passes_next : (d : ℕ) → d < depths → Dec (here.depth ≡ d) → get_or qs₁ d no_place ≡ width_place (from_nearest (passed_by wrap ks (W (suc i))) ks d (suc i))
           unfolding from_nearest
@@ -246,9 +245,9 @@ module _ {ks : List Kept} {figures : List Estimate} (p : Walkable ks figures) (w
               ∙ get_or-set_other qs here.depth d (width_place (passed_on here.kind (get_or figures i none) w)) no_place (λ q. e (sym q))
               ∙ z.passes d l
               ∙ ap width_place (nearest_same (passed_by wrap ks (W i)) (passed_by wrap ks (W (suc i))) ks d i
-              (λ k m. ap (λ (v : Width). passed_on (get_or ks k no_kept).kind (get_or (estimates wrap ks) k none) v) (sym (walk_at wrap raw root ks i k (λ q. omega arith))))))
+              (λ k m. ap (λ (v : Option ℕ). passed_on (get_or ks k no_kept).kind (get_or (estimates wrap ks) k none) v) (sym (walk_at wrap raw root ks i k (λ q. omega arith))))))
 
-          small_next : (k : ℕ) → Dec (k ≡ i) → AtMost max_size (get_or (W (suc i)) k Without)
+          small_next : (k : ℕ) → Dec (k ≡ i) → AtMost max_size (get_or (W (suc i)) k None)
           small_next k (yes e) = rw (e, walk_last wrap raw root ks i) own_small
           small_next k (no e) = rw (walk_at wrap raw root ks i k e) (z.small k)
 

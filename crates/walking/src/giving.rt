@@ -4,23 +4,16 @@ ghost use Rattle.records.specs.Kept.{kepts_of, entries_of, places_of};
 ghost use Rattle.estimates.specs.inner.Figures.{figures_of};
 ghost use Rattle.walking.specs.inner.Steps.{Walkable, Rooms, CellsFit, cell_in, printed_by, HandReady, HandedOut};
 
-use passing::Width;
-
 // Writes the width of each of the first n entries to the place of its cell's line; a filler has none.
 fn print_cells(entries: &[u32], wide: &[u32], n: usize, walk: &mut [u32])
     requires { CellsFit n (entries_of entries.now) wide.now (places_of walk.old) }
     ensures { places_of walk.new ≡ printed_by (map cell_in (take n (entries_of entries.now))) (take n wide.now) (places_of walk.old) }
 {
-    let mut i = n;
-    while i > 0 {
-        let k = i - 1;
+    for k in (0..n).rev() {
         let e = records::entry_at(entries, k);
         if e.cell != 0 {
             let at = (e.cell - 1) as usize;
             records::put_place(walk, at, passing::printed(wide[k]));
-            i -= 1;
-        } else {
-            i -= 1;
         }
     }
 }
@@ -31,7 +24,7 @@ pub fn hand_out(
     figures: &[u32],
     at: usize,
     raw: u32,
-    width: Width,
+    width: Option<u32>,
     walk: &mut [u32],
     entries: &mut [u32],
     rows: &mut [u32],
@@ -49,7 +42,7 @@ pub fn hand_out(
     if here.kind != kinds::TABLE {
         return;
     }
-    let Width::Wide(v) = width else {
+    let Some(v) = width else {
         return;
     };
     let arranged = table::arrange(lines, figures, at, raw, v, entries, rows, column, x, wide);

@@ -10,7 +10,7 @@ ghost use Rattle.records.specs.Kept.{kepts_of, places_of};
 ghost use Rattle.estimates.specs.inner.Figures.{figures_of};
 ghost use Rattle.walking.specs.inner.Steps.{Walkable, Rooms, Walked};
 
-use lists::Verdict;
+use lists::Refusal;
 
 // Walks a measured sheet from its first line, which has the width `width`. Two numbers of `walk` for each line are whether it has a width, and
 // which; the other slices are the room in which each table is laid out.
@@ -26,7 +26,7 @@ pub fn walk(
     column: &mut [u32],
     x: &mut [u32],
     wide: &mut [u32],
-) -> Verdict
+) -> Result<(), Refusal>
     requires walkable { Walkable (kepts_of lines.now) (figures_of figures.now) }
     requires raw_bound { (raw ≤ 1) × (width ≤ max_size) }
     requires lines_in_bounds { length (kepts_of lines.now) ≤ length (places_of walk.old) }

@@ -7,23 +7,22 @@ ghost use Rattle.estimates.specs.inner.Figures.{figures_of};
 ghost use Rattle.passing.specs.Walk.{too_narrow};
 ghost use Rattle.walking.specs.inner.Steps.{Walkable, Rooms, own_width, LineHere, Stepped, Cleared, Walked};
 
-use lists::{DEPTHS, Verdict};
-use passing::Width;
+use lists::{DEPTHS, Reason, Refusal};
 
 // The width of the line at the place i: the first line has the page's; what a cell has, its table wrote there; any other line has what its parent
 // passes on, the nearest line one less deep.
-fn own_width(k: records::Kept, i: usize, width: u32, walk: &[u32], passed: &[u32]) -> Width
+fn own_width(k: records::Kept, i: usize, width: u32, walk: &[u32], passed: &[u32]) -> Option<u32>
     requires i_in_bounds { i < length walk.now / 2 }
     requires depth_in_bounds { k.depth < length passed.now / 2 }
     ensures { result ≡ own_width width i k (places_of walk.now) (places_of passed.now) }
 {
     if i == 0 {
-        return Width::Wide(width);
+        return Some(width);
     }
     if k.kind == kinds::CELL {
         return passing::width_of(records::place_at(walk, i));
     }
-    let above = passing::less(k.depth, 1) as usize;
+    let above = k.depth.saturating_sub(1) as usize;
     passing::width_of(records::place_at(passed, above))
 }
 
@@ -35,7 +34,7 @@ fn step(
     width: u32,
     walk: &mut [u32],
     passed: &mut [u32],
-) -> Width
+) -> Option<u32>
     requires { LineHere lines.now figures.now walk.old passed.old i }
     ensures { Stepped (kepts_of lines.now) (figures_of figures.now) width i result
         (places_of walk.old) (places_of passed.old) (places_of walk.new) (places_of passed.new) }
@@ -54,7 +53,7 @@ fn step(
 }
 
 // Whether line i ends the walk: it is too narrow, and overflow is off.
-fn ends(lines: &[u32], figures: &[u32], i: usize, own: Width, overflow: u32) -> bool
+fn ends(lines: &[u32], figures: &[u32], i: usize, own: Option<u32>, overflow: u32) -> bool
     requires { (i < kept_count lines.now) × (i < length figures.now / 3) }
     ensures { result ≡ (eqb overflow 0 && too_narrow (get_or (kepts_of lines.now) i no_kept).kind (get_or (figures_of figures.now) i none) own) }
 {
@@ -79,7 +78,7 @@ pub fn walk_lines(
     column: &mut [u32],
     x: &mut [u32],
     wide: &mut [u32],
-) -> Verdict
+) -> Result<(), Refusal>
     requires walkable { Walkable (kepts_of lines.now) (figures_of figures.now) }
     requires raw_bound { (raw ≤ 1) × (width ≤ max_size) }
     requires cleared { Cleared (length (kepts_of lines.now)) (places_of walk.old) }
@@ -88,19 +87,14 @@ pub fn walk_lines(
 {
     let mut passed = [0u32; 2 * DEPTHS];
     let n = records::count(lines);
-    let mut i = 0;
-    while i < n {
+    for i in 0..n {
         let own = step(lines, figures, i, width, walk, &mut passed);
         if ends(lines, figures, i, own, overflow) {
-            return Verdict::Refused {
-                number: 12,
-                line: (i + 1) as u32,
-            };
+            return Err(Reason::TooNarrow.at((i + 1) as u32));
         }
         crate::giving::hand_out(
             lines, figures, i, raw, own, walk, entries, rows, column, x, wide,
         );
-        i += 1;
     }
-    Verdict::Accepted
+    Ok(())
 }

@@ -1,4 +1,6 @@
 -- The call `walk`: what is found in the sheet is what it answers and leaves. Assumes nothing.
+use Rattle.lists.specs.declared.Refusal.{Refusal}
+use Rattle.std.specs.Prelude.{Err, Ok, Result, Option, None}
 use mathlib.Core.Path.{◌≡◌, refl, sym, ap, ◌∙◌}
 use mathlib.Core.Bool.{Bool, true, false, ◌||◌}
 use mathlib.Core.List.{List, [], ◌∷◌, map}
@@ -10,18 +12,14 @@ use borrow.Author.Tests.{ltb-false}
 use Rattle.lists.specs.Lists.{padded, over}
 use Rattle.lists.specs.Limits.{max_lines, max_wrap, max_width, max_size}
 use Rattle.lists.specs.Refusals.{Check, first_answer, verdict_of, passes, if_passes}
-use Rattle.lists.specs.declared.Verdict.{Verdict}
-use Rattle.lists.specs.declared.Verdict.TheVariants.{Accepted, Refused as Refuses}
 use Rattle.text.specs.declared.Estimate.{Estimate}
 use Rattle.records.specs.Records.{numbers_of}
 use Rattle.records.specs.Kept.{place_by, places_of}
 use Rattle.records.specs.declared.Place.{Place}
 use Rattle.sheet.specs.Sheet.{sheet_lines}
 use Rattle.sheet.specs.Steps.{room_for}
-use Rattle.sheet.specs.declared.Reading.{Reading}
-use Rattle.sheet.specs.declared.Reading.TheVariants.{Lines, Refused}
-use Rattle.sheet.proofs.First.{neither, first_told, first_passes, first_accepts, figures_fail, front_pass}
-use Rattle.opening.specs.Opening.{asked}
+use Rattle.sheet.proofs.First.{neither, first_passes, first_accepts, figures_fail, front_pass}
+use Rattle.opening.specs.Opening.{after_reading}
 use Rattle.arguments.specs.Arguments.{walk_arguments}
 use Rattle.arguments.proofs.Shorter.{two_fit}
 use Rattle.sheet_figures.specs.inner.Opened.{lines_in}
@@ -30,13 +28,10 @@ use Rattle.sheet_figures.specs.inner.Early.{early}
 use Rattle.sheet_figures.proofs.Early.{early_nines, none_nines, fits, leaving}
 use Rattle.passing.specs.Walk.{given_number, width_number}
 use Rattle.passing.specs.inner.Places.{width_place}
-use Rattle.passing.specs.declared.Width.{Width}
 use Rattle.pacing.specs.Sheets.{walk_of}
 use Rattle.walks.specs.Walks.{walk_checks, walked_of, for_walk, WalkAnswer}
 use Rattle.pacing.specs.inner.Found.{walked_checks, SheetWalked}
-use Rattle.walks.specs.inner.Found.{TellRoom, first_in, span_in, WalkTold, WalkRoom, walked_in, WalkFound}
-use Rattle.answers.specs.declared.Walked.{Walked}
-use Rattle.answers.specs.declared.Walked.TheVariants as walked
+use Rattle.walks.specs.inner.Found.{TellRoom, first_in, span_in, WalkTold, WalkRoom, WalkFound}
 use Rattle.pacing.proofs.Opening.{opened_passed}
 
 -- ---- what is told
@@ -45,39 +40,39 @@ pub told_walk : (n : ℕ) (walk given₀ wide₀ : List ℕ) {given wide : List 
     → given ≡ over (numbers_of 2 0 n walk) given₀ → wide ≡ over (numbers_of 2 1 n walk) wide₀ → WalkTold n (places_of walk) given wide
 told_walk n walk p q h a b = record { givens = unpacked 2 0 n walk p place_by first_in (λ r. refl) h a; wides = unpacked 2 1 n walk q place_by span_in (λ r. refl) h b }
 
-module _ {asks : Bool} {s : List ℕ} {line wrap raw width overflow : ℕ} {r : Reading} {lines : List ℕ} {figures : List Estimate} {ps : List Place}
-    (w : SheetWalked asks s line wrap raw width overflow r lines figures ps) where
+module _ {asked : Option ℕ} {s : List ℕ} {wrap raw width overflow : ℕ} {r : Result ℕ Refusal} {lines : List ℕ} {figures : List Estimate} {ps : List Place}
+    (w : SheetWalked asked s wrap raw width overflow r lines figures ps) where
   -- there are no more lines than there is room for
   pub lines_few : (lines_in r ≤ room_for s) × (lines_in r ≤ max_lines)
   unfolding lines_in
   lines_few = at r refl
     where
-      at : (q : Reading) → r ≡ q → (lines_in r ≤ room_for s) × (lines_in r ≤ max_lines)
-      at (Lines n) e = let p = opened_passed (w.opened n e) n refl in rw e (p.room, p.few)
-      at (Refused number l) e = rw e (omega arith, omega arith)
+      at : (q : Result ℕ Refusal) → r ≡ q → (lines_in r ≤ room_for s) × (lines_in r ≤ max_lines)
+      at (Ok n) e = let p = opened_passed (w.opened n e) n refl in rw e (p.room, p.few)
+      at (Err why) e = rw e (omega arith, omega arith)
 
   abbrev cs : List Check
-  cs = walked_checks asks s line wrap raw width overflow
+  cs = walked_checks asked s wrap raw width overflow
 
   -- one figure of all lines, where the sheet is accepted
-  front : (figure : Place → ℕ) (number : Width → ℕ) → ((v : Width) → figure (width_place v) ≡ number v) → (n : ℕ) → n ≡ lines_in r → (slice : List ℕ) → take n slice ≡ map figure (take n ps)
+  front : (figure : Place → ℕ) (number : Option ℕ → ℕ) → ((v : Option ℕ) → figure (width_place v) ≡ number v) → (n : ℕ) → n ≡ lines_in r → (slice : List ℕ) → take n slice ≡ map figure (take n ps)
       → take (lines_in r) slice ≡ if_passes cs (map number (walk_of s wrap raw width))
   unfolding lines_in
   front figure number same n e slice q = at r refl
     where
-      renamed : (ws : List Width) → map figure (map width_place ws) ≡ map number ws
+      renamed : (ws : List (Option ℕ)) → map figure (map width_place ws) ≡ map number ws
       renamed [] = refl
       renamed (v ∷ ws) = (λ i. same v i ∷ renamed ws i)
 
-      at : (x : Reading) → r ≡ x → take (lines_in r) slice ≡ if_passes cs (map number (walk_of s wrap raw width))
-      at (Lines k) f =
-          let p = (first_accepts Refused (Lines (length (sheet_lines s))) (Lines k) cs (λ a b d. let z : ◌≡◌ {A = ℕ} 0 1 = cc in omega arith) (sym w.answer ∙ f)).0 in
+      at : (x : Result ℕ Refusal) → r ≡ x → take (lines_in r) slice ≡ if_passes cs (map number (walk_of s wrap raw width))
+      at (Ok k) f =
+          let p = (first_accepts Err (Ok (length (sheet_lines s))) (Ok k) cs (λ why d. let z : ◌≡◌ {A = ℕ} 0 1 = cc in omega arith) (sym w.answer ∙ f)).0 in
           let i : n ≡ k = e ∙ ap lines_in f in
           front_pass slice cs p (sym e) (q ∙ ap (λ (t : ℕ). map figure (take t ps)) i ∙ ap (map figure) (w.widths k f) ∙ renamed (walk_of s wrap raw width))
-      at (Refused a b) f = rw f (sym (figures_fail cs _ (refuse (passes cs) refl)))
+      at (Err why) f = rw f (sym (figures_fail cs _ (refuse (passes cs) refl)))
         where
           refuse : (t : Bool) → passes cs ≡ t → t ≡ false
-          refuse true p = let z = sym (first_passes Refused (Lines (length (sheet_lines s))) cs p) ∙ sym w.answer ∙ f in let y : ◌≡◌ {A = ℕ} 0 1 = cc in absurd (omega arith)
+          refuse true p = let z = sym (first_passes Err (Ok (length (sheet_lines s))) cs p) ∙ sym w.answer ∙ f in let y : ◌≡◌ {A = ℕ} 0 1 = cc in absurd (omega arith)
           refuse false p = refl
 
   pub walk_found : (n : ℕ) → n ≡ lines_in r → {given wide : List ℕ} → WalkTold n ps given wide → WalkFound cs s wrap raw width r given wide
@@ -90,27 +85,27 @@ module _ {asks : Bool} {s : List ℕ} {line wrap raw width overflow : ℕ} {r : 
   }
 
 -- places for all figures
-pub tell_room : {n : ℕ} (r : Reading) (s : List ℕ) (walk : List ℕ) {given wide : List ℕ} → n ≡ lines_in r → (lines_in r ≤ room_for s) × (lines_in r ≤ max_lines) → room_for s ≤ length walk / 2
+pub tell_room : {n : ℕ} (r : Result ℕ Refusal) (s : List ℕ) (walk : List ℕ) {given wide : List ℕ} → n ≡ lines_in r → (lines_in r ≤ room_for s) × (lines_in r ≤ max_lines) → room_for s ≤ length walk / 2
     → max_lines ≤ length given → max_lines ≤ length wide → TellRoom n walk given wide
 tell_room r s walk e l h a b = record { walk_in = omega (arith, e, l.0, h); given_in = omega (arith, e, l.1); wide_in = omega (arith, e, l.1) }
 
 -- ---- refused for the arguments, or not
 
-pub walk_early : (number at : ℕ) (cs : List Check) (s : List ℕ) (wrap raw width : ℕ) (given wide : List ℕ)
-    → WalkFound (early (Refuses number at) ∷ cs) s wrap raw width (Refused number at) given wide
+pub walk_early : (why : Refusal) (cs : List Check) (s : List ℕ) (wrap raw width : ℕ) (given wide : List ℕ)
+    → WalkFound (early (Err why) ∷ cs) s wrap raw width (Err why) given wide
 unfolding first_answer early if_passes lines_in
-walk_early number at cs s wrap raw width given wide = record { answer = refl; few = omega arith; givens = refl; wides = refl }
+walk_early why cs s wrap raw width given wide = record { answer = refl; few = omega arith; givens = refl; wides = refl }
 
-pub walk_late : {v : Verdict} {cs : List Check} {s : List ℕ} {wrap raw width : ℕ} {r : Reading} {given wide : List ℕ} → v ≡ Accepted
+pub walk_late : {v : Result (Unit {0}) Refusal} {cs : List Check} {s : List ℕ} {wrap raw width : ℕ} {r : Result ℕ Refusal} {given wide : List ℕ} → v ≡ (Ok tt)
     → WalkFound cs s wrap raw width r given wide → WalkFound (early v ∷ cs) s wrap raw width r given wide
 unfolding first_answer early if_passes
 walk_late z f = rw z (record { answer = f.answer; few = f.few; givens = f.givens; wides = f.wides })
 
 -- where the arguments are not refused, each lent buffer has room, and the settings are in their ranges
-fit : (wrap raw width overflow : ℕ) (v : Verdict) (a b : ℕ) → v ≡ verdict_of (walk_arguments wrap raw width overflow (a ∷ b ∷ [])) → v ≡ Accepted → (max_lines ≤ a) × (max_lines ≤ b)
+fit : (wrap raw width overflow : ℕ) (v : Result (Unit {0}) Refusal) (a b : ℕ) → v ≡ verdict_of (walk_arguments wrap raw width overflow (a ∷ b ∷ [])) → v ≡ (Ok tt) → (max_lines ≤ a) × (max_lines ≤ b)
 fit wrap raw width overflow v a b judged z = two_fit max_lines a b (none_nines _ _ (sym judged ∙ z)).1
 
-pub walk_fit : (wrap raw width overflow : ℕ) (v : Verdict) (given wide : List ℕ) → v ≡ verdict_of (walk_arguments wrap raw width overflow (for_walk given wide)) → v ≡ Accepted
+pub walk_fit : (wrap raw width overflow : ℕ) (v : Result (Unit {0}) Refusal) (given wide : List ℕ) → v ≡ verdict_of (walk_arguments wrap raw width overflow (for_walk given wide)) → v ≡ (Ok tt)
     → ((raw ≤ 1) × (width ≤ max_size)) × WalkRoom given wide
 walk_fit wrap raw width overflow v given wide judged z =
     let (a, b) = fit wrap raw width overflow v (length given) (length wide) judged z in
@@ -119,33 +114,28 @@ walk_fit wrap raw width overflow v given wide judged z =
     let (l, t) = neither (ltb max_wrap wrap) (ltb 1 raw) o in
     ((ltb-false 1 raw t, omega (arith, ltb-false max_width width q)), record { given_room = a; wide_room = b })
 
-pub walk_rooms : {s : List ℕ} (wrap raw width overflow : ℕ) {v : Verdict} (a b : ℕ) {r : Reading} {given wide : List ℕ} (ds : List Check)
+pub walk_rooms : {s : List ℕ} (wrap raw width overflow : ℕ) {v : Result (Unit {0}) Refusal} (a b : ℕ) {r : Result ℕ Refusal} {given wide : List ℕ} (ds : List Check)
     → v ≡ verdict_of (walk_arguments wrap raw width overflow (a ∷ b ∷ [])) → WalkFound (early v ∷ ds) s wrap raw width r given wide → (lines_in r ≤ a) × (lines_in r ≤ b)
 unfolding lines_in
 walk_rooms wrap raw width overflow {v} a b {r} ds judged found =
     let f = fit wrap raw width overflow v a b judged in (
-      fits Refused _ lines_in (λ n l. refl) v ds r max_lines a found.answer found.few (λ z. (f z).0),
-      fits Refused _ lines_in (λ n l. refl) v ds r max_lines b found.answer found.few (λ z. (f z).1),
+      fits Err _ lines_in (λ why. refl) v ds r max_lines a found.answer found.few (λ z. (f z).0),
+      fits Err _ lines_in (λ why. refl) v ds r max_lines b found.answer found.few (λ z. (f z).1),
     )
 
--- so many places can be kept
-pub keep_fits : {n t a l : ℕ} → n ≡ t → t ≤ a → l ≡ a → n ≤ l
-keep_fits e h k = omega arith
-
-module _ {s : List ℕ} {wrap raw width overflow : ℕ} {v : Verdict} {given₀ wide₀ : List ℕ} {r : Reading} {given wide : List ℕ}
+module _ {s : List ℕ} {wrap raw width overflow : ℕ} {v : Result (Unit {0}) Refusal} {given₀ wide₀ : List ℕ} {r : Result ℕ Refusal} {given wide : List ℕ}
     (judged : v ≡ verdict_of (walk_arguments wrap raw width overflow (for_walk given₀ wide₀)))
-    (found : WalkFound (early v ∷ walked_checks false s 0 wrap raw width overflow) s wrap raw width r given wide) where
-  pub walk_answered : {t : Walked} {n : ℕ} {a b : List ℕ} → t ≡ walked_in r → n ≡ lines_in r → length given ≡ length given₀ → length wide ≡ length wide₀
+    (found : WalkFound (early v ∷ walked_checks None s wrap raw width overflow) s wrap raw width r given wide) where
+  pub walk_answered : {t : Result ℕ Refusal} {n : ℕ} {a b : List ℕ} → t ≡ r → n ≡ lines_in r → length given ≡ length given₀ → length wide ≡ length wide₀
       → a ≡ padded (length given) (take n given) → b ≡ padded (length wide) (take n wide) → WalkAnswer s wrap raw width overflow given₀ wide₀ t a b
-  unfolding walked_of walked_in asked if_passes
+  unfolding walked_of after_reading if_passes
   walk_answered t k ka kb a b =
-      let cs = walked_checks false s 0 wrap raw width overflow in
-      let f : (xs : List ℕ) → first_answer (λ number line. []) xs (early v ∷ cs) ≡ first_answer (λ number line. []) xs (walk_checks s wrap raw width overflow (for_walk given₀ wide₀)) =
-      λ xs. early_nines (λ number line. []) xs v cs _ _ judged in
+      let cs = walked_checks None s wrap raw width overflow in
+      let f : (xs : List ℕ) → first_answer (λ why. []) xs (early v ∷ cs) ≡ first_answer (λ why. []) xs (walk_checks s wrap raw width overflow (for_walk given₀ wide₀)) =
+      λ xs. early_nines (λ why. []) xs v cs _ _ judged in
       record {
         answer =
-            t ∙ ap walked_in found.answer
-            ∙ first_told walked_in Refused (Lines (length (sheet_lines s))) (early v ∷ cs)
-            ∙ early_nines walked.Refused (walked.Lines (length (sheet_lines s))) v cs _ _ judged;
+            t ∙ found.answer
+            ∙ early_nines Err (Ok (length (sheet_lines s))) v cs _ _ judged;
         left = record { givens = leaving given₀ given (f _) k ka a found.givens; wides = leaving wide₀ wide (f _) k kb b found.wides };
       }

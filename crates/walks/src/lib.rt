@@ -4,24 +4,10 @@
 
 mod walking_out; // the walk, written to the lent buffers
 
-ghost use Rattle.std.specs.Prelude.{◌≡◌, ◌≤◌};
-ghost use Rattle.lists.specs.Limits.{max_lines};
-ghost use Rattle.sheet_figures.specs.inner.Opened.{lines_in};
 ghost use Rattle.walks.specs.Walks.{WalkAnswer};
-ghost use Rattle.walks.specs.inner.Found.{walked_in};
 
-use answers::Walked;
-
-// A reading in the words of `walk`.
-fn told(read: sheet::Reading) -> Walked
-    requires { lines_in read ≤ max_lines }
-    ensures { result ≡ walked_in read }
-{
-    match read {
-        sheet::Reading::Lines(n) => Walked::Lines(n as u32),
-        sheet::Reading::Refused { number, line } => Walked::Refused { number, line },
-    }
-}
+use arguments::Settings;
+use lists::Refusal;
 
 // The widths of a sheet's lines, where the first has the width `width`: whether each has one, and which.
 pub fn walk(
@@ -32,13 +18,19 @@ pub fn walk(
     overflow: u32,
     given: &mut [u32],
     wide: &mut [u32],
-) -> Walked
+) -> Result<u32, Refusal>
     ensures { WalkAnswer sheet.now wrap raw width overflow given.old wide.old result given.new wide.new }
 {
-    let asked = arguments::of_walk(wrap, raw, width, overflow, given.len(), wide.len());
-    let read = walking_out::find_walk(sheet, wrap, raw, width, overflow, asked, given, wide);
+    let settings = Settings {
+        wrap,
+        raw,
+        width,
+        overflow,
+    };
+    let asked = arguments::of_walk(settings, given.len(), wide.len());
+    let read = walking_out::find_walk(sheet, settings, asked, given, wide);
     let n = sheet_figures::line_count(read);
     lists::keep_front(given, n);
     lists::keep_front(wide, n);
-    told(read)
+    Ok(read? as u32)
 }

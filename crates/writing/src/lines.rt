@@ -1,43 +1,33 @@
 // One line of a listing. Each first makes room, so that no line is asked whether it fits.
 ghost use Rattle.std.specs.Prelude.{◌≤◌, length};
-ghost use Rattle.writing.specs.Writing.{Place};
+
+use printing::Output;
 
 // Room enough for every line: the longest have four numbers, 44 bytes.
 const ROOM: usize = 64;
 
 // Puts a word or a line that is given whole.
-pub fn words(out: &mut [u8], at: usize, word: &[u8]) -> usize
-    requires place { Place out.old at }
-    requires word_len_bound { length word.now ≤ 64 }
-    ensures { Place out.new result }
+pub fn words(out: &mut Output, word: &[u8])
+    requires { length word.now ≤ 64 }
 {
-    let next = printing::make_room(out, at, ROOM);
-    printing::put(out, next, word)
+    out.make_room(ROOM);
+    out.put(word);
 }
 
 // Puts a number without what follows it.
-pub fn number(out: &mut [u8], at: usize, n: u32) -> usize
-    requires { Place out.old at }
-    ensures { Place out.new result }
-{
-    let next = printing::make_room(out, at, ROOM);
-    printing::put_number(out, next, n)
+pub fn number(out: &mut Output, n: u32) {
+    out.make_room(ROOM);
+    out.put_number(n);
 }
 
 // Puts a line of two numbers.
-pub fn two(out: &mut [u8], at: usize, a: u32, b: u32) -> usize
-    requires { Place out.old at }
-    ensures { Place out.new result }
-{
-    let next = printing::make_room(out, at, ROOM);
-    printing::put_two(out, next, a, b)
+pub fn two(out: &mut Output, a: u32, b: u32) {
+    out.make_room(ROOM);
+    out.put_two(a, b);
 }
 
 // Puts a line of four numbers.
-pub fn four(out: &mut [u8], at: usize, a: u32, b: u32, c: u32, d: u32) -> usize
-    requires { Place out.old at }
-    ensures { Place out.new result }
-{
-    let next = printing::make_room(out, at, ROOM);
-    printing::put_four(out, next, a, b, c, d)
+pub fn four(out: &mut Output, a: u32, b: u32, c: u32, d: u32) {
+    out.make_room(ROOM);
+    out.put_four(a, b, c, d);
 }

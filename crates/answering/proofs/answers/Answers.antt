@@ -6,7 +6,7 @@ use Rattle.settings.proofs.Bounds.{settings_in_range}
 use Rattle.answering.proofs.answers.Goals as goal
 
 pub slice_bounds-checked-count : goal.slice_bounds-checked-count
-slice_bounds-checked-count c = (settings_in_range _ _ (sym c.settings-settled.ensures ∙ c.in-Set.is)).sheet
+slice_bounds-checked-count c = (settings_in_range _ _ (sym c.settings.ensures ∙ c.in-Ok.is)).sheet
 
 pub slice_bounds-checked-start : goal.slice_bounds-checked-start
-slice_bounds-checked-start c = omega (arith, (settings_in_range _ _ (sym c.settings-settled.ensures ∙ c.in-Set.is)).sheet)
+slice_bounds-checked-start c = omega (arith, (settings_in_range _ _ (sym c.settings.ensures ∙ c.in-Ok.is)).sheet)

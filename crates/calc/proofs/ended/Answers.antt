@@ -1,22 +1,39 @@
 -- `calc::ended` meets its contract: the number of open brackets decides first, then the place. Assumes nothing.
 use mathlib.Core.Path.{sym, ap, ◌∙◌}
+use Prim.Native.Nat.{ℕ}
+use native.Mathlib.Omega.{arith}
 use borrow.Author.Tests.{eq-eqb, ne_eqb}
+use Rattle.std.specs.Prelude.{refl, ◌≡◌, Option, None, Some, Result, Err, ok_or, ℤ}
+use Rattle.std.specs.Result.{result_ok}
+use Rattle.std.proofs.Common.{rules}
+use Rattle.lists.specs.declared.Reason.{Reason}
+use Rattle.lists.specs.declared.Reason.TheVariants.{OutOfBounds}
 use Rattle.sums.specs.Answers.{answer_by}
-use Rattle.calc.specs.inner.Kept.{found_of, end_at}
+use Rattle.calc.specs.inner.Kept.{place_of, end_at}
 use Rattle.calc.proofs.ended.Goals as goal
+
+-- what is handed up is the reason that was given
+handed : (o : Option (Option ℤ)) (why e : Reason) (r : Result (Option ℤ) Reason) → r ≡ ok_or o why → r ≡ Err e → (o ≡ None) × (e ≡ why)
+handed None why e r a b = (refl, cc)
+handed (Some x) why e r a b = let z : ◌≡◌ {A = ℕ} 0 1 = cc in absurd (omega arith)
 
 pub returns-then-depth-ne0 : goal.returns-then-depth-ne0
 unfolding end_at answer_by
 returns-then-depth-ne0 c = rw (ne_eqb _ 0 c.if-depth-ne0.true)
 
-pub returns-in_default : goal.returns-in_default
+pub returns-in_err-ok_or : goal.returns-in_err-ok_or
 unfolding end_at answer_by
-returns-in_default c =
-    rw (eq-eqb _ 0 c.if-depth-ne0.false)
-    (ap answer_by (sym (ap found_of c.in_default.is) ∙ c.total.ensures))
+returns-in_err-ok_or c =
+    let h = handed _ _ _ _ c.ok_or.ensures.value c.in_err-ok_or.was in
+    let q : c.from_residual.result ≡ Err c.in_err-ok_or.field-0.0 = search rules in
+    rw (eq-eqb _ 0 c.if-depth-ne0.false) (q ∙ ap Err h.1 ∙ ap answer_by (sym h.0 ∙ c.total.ensures))
 
 pub returns : goal.returns
-unfolding end_at
+unfolding end_at answer_by
 returns c =
-    rw (eq-eqb _ 0 c.if-depth-ne0.false)
-    (c.figure.ensures ∙ ap answer_by (sym (ap found_of c.in-Result.is) ∙ c.total.ensures))
+    let e : end_at c.args.depth (place_of c.args.t) ≡ Some c.in_ok-ok_or.field-0 = rw (eq-eqb _ 0 c.if-depth-ne0.false) (sym c.total.ensures ∙ c.ok_or.ensures.ok_part ∙ ap result_ok c.in_ok-ok_or.was) in
+    rw e (c.ok_or-2.ensures.value ∙ by_value _)
+  where
+    by_value : (x : Option ℤ) → ok_or x OutOfBounds ≡ answer_by (Some x)
+    by_value None = refl
+    by_value (Some x) = refl

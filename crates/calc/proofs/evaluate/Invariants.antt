@@ -1,12 +1,6 @@
--- `calc::evaluate` meets its contract. The loop's invariant is `Sofar`, whose laws stand in proofs/Sofar.antt: each need is one of them. The
--- measure is what is left of the text. Assumes nothing.
-use Prim.Native.Nat.{◌-◌}
-use lib.ListN.{length}
+-- `calc::evaluate` meets its contract. The loop's invariant is `Sofar`, whose laws stand in proofs/Sofar.antt: each need is one of them. Assumes nothing.
 use Rattle.calc.proofs.Sofar.{Sofar}
 use Rattle.calc.proofs.evaluate.Given as goal
 
-abbrev pub invariant-loop-i : goal.invariant-loop-i
-invariant-loop-i l = Sofar l.text l.outer l.depth l.place l.i
-
-abbrev pub decreases-loop-i : goal.decreases-loop-i
-decreases-loop-i l = length l.text - l.i
+abbrev pub invariant-loop-c : goal.invariant-loop-c
+invariant-loop-c l = Sofar l.text l.outer l.depth l.place l.c-index

@@ -1,14 +1,16 @@
 -- `calc::written_length` meets its contract. The digits, and one for the sign. Assumes nothing.
-use Prim.Native.Nat.{◌+◌}
 use native.Mathlib.Omega.{arith}
-use Rattle.calc.proofs.Lengths.{thirteen, ranged, signed_length, plain_length}
+use Rattle.std.proofs.Math.Facts.{to_z-of_z}
+use Rattle.calc.proofs.Lengths.{ranged, signed_length}
 use Rattle.calc.proofs.written_length.Goals as goal
 
 pub overflow_add-result : goal.overflow_add-result
-overflow_add-result c = omega (arith, c.decimal_length.ensures, thirteen c.args.n c.requires)
-
-pub returns-then-minus : goal.returns-then-minus
-returns-then-minus c = ranged c.args.minus c.args.n (1 + c.decimal_length.result) c.requires (signed_length c.args.minus c.args.n c.decimal_length.result c.if-minus.true c.decimal_length.ensures)
+overflow_add-result c =
+    let e = signed_length c.args.z _ _ _ (simp (to_z-of_z c.ranges.z) at c.from.ensures) (simp (to_z-of_z c.ranges.z) at c.unsigned_abs.ensures.value) c.decimal_length.ensures in
+    let l = ranged c.args.z _ c.requires e in
+    record { fits = omega (arith, l.most) }
 
 pub returns : goal.returns
-returns c = ranged c.args.minus c.args.n c.decimal_length-2.result c.requires (plain_length c.args.minus c.args.n c.decimal_length-2.result c.if-minus.false c.decimal_length-2.ensures)
+returns c =
+    ranged c.args.z _ c.requires
+    (signed_length c.args.z _ _ _ (simp (to_z-of_z c.ranges.z) at c.from.ensures) (simp (to_z-of_z c.ranges.z) at c.unsigned_abs.ensures.value) c.decimal_length.ensures)

@@ -1,24 +1,17 @@
 -- What the code's values stand for. These are definitions; nothing is assumed.
-use Rattle.std.specs.Prelude.{cond, ◌≡◌, List, [], ◌∷◌, ℕ, zero, suc, ◌^◌, ◌<◌, eqb, ltb, ℤ, get_or}
-use Rattle.std.proofs.Math.Option.{Option, none, some}
-use Rattle.calc.specs.declared.Before.{Before}
-use Rattle.calc.specs.declared.Before.TheVariants.{Nothing, After}
+use Rattle.std.specs.Prelude.{cond, ◌≡◌, List, [], ◌∷◌, ℕ, zero, suc, ◌^◌, ◌<◌, eqb, ltb, ℤ, get_or, Option, None, Some}
+use Rattle.sums.specs.declared.Op.{Op}
 use Rattle.calc.specs.declared.Frame.{Frame}
 use Rattle.calc.specs.declared.Top.{Top}
 use Rattle.calc.specs.declared.Top.TheVariants.{Wrong, Want, Within, Have}
-use Rattle.calc.specs.declared.Found.{Found}
-use Rattle.calc.specs.declared.Found.TheVariants.{Missing, Result}
-use Rattle.calc.specs.declared.Room.{Room}
-use Rattle.calc.specs.declared.Room.TheVariants.{Shut, Open}
 use Rattle.sums.specs.Tree.{both}
 use Rattle.sums.specs.Machine.{Waiting, waiting, Place, wrong, want, within, have, inner, total, wanted}
 use Rattle.sums.specs.Answers.{values}
-use Rattle.sums.specs.inner.Worth.{worth}
 
 -- what waits before a number
-abbrev pub onto_of : Before → Option ℤ → Option ℤ
-onto_of Nothing = λ x. x
-onto_of (After a o) = both o (worth a)
+abbrev pub onto_of : Option (Option ℤ × Op) → Option ℤ → Option ℤ
+onto_of None = λ x. x
+onto_of (Some (a, o)) = both o a
 
 abbrev pub waiting_of : Frame → Waiting (Option ℤ)
 waiting_of f = waiting (onto_of f.sum) (onto_of f.product)
@@ -27,26 +20,22 @@ abbrev pub place_of : Top → Place (Option ℤ)
 place_of Wrong = wrong
 place_of (Want f) = want (waiting_of f)
 place_of (Within n v f) = within n v (waiting_of f)
-place_of (Have b p) = have (onto_of b) (worth p)
+place_of (Have b p) = have (onto_of b) p
 
-abbrev pub found_of : Found → Option (Option ℤ)
-found_of Missing = none
-found_of (Result x) = some (worth x)
-
-abbrev pub room_of : Room → Option (Waiting (Option ℤ))
-room_of Shut = none
-room_of (Open f) = some (waiting_of f)
+abbrev pub room_of : Option Frame → Option (Waiting (Option ℤ))
+room_of None = None
+room_of (Some f) = Some (waiting_of f)
 
 -- what waits, if a bracket may open within n others
 unfoldable pub opening_at : ℕ → Place (Option ℤ) → Option (Waiting (Option ℤ))
-opening_at n p = cond (ltb n 32) (wanted p) none
+opening_at n p = cond (ltb n 32) (wanted p) None
 
 -- the result of a text that ends within n open brackets
 unfoldable pub end_at : ℕ → Place (Option ℤ) → Option (Option ℤ)
-end_at n p = cond (eqb n 0) (total values p) none
+end_at n p = cond (eqb n 0) (total values p) None
 
 abbrev pub nothing : Frame
-nothing = record { sum = Nothing; product = Nothing }
+nothing = record { sum = None; product = None }
 
 -- what waits outside the n open brackets
 unfoldable pub outer_of : ℕ → List Frame → List (Waiting (Option ℤ))

@@ -1,8 +1,12 @@
--- `call_estimates::check` meets its contract: what reading the sheet and judging its tables answers, told as a verdict. Assumes nothing.
-use mathlib.Core.Path.{ap, ◌∙◌}
-use Rattle.call_estimates.specs.inner.Found.{verdict_in}
-use Rattle.call_estimates.proofs.Answers.{checked}
+-- `call_estimates::check` meets its contract: what opening the sheet answers, without the number of its lines. Assumes nothing.
+use Rattle.std.proofs.Common.{rules, ◌≡◌, Err, sym, ap, ◌∙◌}
+use Rattle.call_estimates.proofs.Answers.{verdict_in, checked}
 use Rattle.call_estimates.proofs.check.Goals as goal
 
 pub returns : goal.returns
-returns c = c.verdict_of.ensures ∙ ap verdict_in c.check_within-read.ensures ∙ checked _ 0
+returns c = sym (ap verdict_in c.in_ok-check_within.was) ∙ ap verdict_in c.check_within.ensures ∙ checked _
+
+pub returns-in_err-check_within : goal.returns-in_err-check_within
+returns-in_err-check_within c =
+    let q : c.from_residual.result ≡ Err c.in_err-check_within.field-0.0 = search rules in
+    q ∙ sym (ap verdict_in c.in_err-check_within.was) ∙ ap verdict_in c.check_within.ensures ∙ checked _

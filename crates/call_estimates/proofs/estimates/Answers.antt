@@ -1,5 +1,7 @@
 -- `call_estimates::estimates` meets its contract: what is found stands in the front of the lent buffers, which are long enough where something is
 -- found, and the rest of each is cleared. Assumes nothing.
+use Rattle.std.proofs.Common.{rules, ◌≡◌, Err, sym, ◌∙◌}
+use Rattle.sheet_figures.specs.inner.Opened.{lines_in}
 use native.Mathlib.Omega.{arith}
 use Rattle.call_estimates.proofs.Answers.{figures_fit, rooms, answered}
 use Rattle.call_estimates.proofs.estimates.Goals as goal
@@ -25,11 +27,17 @@ keep_front-requires-3 c =
     let f = c.find_estimates-read in
     omega (arith, (rooms c.of_estimates-asked.ensures c.find_estimates-read.ensures).2, c.find_estimates-read.auto.prefix)
 
-pub answer_of-requires : goal.answer_of-requires
-answer_of-requires c = c.find_estimates-read.ensures.few
+pub overflow_cast-result : goal.overflow_cast-result
+unfolding lines_in
+overflow_cast-result c = omega (arith, rw c.in_ok-read.was at c.find_estimates-read.ensures.few)
 
 pub returns : goal.returns
 returns c =
-    let f = c.find_estimates-read in
-    answered c.of_estimates-asked.ensures c.find_estimates-read.ensures c.answer_of.ensures c.line_count-n.ensures
+    answered c.of_estimates-asked.ensures c.find_estimates-read.ensures (sym c.in_ok-read.was) c.line_count-n.ensures
+    c.find_estimates-read.auto.size c.find_estimates-read.auto.least c.find_estimates-read.auto.prefix c.keep_front.ensures c.keep_front-2.ensures c.keep_front-3.ensures
+
+pub returns-in_err-read : goal.returns-in_err-read
+returns-in_err-read c =
+    let q : c.from_residual.result ≡ Err c.in_err-read.field-0.0 = search rules in
+    answered c.of_estimates-asked.ensures c.find_estimates-read.ensures (q ∙ sym c.in_err-read.was) c.line_count-n.ensures
     c.find_estimates-read.auto.size c.find_estimates-read.auto.least c.find_estimates-read.auto.prefix c.keep_front.ensures c.keep_front-2.ensures c.keep_front-3.ensures

@@ -1,31 +1,15 @@
 -- What is found of a sheet's lines, where the checks pass or one of them refuses. These are definitions; nothing is assumed.
-use Rattle.std.specs.Prelude.{◌≡◌, true, List, map, ℕ, ◌≤◌, ◌/◌, length, take}
+use Rattle.lists.specs.declared.Refusal.{Refusal}
+use Rattle.std.specs.Prelude.{◌≡◌, true, List, map, ℕ, ◌≤◌, ◌/◌, length, take, Err, Ok, Result, Option, Some}
 use Rattle.lists.specs.Limits.{max_lines}
 use Rattle.lists.specs.Refusals.{Check, first_answer, passes, if_passes}
-use Rattle.lists.specs.declared.Verdict.{Verdict}
-use Rattle.lists.specs.declared.Verdict.TheVariants as verdict
 use Rattle.text.specs.declared.Estimate.{Estimate}
 use Rattle.sheet.specs.Sheet.{sheet_lines}
-use Rattle.sheet.specs.declared.Reading.{Reading}
-use Rattle.sheet.specs.declared.Reading.TheVariants.{Lines, Refused}
 use Rattle.estimates.specs.Estimates.{estimates}
 use Rattle.estimates.specs.Meets.{AllBounded}
 use Rattle.opening.specs.Opening.{kept_lines}
-use Rattle.answers.specs.declared.Estimated.{Estimated}
-use Rattle.answers.specs.declared.Estimated.TheVariants as estimated
 use Rattle.sheet_figures.specs.Figures.{line_size, line_least, line_prefix}
 use Rattle.sheet_figures.specs.inner.Opened.{lines_in}
-use Rattle.call_estimates.specs.declared.arrays.Tried.{Tried}
-use Rattle.call_estimates.specs.declared.arrays.Tried.TheVariants.{Found}
-
--- a reading as `check` answers it, and as `estimates` does
-unfoldable pub verdict_in : Reading → Verdict
-verdict_in (Lines n) = verdict.Accepted
-verdict_in (Refused number line) = verdict.Refused number line
-
-unfoldable pub answer_in : Reading → Estimated
-answer_in (Lines n) = estimated.Lines n
-answer_in (Refused number line) = estimated.Refused number line
 
 -- the lent buffers have the places of a sheet's lines
 pub record LinesRoom (size least prefix : List ℕ) : Type 0 where
@@ -46,8 +30,8 @@ pub record FiguresTold (n : ℕ) (fs : List Estimate) (size least prefix : List 
   pub prefixes : take n prefix ≡ map line_prefix (take n fs)
 
 -- the estimates, or the first refusal; the figures stand in the first places
-pub record EstimatesFound (cs : List Check) (s : List ℕ) (wrap : ℕ) (r : Reading) (size least prefix : List ℕ) : Type 0 where
-  pub answer : r ≡ first_answer Refused (Lines (length (sheet_lines s))) cs
+pub record EstimatesFound (cs : List Check) (s : List ℕ) (wrap : ℕ) (r : Result ℕ Refusal) (size least prefix : List ℕ) : Type 0 where
+  pub answer : r ≡ first_answer Err (Ok (length (sheet_lines s))) cs
   pub few : lines_in r ≤ max_lines
   pub sizes : take (lines_in r) size ≡ if_passes cs (map line_size (estimates wrap (kept_lines s)))
   pub leasts : take (lines_in r) least ≡ if_passes cs (map line_least (estimates wrap (kept_lines s)))
@@ -55,5 +39,5 @@ pub record EstimatesFound (cs : List Check) (s : List ℕ) (wrap : ℕ) (r : Rea
   pub sound : passes cs ≡ true → AllBounded (estimates wrap (kept_lines s))
 
 -- the same if short arrays did
-pub record EstimatesTried (cs : List Check) (s : List ℕ) (wrap : ℕ) (t : Tried) (size least prefix : List ℕ) : Type 0 where
-  pub found : (r : Reading) → t ≡ Found r → EstimatesFound cs s wrap r size least prefix
+pub record EstimatesTried (cs : List Check) (s : List ℕ) (wrap : ℕ) (t : Option (Result ℕ Refusal)) (size least prefix : List ℕ) : Type 0 where
+  pub found : (r : Result ℕ Refusal) → t ≡ Some r → EstimatesFound cs s wrap r size least prefix

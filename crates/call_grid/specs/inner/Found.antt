@@ -1,22 +1,21 @@
 -- The grid of one table of a sheet, where the checks pass or one of them refuses. These are definitions; nothing is assumed.
-use Rattle.std.specs.Prelude.{◌≡◌, List, map, ℕ, ◌≤◌, length, take}
+use Rattle.answers.specs.Answers.{grid_with}
+use Rattle.answers.specs.declared.Grid.{Grid}
+use Rattle.lists.specs.declared.Refusal.{Refusal}
+use Rattle.std.specs.Prelude.{◌≡◌, List, map, ℕ, ◌≤◌, length, take, Err, Result, Option, Some, Ok}
 use Rattle.lists.specs.Limits.{max_lines, max_entries}
 use Rattle.lists.specs.Refusals.{Check, first_answer, if_passes}
 use Rattle.grid.specs.Grid.{shown_line, entries_of, row_ends, first_of, span_of, row_line}
-use Rattle.answers.specs.declared.Gridded.{Gridded}
-use Rattle.answers.specs.declared.Gridded.TheVariants.{Grid, Refused}
 use Rattle.sheet_figures.specs.Figures.{rows_at, columns_at}
-use Rattle.call_grid.specs.declared.arrays.Tried.{Tried}
-use Rattle.call_grid.specs.declared.arrays.Tried.TheVariants.{Found}
 
 -- how many entries and rows there are
-unfoldable pub entries_in : Gridded → ℕ
-entries_in (Grid rows entries columns) = entries
-entries_in (Refused number line) = 0
+unfoldable pub entries_in : Result Grid Refusal → ℕ
+entries_in (Ok t) = t.entries
+entries_in (Err why) = 0
 
-unfoldable pub rows_in : Gridded → ℕ
-rows_in (Grid rows entries columns) = rows
-rows_in (Refused number line) = 0
+unfoldable pub rows_in : Result Grid Refusal → ℕ
+rows_in (Ok t) = t.rows
+rows_in (Err why) = 0
 
 -- the lent buffers have the places of a table's entries, and of its rows
 pub record GridRoom (cell first' span row end : List ℕ) : Type 0 where
@@ -27,8 +26,8 @@ pub record GridRoom (cell first' span row end : List ℕ) : Type 0 where
   pub end_room : max_lines ≤ length end
 
 -- the grid found, or the first refusal; its entries and rows stand in the first places
-pub record GridFound (cs : List Check) (s : List ℕ) (line : ℕ) (r : Gridded) (cell first' span row end : List ℕ) : Type 0 where
-  pub answer : r ≡ first_answer Refused (Grid (length (rows_at s line)) (length (entries_of (rows_at s line))) (columns_at s line)) cs
+pub record GridFound (cs : List Check) (s : List ℕ) (line : ℕ) (r : Result Grid Refusal) (cell first' span row end : List ℕ) : Type 0 where
+  pub answer : r ≡ first_answer Err (Ok (grid_with (length (rows_at s line)) (length (entries_of (rows_at s line))) (columns_at s line))) cs
   pub few_entries : entries_in r ≤ max_entries
   pub few_rows : rows_in r ≤ max_lines
   pub cells : take (entries_in r) cell ≡ if_passes cs (map shown_line (entries_of (rows_at s line)))
@@ -38,5 +37,5 @@ pub record GridFound (cs : List Check) (s : List ℕ) (line : ℕ) (r : Gridded)
   pub row_ends_fits : take (rows_in r) end ≡ if_passes cs (row_ends 0 (rows_at s line))
 
 -- the same if short arrays did
-pub record GridTried (cs : List Check) (s : List ℕ) (line : ℕ) (t : Tried) (cell first' span row end : List ℕ) : Type 0 where
-  pub found : (r : Gridded) → t ≡ Found r → GridFound cs s line r cell first' span row end
+pub record GridTried (cs : List Check) (s : List ℕ) (line : ℕ) (t : Option (Result Grid Refusal)) (cell first' span row end : List ℕ) : Type 0 where
+  pub found : (r : Result Grid Refusal) → t ≡ Some r → GridFound cs s line r cell first' span row end

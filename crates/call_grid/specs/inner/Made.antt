@@ -1,26 +1,25 @@
 -- The grid of the table in a line of lines that were read, as records and in the lent buffers. These are definitions; nothing is assumed.
-use Rattle.std.specs.Prelude.{◌≡◌, List, map, ℕ, ◌-◌, ◌≤◌, ◌/◌, length, take}
+use Rattle.answers.specs.Answers.{grid_with}
+use Rattle.answers.specs.declared.Grid.{Grid}
+use Rattle.lists.specs.declared.Refusal.{Refusal}
+use Rattle.std.specs.Prelude.{◌≡◌, List, map, ℕ, ◌-◌, ◌≤◌, ◌/◌, length, take, Err, Ok, Result}
 use Rattle.records.specs.Kept.{kepts_of}
 use Rattle.records.specs.declared.Entry.{Entry}
 use Rattle.records.specs.declared.Row.{Row}
-use Rattle.sheet.specs.declared.Reading.{Reading}
-use Rattle.sheet.specs.declared.Reading.TheVariants.{Lines, Refused as NotRead}
 use Rattle.cells.specs.Listed.{table_rows}
 use Rattle.gridding.specs.Packed.{TableMade}
 use Rattle.gridding.specs.declared.Counts.{Counts}
-use Rattle.answers.specs.declared.Gridded.{Gridded}
-use Rattle.answers.specs.declared.Gridded.TheVariants.{Grid, Refused}
 
 -- a grid's counts as the call answers them
-abbrev pub answer_of : Counts → Gridded
-answer_of c = Grid c.rows c.entries c.columns
+abbrev pub answer_of : Counts → Grid
+answer_of c = grid_with c.rows c.entries c.columns
 
 -- the refusal handed up, or the grid in the first records
-pub record GridMade (read : Reading) (lines : List ℕ) (line : ℕ) (r : Gridded) (es : List Entry) (rs : List Row) : Type 0 where
-  pub refused : (number at : ℕ) → read ≡ NotRead number at → r ≡ Refused number at
-  pub counts : (n : ℕ) → read ≡ Lines n → Counts
-  pub answer : (n : ℕ) (e : read ≡ Lines n) → r ≡ answer_of (counts n e)
-  pub made : (n : ℕ) (e : read ≡ Lines n) → TableMade (table_rows (take n (kepts_of lines)) (line - 1)) (counts n e) es rs
+pub record GridMade (read : Result ℕ Refusal) (lines : List ℕ) (line : ℕ) (r : Result Grid Refusal) (es : List Entry) (rs : List Row) : Type 0 where
+  pub refused : (why : Refusal) → read ≡ Err why → r ≡ Err why
+  pub counts : (n : ℕ) → read ≡ Ok n → Counts
+  pub answer : (n : ℕ) (e : read ≡ Ok n) → r ≡ Ok (answer_of (counts n e))
+  pub made : (n : ℕ) (e : read ≡ Ok n) → TableMade (table_rows (take n (kepts_of lines)) (line - 1)) (counts n e) es rs
 
 -- figures of records
 abbrev pub cell_in : Entry → ℕ

@@ -1,24 +1,23 @@
 -- The layout of one table of a sheet, where the checks pass or one of them refuses. These are definitions; nothing is assumed.
-use Rattle.std.specs.Prelude.{◌≡◌, true, List, map, ℕ, ◌≤◌, length, take}
+use Rattle.answers.specs.Answers.{layout_with}
+use Rattle.answers.specs.declared.Layout.{Layout}
+use Rattle.lists.specs.declared.Refusal.{Refusal}
+use Rattle.std.specs.Prelude.{◌≡◌, true, List, map, ℕ, ◌≤◌, length, take, Err, Result, Option, Some, Ok}
 use Rattle.lists.specs.Limits.{max_lines, max_entries, max_size}
 use Rattle.lists.specs.Refusals.{Check, first_answer, passes, if_passes}
 use Rattle.arguments.specs.declared.Settings.{Settings}
 use Rattle.grid.specs.Grid.{entries_of}
 use Rattle.placing.specs.Promise.{Promised}
-use Rattle.answers.specs.declared.LaidOut.{LaidOut}
-use Rattle.answers.specs.declared.LaidOut.TheVariants.{Layout, Refused}
 use Rattle.sheet_figures.specs.Figures.{x_of, width_of, rows_at, columns_at, boxes_at, way_at, widths_at, width_at, places_at}
-use Rattle.call_layout.specs.declared.arrays.Tried.{Tried}
-use Rattle.call_layout.specs.declared.arrays.Tried.TheVariants.{Found}
 
 -- how many columns and entries there are
-unfoldable pub columns_in : LaidOut → ℕ
-columns_in (Layout way entries columns width) = columns
-columns_in (Refused number line) = 0
+unfoldable pub columns_in : Result Layout Refusal → ℕ
+columns_in (Ok t) = t.columns
+columns_in (Err why) = 0
 
-unfoldable pub entries_in : LaidOut → ℕ
-entries_in (Layout way entries columns width) = entries
-entries_in (Refused number line) = 0
+unfoldable pub entries_in : Result Layout Refusal → ℕ
+entries_in (Ok t) = t.entries
+entries_in (Err why) = 0
 
 -- settings that the arguments' checks let pass
 pub record InRange (g : Settings) : Type 0 where
@@ -26,9 +25,9 @@ pub record InRange (g : Settings) : Type 0 where
   pub width : g.width ≤ max_size
 
 -- the layout found, or the first refusal; its figures stand in the first places
-pub record LayoutFound (cs : List Check) (s : List ℕ) (line : ℕ) (g : Settings) (r : LaidOut) (column x wide : List ℕ) : Type 0 where
+pub record LayoutFound (cs : List Check) (s : List ℕ) (line : ℕ) (g : Settings) (r : Result Layout Refusal) (column x wide : List ℕ) : Type 0 where
   pub answer :
-      r ≡ first_answer Refused (Layout (way_at s line g.wrap g.raw g.width) (length (entries_of (rows_at s line))) (columns_at s line) (width_at s line g.wrap g.raw g.width)) cs
+      r ≡ first_answer Err (Ok (layout_with (way_at s line g.wrap g.raw g.width) (length (entries_of (rows_at s line))) (columns_at s line) (width_at s line g.wrap g.raw g.width))) cs
   pub few_columns : columns_in r ≤ max_lines
   pub few_entries : entries_in r ≤ max_entries
   pub widths : take (columns_in r) column ≡ if_passes cs (widths_at s line g.wrap g.raw g.width)
@@ -38,5 +37,5 @@ pub record LayoutFound (cs : List Check) (s : List ℕ) (line : ℕ) (g : Settin
       Promised (columns_at s line) (boxes_at s line g.wrap) g.raw g.width (way_at s line g.wrap g.raw g.width) (widths_at s line g.wrap g.raw g.width)
 
 -- the same if short arrays did
-pub record LayoutTried (cs : List Check) (s : List ℕ) (line : ℕ) (g : Settings) (t : Tried) (column x wide : List ℕ) : Type 0 where
-  pub found : (r : LaidOut) → t ≡ Found r → LayoutFound cs s line g r column x wide
+pub record LayoutTried (cs : List Check) (s : List ℕ) (line : ℕ) (g : Settings) (t : Option (Result Layout Refusal)) (column x wide : List ℕ) : Type 0 where
+  pub found : (r : Result Layout Refusal) → t ≡ Some r → LayoutFound cs s line g r column x wide

@@ -1,17 +1,13 @@
--- `causes::none_shown` meets its contract. The loop's invariant: the causes from i on answer what all of them do. The measure is how many are left.
--- Assumes nothing.
-use mathlib.Core.Path.{sym, ◌∙◌}
-use Prim.Native.Nat.{◌-◌}
-use native.Mathlib.Omega.{arith}
+-- `causes::none_shown` meets its contract: std's `all` by the test of each is the definition. Assumes nothing.
+use mathlib.Core.Path.{refl}
+use mathlib.Core.Bool.{not}
+use lib.Dec.{eqb}
+use Rattle.std.proofs.Common.{rules}
+use Rattle.std.proofs.lemmas.List.Recursion.{and_is}
 use Rattle.causes.specs.inner.Hidden.{none_shown}
-use Rattle.causes.proofs.Listing.{shown_here, shown_not_here, shown_stop}
+use Rattle.causes.proofs.Listing.{none_shown_more}
 use Rattle.causes.proofs.none_shown.Goals as goal
 
-pub returns-then-cause-i-eq0 : goal.returns-then-cause-i-eq0
-returns-then-cause-i-eq0 c = sym (sym (c.loop-i.invariant.1) ∙ shown_here _ _ c.loop-i-test.true c.if-cause-i-eq0.true)
-
-pub loop-i-preserved : goal.loop-i-preserved
-loop-i-preserved c = (omega arith, sym (shown_not_here _ _ c.loop-i-test.true c.if-cause-i-eq0.false) ∙ c.loop-i.invariant.1)
-
 pub returns : goal.returns
-returns c = sym (sym (c.loop-i.invariant.1) ∙ shown_stop _ _ c.loop-i-test.false)
+unfolding none_shown
+returns c = and_is none_shown (λ x. not (eqb x 0)) refl none_shown_more c.args.cause.now 0 _ (search rules) (search rules)

@@ -13,6 +13,6 @@ returns c =
     let h : c.args.i < length xs / 2 = c.requires in
     let e = c.put_row.ensures in
     record {
-      same = figure_same 2 row_by row_line xs _ _ _ h e (ap row_line c.row_at-row.ensures);
+      same = figure_same 2 row_by row_line xs _ _ _ h e (ap row_line c.row_at-line.ensures);
       ended = figure_set 2 row_by row_end xs _ _ _ e;
     }

@@ -1,20 +1,13 @@
 -- `cells::list_rows` meets its contract. The loop's invariant, `Listing`: the rows of the bodies that are done, resolved, and the rows of the
 -- last body, as they are written, stand in the records; with what the lines from place i on add to them they are the table's rows. A body
 -- line resolves the last body, a row line adds a row to it, a cell line a cell to its last row, and a deeper line nothing. A cell line
--- finds a row, since a line is at most one deeper than the line before it. The measure is the number of lines left. Assumes nothing.
+-- finds a row, since a line is at most one deeper than the line before it. Assumes nothing.
 -- from the loop's head: the lines, and what is known of the table's line
-use mathlib.Core.Path.{◌≡◌}
-use Prim.Native.Nat.{◌-◌}
-use lib.ListN.{length}
 use Rattle.records.specs.Kept.{kepts_of}
 use Rattle.cells.specs.Held.{lines_of, spans_of, rowspans_of, row_lines_of, row_ends_of}
 use Rattle.cells.proofs.Listing.{Listing}
 use Rattle.cells.proofs.list_rows.Given as goal
 
-abbrev pub invariant-loop-line : goal.invariant-loop-line
-invariant-loop-line l =
+abbrev pub invariant-loop-i : goal.invariant-loop-i
+invariant-loop-i l =
     Listing (kepts_of l.lines) l.at (lines_of l.initial.cells) (spans_of l.initial.cells) (rowspans_of l.initial.cells) (row_lines_of l.initial.rows) (row_ends_of l.initial.rows) (lines_of l.cells) (spans_of l.cells) (rowspans_of l.cells) (row_lines_of l.rows) (row_ends_of l.rows) l.n l.r l.first_cell l.first_row l.i
-    × (length l.cells ≡ length l.initial.cells) × (length l.rows ≡ length l.initial.rows)
-
-abbrev pub decreases-loop-line : goal.decreases-loop-line
-decreases-loop-line l = length (kepts_of l.lines) - l.i

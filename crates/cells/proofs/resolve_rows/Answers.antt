@@ -2,7 +2,7 @@
 -- were; with the rows from row j on resolved they are the whole body resolved. No row's sum passes `most`, so the difference is one. The measure is
 -- the number of rows left. Assumes nothing.
 use mathlib.Core.Path.{◌≡◌, sym, ap, ◌∙◌}
-use Prim.Native.Nat.{◌*◌, ◌-◌, ◌/◌, ◌≤◌, ◌<◌}
+use Prim.Native.Nat.{◌*◌, ◌/◌, ◌≤◌, ◌<◌}
 use native.Mathlib.Omega.{arith}
 use lib.ListN.{length, get_or}
 use Rattle.records.specs.Kept.{row_by}

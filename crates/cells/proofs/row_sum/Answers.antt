@@ -2,7 +2,7 @@
 -- A turn takes the cell at place i out of that sum (`sum_more`). The whole sum is at most 1,000 for each cell (`sum_small`), so it fits.
 -- The measure is the number of cells left. Assumes nothing.
 use mathlib.Core.Path.{◌≡◌, sym, ap, ◌∙◌}
-use Prim.Native.Nat.{◌+◌, ◌-◌, ◌/◌, ◌<◌, max}
+use Prim.Native.Nat.{◌+◌, ◌/◌, ◌<◌, max}
 use native.Mathlib.Omega.{arith}
 use lib.ListN.{length, get_or, drop}
 use Rattle.cells.specs.Cells.{row_sum}
@@ -22,17 +22,17 @@ read : (c : After-cell_at-c) → get_or (spans_of c.args.cells.now) c.loop-i.i 0
 read c = figure_at_lem 3 cell_by held_span c.args.cells.now c.loop-i.i c.loop-i-test.true ∙ sym (ap held_span c.cell_at-c.ensures)
 
 pub loop-i-init : goal.loop-i-init
-loop-i-init c = (omega (arith, length_figures 3 cell_by held_span c.args.cells.now), omega arith)
+loop-i-init c = omega arith
 
 pub overflow_add-sum : goal.overflow_add-sum
 overflow_add-sum c =
     let l = c.loop-i in
-    omega (arith, l.invariant, more (goal.at.overflow_add-sum c).At-loop-i c.loop-i-test.true, read (goal.at.overflow_add-sum c).After-cell_at-c, sum_small (spans_of c.args.cells.now) c.requires.narrow, c.requires.few, c.larger-sum.ensures)
+    omega (arith, l.invariant, more (goal.at.overflow_add-sum c).At-loop-i c.loop-i-test.true, read (goal.at.overflow_add-sum c).After-cell_at-c, sum_small (spans_of c.args.cells.now) c.requires.narrow, c.requires.few, c.max-sum.ensures)
 
 pub loop-i-preserved : goal.loop-i-preserved
 loop-i-preserved c =
     let l = c.loop-i in
-    omega (arith, l.invariant, length_figures 3 cell_by held_span c.args.cells.now, more (goal.at.loop-i-preserved c).At-loop-i c.loop-i-test.true, read (goal.at.loop-i-preserved c).After-cell_at-c, c.larger-sum.ensures)
+    omega (arith, l.invariant, length_figures 3 cell_by held_span c.args.cells.now, more (goal.at.loop-i-preserved c).At-loop-i c.loop-i-test.true, read (goal.at.loop-i-preserved c).After-cell_at-c, c.max-sum.ensures)
 
 pub returns : goal.returns
 returns c = omega (arith, c.loop-i.invariant, sum_none (spans_of c.args.cells.now) c.loop-i.i (omega (arith, length_figures 3 cell_by held_span c.args.cells.now, c.loop-i-test.false)))

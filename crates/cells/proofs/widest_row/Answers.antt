@@ -62,8 +62,8 @@ row_sum-requires c = subst Narrow (sym (spans-here (goal.at.row_sum-requires c).
 
 pub loop-j-preserved : goal.loop-j-preserved
 loop-j-preserved c =
-    subst (λ (t : ℕ). Widening c.args.first (row_ends_of c.args.rows.now) (spans_of c.args.cells.now) c.larger-most.result t (c.loop-j.j + 1)) (end_is (goal.at.loop-j-preserved c).After-row_at-row)
-    (widest_more c.requires c.loop-j.invariant (more (goal.at.loop-j-preserved c).After-row_at-row) _ _ (c.row_sum.ensures ∙ ap (λ (p : List ℕ). row_sum (bare p)) (spans-here (goal.at.loop-j-preserved c).After-row_at-row)) c.larger-most.ensures)
+    subst (λ (t : ℕ). Widening c.args.first (row_ends_of c.args.rows.now) (spans_of c.args.cells.now) c.max-most.result t (c.loop-j.j + 1)) (end_is (goal.at.loop-j-preserved c).After-row_at-row)
+    (widest_more c.requires c.loop-j.invariant (more (goal.at.loop-j-preserved c).After-row_at-row) _ _ (c.row_sum.ensures ∙ ap (λ (p : List ℕ). row_sum (bare p)) (spans-here (goal.at.loop-j-preserved c).After-row_at-row)) c.max-most.ensures)
 
 pub returns : goal.returns
 returns c = widest_stop c.requires c.loop-j.invariant (omega (arith, length_figures 2 row_by row_end c.args.rows.now, c.loop-j-test.false))

@@ -1,28 +1,29 @@
 -- `cutting::cut_one_by_one` meets its contract. The loop's invariant: cutting what stands there now ends where cutting the widths at the start ends,
--- and t is the sum. While t passes the room, one is taken from the column picked, which is one step of the cutting; when it does not, the
--- cutting is over. The measure is t, which falls by one a turn. Assumes nothing.
+-- and what is left of the sum is theirs. In a turn one is taken from the column picked, which is one step of the cutting; after the turns the
+-- cutting is over. Assumes nothing.
 use mathlib.Core.Path.{refl}
+use Prim.Native.Nat.{◌+◌, ◌-◌}
 use native.Mathlib.Omega.{arith}
 use Rattle.cutting.proofs.Kept.{Turn, kept_end, kept_turn}
 use Rattle.cutting.proofs.cut_one_by_one.Goals as goal
 use Rattle.cutting.proofs.cut_one_by_one.Goals.{After-pick_column-p}
 
 -- what a turn has of the column picked
-turn : (c : After-pick_column-p) → let h = c.loop-t in
+turn : (c : After-pick_column-p) → let h = c.loop in
     let a = c.args in
-    Turn a.leasts.now a.wide.now a.room h.wide h.t c.pick_column-p.result
+    Turn a.leasts.now a.wide.now a.room h.wide (a.room + a.all - h.counter) c.pick_column-p.result
 turn c =
-    let h = c.loop-t in
-    kept_turn c.args.leasts.now c.args.wide.now c.args.room h.wide h.t h.invariant c.pick_column-p.result
+    let h = c.loop in
+    kept_turn c.args.leasts.now c.args.wide.now c.args.room h.wide (c.args.room + c.args.all - h.counter) h.invariant c.pick_column-p.result
     c.pick_column-p.ensures c.requires.roomy.enough (omega arith)
 
-pub loop-t-init : goal.loop-t-init
-loop-t-init c =
+pub loop-init : goal.loop-init
+loop-init c =
     let p = c.requires in
-    (p.roomy.above, p.summed.is, refl, refl)
+    (p.roomy.above, omega (arith, p.summed.is), refl, refl)
 
 pub pick_column-p-requires : goal.pick_column-p-requires
-pick_column-p-requires c = c.loop-t.invariant.0
+pick_column-p-requires c = c.loop.invariant.0
 
 pub offset_bounds-wide-p : goal.offset_bounds-wide-p
 offset_bounds-wide-p c = omega (arith, (turn (goal.at.offset_bounds-wide-p c).After-pick_column-p).1)
@@ -33,14 +34,16 @@ bounds-wide-p c = (turn (goal.at.bounds-wide-p c).After-pick_column-p).1
 pub overflow_sub-wide : goal.overflow_sub-wide
 overflow_sub-wide c = (turn (goal.at.overflow_sub-wide c).After-pick_column-p).0
 
-pub bounds-wide-p-in-loop-t : goal.bounds-wide-p-in-loop-t
-bounds-wide-p-in-loop-t c = (turn (goal.at.bounds-wide-p-in-loop-t c).After-pick_column-p).1
+pub bounds-wide-p-in-loop : goal.bounds-wide-p-in-loop
+bounds-wide-p-in-loop c = (turn (goal.at.bounds-wide-p-in-loop c).After-pick_column-p).1
 
-pub loop-t-preserved : goal.loop-t-preserved
-loop-t-preserved c = (turn (goal.at.loop-t-preserved c).After-pick_column-p).2
+pub loop-preserved : goal.loop-preserved
+loop-preserved c =
+    let k = (turn (goal.at.loop-preserved c).After-pick_column-p).2 in
+    (k.0, omega (arith, k.1), k.2, k.3)
 
 pub returns : goal.returns
 returns c =
-    let h = c.loop-t in
+    let h = c.loop in
     let a = c.args in
-    kept_end a.leasts.now a.wide.now a.room h.wide h.t h.invariant (omega arith)
+    kept_end a.leasts.now a.wide.now a.room h.wide (a.room + a.all - h.counter) h.invariant (omega arith)

@@ -1,6 +1,5 @@
 -- `cutting::fill_widths` meets its contract. The loop's invariant: the first i places have their widths, and the rest stands as it did. A turn reads
--- the share of column i, which still stands there, and writes the width. The measure is the number of columns left. Assumes nothing.
-use Prim.Native.Nat.{◌-◌}
+-- the share of column i, which still stands there, and writes the width. Assumes nothing.
 use native.Mathlib.Omega.{arith}
 use Rattle.cutting.proofs.Fill.{writing_start, writing_share, writing_turn, writing_end}
 use Rattle.cutting.proofs.fill_widths.Goals as goal

@@ -2,7 +2,7 @@
 -- between them, or finds that the widths fill the room. Where lo and hi are neighbours the widths at hi are one character more at the most, so those
 -- at lo fill it. The measure is the distance between them. Assumes nothing.
 use mathlib.Core.Path.{◌≡◌, subst, sym, ◌∙◌}
-use Prim.Native.Nat.{ℕ, suc, ◌<◌, ◌-◌}
+use Prim.Native.Nat.{ℕ, suc, ◌<◌}
 use native.Mathlib.Omega.{arith}
 use Rattle.lists.specs.Lists.{sum}
 use Rattle.cutting.specs.inner.Fill.{filled}
@@ -15,7 +15,7 @@ loop-lo-init c =
     let ss = c.args.shares.now in
     let room = c.args.room in
     let t = c.args.level in
-    rw c.to_u64-full.ensures (
+    rw c.from-full.ensures (
       omega arith,
       omega arith,
       bound_low ls ss room c.requires.roomy c.requires.room_bound t c.requires.level_value,
@@ -23,7 +23,7 @@ loop-lo-init c =
     )
 
 pub returns-then-t-full : goal.returns-then-t-full
-returns-then-t-full c = sym c.total_at-t.ensures ∙ c.if-t-full.true ∙ c.to_u64-full.ensures
+returns-then-t-full c = sym c.total_at-t.ensures ∙ c.if-t-full.true ∙ c.from-full.ensures
 
 pub returns : goal.returns
 returns c =

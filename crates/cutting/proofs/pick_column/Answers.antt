@@ -1,9 +1,10 @@
 -- `cutting::pick_column` meets its contract. The loop's invariant: best is the column picked of the first i, and x and e are its width and its
 -- excess. A turn compares column i with these, and keeps the better of the two with its figures. At the end all columns are passed.
--- The measure is the number of columns left. Assumes nothing.
-use mathlib.Core.Path.{ap, sym}
+-- Assumes nothing.
+use mathlib.Core.Path.{ap, sym, ◌∙◌}
+use borrow.Author.Tests.{eqb-true, eqb-false}
 use mathlib.Core.Bool.{true, false}
-use Prim.Native.Nat.{◌<◌, ◌-◌}
+use Prim.Native.Nat.{◌<◌}
 use native.Mathlib.Omega.{arith}
 use lib.ListN.{length}
 use Rattle.cutting.specs.Cut.{pick}
@@ -11,11 +12,11 @@ use Rattle.cutting.proofs.Picked.{scan_start, scan_turn, scan_end}
 use Rattle.cutting.proofs.pick_column.Goals as goal
 use Rattle.cutting.proofs.pick_column.Goals.{then-beaten, else-beaten}
 
-pub returns-then-wide-eq0 : goal.returns-then-wide-eq0
+pub returns-then-is_empty : goal.returns-then-is_empty
 unfolding pick
-returns-then-wide-eq0 c =
+returns-then-is_empty c =
     let a = c.args in
-    ap (pick a.leasts.now a.wide.now) (sym c.if-wide-eq0.true)
+    ap (pick a.leasts.now a.wide.now) (sym (eqb-true (length a.wide.now) 0 (sym c.is_empty.ensures ∙ c.if-is_empty.true)))
 
 pub overflow_sub-e : goal.overflow_sub-e
 overflow_sub-e c = c.requires.1 0
@@ -23,7 +24,7 @@ overflow_sub-e c = c.requires.1 0
 pub loop-i-init : goal.loop-i-init
 loop-i-init c =
     let a = c.args in
-    scan_start a.leasts.now a.wide.now (omega arith)
+    scan_start a.leasts.now a.wide.now (omega (arith, eqb-false (length a.wide.now) 0 (sym c.is_empty.ensures ∙ c.if-is_empty.false)))
 
 pub overflow_sub-f : goal.overflow_sub-f
 overflow_sub-f c = c.requires.1 c.loop-i.i

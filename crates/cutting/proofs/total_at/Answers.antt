@@ -1,7 +1,6 @@
 -- `cutting::total_at` meets its contract. The loop's invariant: t with the sum of the widths from i on is the sum of all, and t is at most i times
--- the largest figure of 32 bits. A turn adds the width of column i. The measure is the number of columns left. Assumes nothing.
+-- the largest figure of 32 bits. A turn adds the width of column i. Assumes nothing.
 use mathlib.Core.Path.{◌∙◌}
-use Prim.Native.Nat.{◌-◌}
 use native.Mathlib.Omega.{arith}
 use Rattle.cutting.proofs.Fill.{adding_turn, adding_end}
 use Rattle.cutting.proofs.total_at.Goals as goal
@@ -20,7 +19,7 @@ pub loop-i-preserved : goal.loop-i-preserved
 loop-i-preserved c =
     let l = c.loop-i in
     adding_turn c.args.leasts.now c.args.shares.now c.args.level c.args.bound c.requires.below.0 l.invariant (omega arith)
-    (c.to_u64-t.ensures ∙ c.width_at.ensures) (omega arith)
+    (c.from-t.ensures ∙ c.width_at.ensures) (omega arith)
 
 pub returns : goal.returns
 returns c = adding_end c.args.leasts.now c.args.shares.now c.args.level c.args.bound c.requires.below.0 c.loop-i.invariant (omega arith)

@@ -1,6 +1,5 @@
 -- `count_words` meets its contract. The loop's invariant (`Counting`): n is the count of the ones in the words passed, and each of these has its
--- count. Each edge's word is passed in the end, since no edge lies above `top`. The measure is how many words are left. Assumes nothing.
-use Prim.Native.Nat.{◌-◌}
+-- count. Each edge's word is passed in the end, since no edge lies above `top`. Assumes nothing.
 use native.Mathlib.Omega.{arith}
 use Rattle.edges.specs.Lookup.{Words}
 use Rattle.edges.proofs.CountLoop.{start, stop, turn, turn_le}

@@ -1,11 +1,7 @@
 -- `count_words` meets its contract. The loop's invariant (`Counting`): n is the count of the ones in the words passed, and each of these has its
--- count. Each edge's word is passed in the end, since no edge lies above `top`. The measure is how many words are left. Assumes nothing.
-use Prim.Native.Nat.{◌-◌}
+-- count. Each edge's word is passed in the end, since no edge lies above `top`. Assumes nothing.
 use Rattle.edges.proofs.CountLoop.{Counting}
 use Rattle.edges.proofs.count_words.Given as goal
 
 abbrev pub invariant-loop-i : goal.invariant-loop-i
 invariant-loop-i l = Counting l.words l.counts l.n l.i
-
-abbrev pub decreases-loop-i : goal.decreases-loop-i
-decreases-loop-i l = 65 - l.i

@@ -1,7 +1,6 @@
 -- `mark_rows` meets its contract. The loop's invariant (`RowsMarked`): the ends of the rows that are still to come and the edges of the
 -- words make the set that the contract says, those rows fit, and no edge lies above `top`. A turn moves one row's ends, by what `mark`
--- ensures, none of which lies past the row's end. After the loop `count_words` gives each word that has an edge its count. The measure is
--- how many rows are left. Assumes nothing.
+-- ensures, none of which lies past the row's end. After the loop `count_words` gives each word that has an edge its count. Assumes nothing.
 use mathlib.Core.Path.{◌≡◌, refl, sym, ap, subst, ◌∙◌}
 use mathlib.Core.List.{List}
 use Prim.Native.Nat.{ℕ, ◌*◌, ◌-◌, ◌≤◌, ◌<◌, max}
@@ -15,21 +14,18 @@ use Rattle.cells.proofs.Figures.{length_figures, figure_at_lem, figures_part}
 use Rattle.edges.specs.Edges.{part}
 use Rattle.edges.proofs.MarkLoop.{rows_start, rows_fit, rows_turn_by, rows_stop}
 use Rattle.edges.proofs.mark_rows.Goals as goal
-use Rattle.edges.proofs.mark_rows.Goals.{After-row_at-row, In-loop-r}
+use Rattle.edges.proofs.mark_rows.Goals.{After-row_at-row}
 
-more : (c : In-loop-r) → c.loop-r.r < length (row_ends_of c.args.rows.now)
+more : (c : After-row_at-row) → c.loop-r.r < length (row_ends_of c.args.rows.now)
 more c = omega (arith, length_figures 2 row_by row_end c.args.rows.now, c.loop-r-test.true)
 
 end_is : (c : After-row_at-row) → get_or (row_ends_of c.args.rows.now) c.loop-r.r 0 ≡ c.row_at-row.result.end
 end_is c = figure_at_lem 2 row_by row_end c.args.rows.now c.loop-r.r c.loop-r-test.true ∙ sym (ap row_end c.row_at-row.ensures)
 
-more-at-After-row_at-row : (c : After-row_at-row) → c.loop-r.r < length (row_ends_of c.args.rows.now)
-more-at-After-row_at-row c = omega (arith, length_figures 2 row_by row_end c.args.rows.now, c.loop-r-test.true)
-
 -- the row's entries lie within the entries
 row_in : (c : After-row_at-row) → (c.loop-r.start ≤ c.row_at-row.result.end) × (3 * c.row_at-row.result.end ≤ length c.args.entries.now)
 row_in c =
-    let f = rows_fit c.loop-r.invariant (more-at-After-row_at-row c) in
+    let f = rows_fit c.loop-r.invariant (more c) in
     (omega (arith, f.0, end_is c), omega (arith, f.1, end_is c, length_figures 3 entry_by entry_span c.args.entries.now))
 
 part-here : (c : After-row_at-row) → entry_spans_of (take (3 * c.row_at-row.result.end - 3 * c.loop-r.start) (drop (3 * c.loop-r.start) c.args.entries.now))
@@ -41,10 +37,7 @@ spans-here : (c : After-row_at-row) → entry_spans_of (take (3 * c.row_at-row.r
 spans-here c = part-here c ∙ ap (λ (t : ℕ). part c.loop-r.start t (entry_spans_of c.args.entries.now)) (sym (end_is c))
 
 pub loop-r-init : goal.loop-r-init
-loop-r-init c = rows_start _ _ _ c.requires.rows_fit c.well_formed.0.1.1.0.1.0.1 c.requires.none_above
-
-pub slice_bounds-mark-end : goal.slice_bounds-mark-end
-slice_bounds-mark-end c = sym c.loop-r.invariant.long
+loop-r-init c = rows_start _ _ _ c.requires.rows_fit c.requires.none_above
 
 pub overflow_mul-start : goal.overflow_mul-start
 overflow_mul-start c = omega (arith, row_in (goal.at.overflow_mul-start c).After-row_at-row)
@@ -61,36 +54,27 @@ slice_bounds-mark-count c = omega (arith, row_in (goal.at.slice_bounds-mark-coun
 pub slice_bounds-mark-start : goal.slice_bounds-mark-start
 slice_bounds-mark-start c = omega (arith, row_in (goal.at.slice_bounds-mark-start c).After-row_at-row)
 
-pub slice_bounds-mark-end-in-loop-r : goal.slice_bounds-mark-end-in-loop-r
-slice_bounds-mark-end-in-loop-r c = omega (arith, row_in (goal.at.slice_bounds-mark-end-in-loop-r c).After-row_at-row)
+pub slice_bounds-mark-end : goal.slice_bounds-mark-end
+slice_bounds-mark-end c = omega (arith, row_in (goal.at.slice_bounds-mark-end c).After-row_at-row)
 
 pub mark-last-requires : goal.mark-last-requires
 mark-last-requires c =
-    record {
-      words_len = c.loop-r.invariant.long;
-      entries_bound = subst (λ (l : List ℕ). sum l ≤ max_position) (sym (spans-here (goal.at.mark-last-requires c).After-row_at-row)) (rows_fit c.loop-r.invariant (more (goal.at.mark-last-requires c).In-loop-r)).2;
-    }
+    let here : After-row_at-row = (goal.at.mark-last-requires c).After-row_at-row in
+    subst (λ (l : List ℕ). sum l ≤ max_position) (sym (spans-here here)) (rows_fit c.loop-r.invariant (more here)).2
 
 pub loop-r-preserved : goal.loop-r-preserved
 loop-r-preserved c =
-    let m = c.mark-last.ensures in
-    let l = c.loop-r in
-    let e = part-here (goal.at.loop-r-preserved c).After-row_at-row in
-    rows_turn_by l.invariant (more (goal.at.loop-r-preserved c).In-loop-r) _ (end_is (goal.at.loop-r-preserved c).After-row_at-row) _ _ (c.further-top.ensures ∙ ap (max l.top) (m.ended ∙ ap sum e)) c.mark-last.auto.words
-    (rw e at m.marked)
-
-pub slice_bounds-count_words-end : goal.slice_bounds-count_words-end
-slice_bounds-count_words-end c = sym c.loop-r.invariant.long
-
-pub slice_bounds-count_words-end-2 : goal.slice_bounds-count_words-end-2
-slice_bounds-count_words-end-2 c = refl
+    let here : After-row_at-row = (goal.at.loop-r-preserved c).After-row_at-row in
+    let e = part-here here in
+    rows_turn_by c.loop-r.invariant (more here) _ (end_is here) _ _ (c.max-top.ensures ∙ ap (max c.loop-r.top) (c.mark-last.ensures.ended ∙ ap sum e))
+    (rw e at c.mark-last.ensures.marked)
 
 pub count_words-requires : goal.count_words-requires
 count_words-requires c =
-    let z = c.loop-r.invariant in record {
-      words_len = z.long;
-      top_le_max_position = z.small;
-      none_above = z.none;
+    record {
+      words_len = omega arith;
+      top_le_max_position = c.loop-r.invariant.small;
+      none_above = c.loop-r.invariant.none;
       counts_len = refl;
     }
 

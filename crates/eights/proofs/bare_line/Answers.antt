@@ -2,11 +2,7 @@
 use mathlib.Core.Path.{refl}
 use Rattle.eights.specs.inner.Bytes.{ending}
 use Rattle.octets.proofs.Standing.{stand_given}
-use Rattle.eights.proofs.Told.{untold}
 use Rattle.eights.proofs.bare_line.Goals as goal
-
-pub returns-then-eight-ne-ZEROS : goal.returns-then-eight-ne-ZEROS
-returns-then-eight-ne-ZEROS c b e = absurd (untold b e)
 
 pub returns : goal.returns
 returns c b e = record { stands = stand_given c.eight.ensures (ending 0 0) refl refl c.if-eight-ne-ZEROS.false; is = cc }

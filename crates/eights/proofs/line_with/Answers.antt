@@ -1,14 +1,11 @@
 -- `eights::line_with` meets its contract: the front that is found is that of a kind, and the rest is told by the function that reads its end. Assumes nothing.
 use mathlib.Core.Path.{refl}
 use Rattle.octets.proofs.Standing.{stand_given}
-use Rattle.eights.proofs.Told.{untold, cell_front, row_front, body_front, table_front, text_front, text_end, cell_told, row_told, body_told, table_told, text_told}
+use Rattle.eights.proofs.Told.{cell_front, row_front, body_front, table_front, text_front, text_end, cell_told, row_told, body_told, table_told, text_told}
 use Rattle.eights.proofs.line_with.Goals as goal
 
 pub returns-then-front-eq-CELL_FRONT : goal.returns-then-front-eq-CELL_FRONT
 returns-then-front-eq-CELL_FRONT c b e = cell_told c.requires.digit (stand_given c.eight-front.ensures cell_front refl refl c.if-front-eq-CELL_FRONT.true) (c.cell_line.ensures b e)
-
-pub returns-then-eight-ne-TEXT_END : goal.returns-then-eight-ne-TEXT_END
-returns-then-eight-ne-TEXT_END c b e = absurd (untold b e)
 
 pub returns-then-front-eq-TEXT_FRONT : goal.returns-then-front-eq-TEXT_FRONT
 returns-then-front-eq-TEXT_FRONT c b e = text_told c.requires.digit (stand_given c.eight-front.ensures text_front refl refl c.if-front-eq-TEXT_FRONT.true) (stand_given c.eight.ensures text_end refl refl c.if-eight-ne-TEXT_END.false) (c.text_line.ensures b e)
@@ -21,6 +18,3 @@ returns-then-front-eq-BODY_FRONT c b e = body_told c.requires.digit (stand_given
 
 pub returns-then-front-eq-TABLE_FRONT : goal.returns-then-front-eq-TABLE_FRONT
 returns-then-front-eq-TABLE_FRONT c b e = table_told c.requires.digit (stand_given c.eight-front.ensures table_front refl refl c.if-front-eq-TABLE_FRONT.true) (c.bare_line-then-front-eq-TABLE_FRONT.ensures b e)
-
-pub returns : goal.returns
-returns c b e = absurd (untold b e)

@@ -1,13 +1,10 @@
 -- A line in the form in which it is kept. These are definitions; nothing is assumed.
-use Rattle.std.specs.Prelude.{◌≡◌, List, ℕ}
+use Rattle.std.specs.Prelude.{◌≡◌, List, ℕ, Option, Some, Ok}
 use Rattle.records.specs.Kept.{kept_with}
 use Rattle.records.specs.declared.Kept.{Kept}
 use Rattle.line.specs.LineAt.{line_at}
 use Rattle.line.specs.declared.Node.{Node}
-use Rattle.line.specs.declared.LineRead.TheVariants.{Good}
 use Rattle.eights.specs.declared.Brief.{Brief}
-use Rattle.eights.specs.declared.Common.{Common}
-use Rattle.eights.specs.declared.Common.TheVariants.{Line}
 
 -- the figures that are kept of a line that was read
 abbrev pub figures_of : Node → Kept
@@ -16,10 +13,10 @@ figures_of n = record { depth = n.depth; kind = n.kind; number = n.number; cols 
 -- a line in brief is the line that starts at the place
 pub record InBrief (s : List ℕ) (at : ℕ) (b : Brief) : Type 0 where
   pub node : Node
-  pub read : line_at s at ≡ Good node
+  pub read : line_at s at ≡ Ok node
   pub kept : kept_with b.depth b.kind b.figure ≡ figures_of node
   pub next : b.next ≡ node.next
 
 -- what is told of a line is so; of some lines nothing is told
-abbrev pub Tells : List ℕ → ℕ → Common → Type 0
-Tells s at r = (b : Brief) → r ≡ Line b → InBrief s at b
+abbrev pub Tells : List ℕ → ℕ → Option Brief → Type 0
+Tells s at r = (b : Brief) → r ≡ Some b → InBrief s at b

@@ -1,11 +1,13 @@
 -- What the functions that walk over a sheet's lines take and promise. These are definitions; nothing is assumed.
-use Rattle.std.specs.Prelude.{◌≡◌, Bool, true, false, List, ℕ, zero, suc, ◌+◌, ◌≤◌, ◌<◌, ◌/◌, length, get_or, drop}
+use Rattle.std.specs.Prelude.{◌≡◌, Bool, true, false, List, map, ℕ, zero, suc, ◌+◌, ◌-◌, ◌≤◌, ◌<◌, ◌/◌, length, get_or, drop}
+use Rattle.lists.specs.Lists.{sum}
 use Rattle.lists.specs.Limits.{max_position}
 use Rattle.text.specs.declared.Estimate.{Estimate}
 use Rattle.text.specs.Decimal.{shift}
 use Rattle.kinds.specs.Kinds.{table_kind, body_kind, row_kind, cell_kind, head_kind, ol_kind, is_leaf, is_frame}
 use Rattle.records.specs.Kept.{kepts_of, kept_count}
 use Rattle.records.specs.declared.Kept.{Kept}
+use Rattle.grid.specs.Facts.{cell_lines}
 use Rattle.grid.specs.Judging.{Lined}
 use Rattle.estimates.specs.Estimates.{Done, undone, none, estimate, Children, no_children, gather, measured}
 use Rattle.estimates.specs.Tables.{TablesFit}
@@ -84,6 +86,25 @@ done_of wrap ls = measured wrap 1 ls
 
 abbrev pub held_at : ℕ → List Kept → ℕ → Children
 held_at wrap ls at = gather (line_at ls at).depth no_children (drop (at + 1) (done_of wrap ls))
+
+-- the cells of a table of depth d, from place i on, and their sizes together
+abbrev pub cells_from : List Kept → ℕ → ℕ → List ℕ
+cells_from ls d i = cell_lines d (suc i) (drop i ls)
+
+abbrev pub size_in : ℕ → List Kept → ℕ → ℕ
+size_in wrap ls line = (est_at (done_of wrap ls) (line - 1)).size
+
+abbrev pub sizes_of : ℕ → List Kept → List ℕ → ℕ
+sizes_of wrap ls lines = sum (map (size_in wrap ls) lines)
+
+abbrev pub sizes_from : ℕ → List Kept → ℕ → ℕ → ℕ
+sizes_from wrap ls d i = sizes_of wrap ls (cells_from ls d i)
+
+-- all below the table at `at` is measured, up to r, and its cells weigh no more than its lines
+pub record CellsPassed (wrap : ℕ) (ls : List Kept) (b c : List Estimate) (at r : ℕ) : Type 0 where
+  pub passed : Passed ls (done_of wrap ls) b c at (at + 1) r
+  pub ends : Ends ls (line_at ls at).depth r
+  pub small : sizes_from wrap ls (line_at ls at).depth (at + 1) + weight ls (at + 1) ≤ weight ls r
 
 pub record NodeMeets (wrap : ℕ) (ls : List Kept) (b c : List Estimate) (at r : ℕ) : Type 0 where
   pub passed : Passed ls (done_of wrap ls) b c at at r

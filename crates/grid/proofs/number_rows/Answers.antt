@@ -1,9 +1,9 @@
 -- `number_rows` meets its contract. The loop's invariant (`Sofar`): the records written, followed by the definition of the rows that are left, are
 -- the definition of all rows, and so are the edges asked and the longest row; the entries that are left stand as they stood. A turn numbers one row by
--- `renumber`: at edges one row's records more are written, else the rows are refused. The measure is how many rows are left. Assumes nothing.
+-- `renumber`: at edges one row's records more are written, else the rows are refused. Assumes nothing.
 use mathlib.Core.Path.{◌≡◌, refl, sym, ap, subst, ◌∙◌}
 use mathlib.Core.List.{List}
-use Prim.Native.Nat.{ℕ, ◌-◌, ◌≤◌, ◌<◌}
+use Prim.Native.Nat.{ℕ, ◌≤◌, ◌<◌}
 use native.Mathlib.Omega.{arith}
 use lib.ListN.{length, get_or}
 use Rattle.lists.specs.Lists.{sum}
@@ -31,20 +31,21 @@ renumber-requires c =
     let z = c.loop-r.invariant.0 in
     let f = fits c.loop-r.invariant.0 (more (goal.at.renumber-requires c).In-loop-r) _ (end_is (goal.at.renumber-requires c).After-row_at-row) in
     let e = same_spans c.loop-r.start c.row_at-row.result.end (entries_of c.args.entries.now) (entries_of c.loop-r.entries) z.kept in record {
-      counted = c.requires.counted;
       words_value = c.requires.words_value;
       entries_bound = subst (λ (l : List ℕ). sum l ≤ max_position) (sym e) f.2;
       at_le_end = (f.0, omega (arith, f.1, length_figures 3 entry_by entry_span c.args.entries.now, length_of 3 entry_by c.loop-r.entries, c.loop-r.invariant.1));
     }
 
-pub returns-in_default : goal.returns-in_default
+pub returns-in_err-n : goal.returns-in_err-n
 unfolding figures
-returns-in_default c = turn_missing c.loop-r.invariant.0 (more (goal.at.returns-in_default c).In-loop-r) _ (end_is (goal.at.returns-in_default c).After-row_at-row) (same_row _ _ (entries_of c.args.entries.now) (entries_of c.loop-r.entries) c.loop-r.invariant.0.kept c.renumber.ensures) c.in_default.is
+returns-in_err-n c =
+    rw c.from_residual.ensures
+    (turn_missing c.loop-r.invariant.0 (more (goal.at.returns-in_err-n c).In-loop-r) _ (end_is (goal.at.returns-in_err-n c).After-row_at-row) (same_row _ _ (entries_of c.args.entries.now) (entries_of c.loop-r.entries) c.loop-r.invariant.0.kept c.renumber.ensures) c.in_err-n.was)
 
 pub loop-r-preserved : goal.loop-r-preserved
 unfolding figures
 loop-r-preserved c = (
-  turn c.loop-r.invariant.0 (more (goal.at.loop-r-preserved c).In-loop-r) _ (end_is (goal.at.loop-r-preserved c).After-row_at-row) (same_row _ _ (entries_of c.args.entries.now) (entries_of c.loop-r.entries) c.loop-r.invariant.0.kept c.renumber.ensures) _ c.in-Done.is _ c.longer-columns.ensures,
+  turn c.loop-r.invariant.0 (more (goal.at.loop-r-preserved c).In-loop-r) _ (end_is (goal.at.loop-r-preserved c).After-row_at-row) (same_row _ _ (entries_of c.args.entries.now) (entries_of c.loop-r.entries) c.loop-r.invariant.0.kept c.renumber.ensures) _ c.in_ok-n.was _ c.max-columns.ensures,
   c.renumber.auto.entries ∙ c.loop-r.invariant.1,
 )
 

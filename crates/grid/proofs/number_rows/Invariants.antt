@@ -1,17 +1,13 @@
 -- `number_rows` meets its contract. The loop's invariant (`Sofar`): the records written, followed by the definition of the rows that are left, are
 -- the definition of all rows, and so are the edges asked and the longest row; the entries that are left stand as they stood. A turn numbers one row by
--- `renumber`: at edges one row's records more are written, else the rows are refused. The measure is how many rows are left. Assumes nothing.
+-- `renumber`: at edges one row's records more are written, else the rows are refused. Assumes nothing.
 use mathlib.Core.Path.{◌≡◌}
-use Prim.Native.Nat.{◌-◌, ◌/◌}
 use lib.ListN.{length}
 use Rattle.records.specs.Kept.{entries_of}
 use Rattle.cells.specs.Held.{row_ends_of, entry_cells_of, entry_spans_of}
 use Rattle.edges.specs.Edges.{is_edge}
-use Rattle.grid.proofs.NumberLoop.{Sofar, start}
+use Rattle.grid.proofs.NumberLoop.{Sofar}
 use Rattle.grid.proofs.number_rows.Given as goal
 
 abbrev pub invariant-loop-r : goal.invariant-loop-r
-invariant-loop-r l = Sofar (is_edge l.words) (entry_spans_of l.initial.entries) (entry_cells_of l.initial.entries) (row_ends_of l.rows) (entries_of l.initial.entries) (entries_of l.entries) l.columns l.start l.r × (length l.entries ≡ length l.initial.entries)
-
-abbrev pub decreases-loop-r : goal.decreases-loop-r
-decreases-loop-r l = length l.rows / 2 - l.r
+invariant-loop-r l = Sofar (is_edge l.numbers.words) (entry_spans_of l.initial.entries) (entry_cells_of l.initial.entries) (row_ends_of l.rows) (entries_of l.initial.entries) (entries_of l.entries) l.columns l.start l.r × (length l.entries ≡ length l.initial.entries)

@@ -3,8 +3,8 @@
 use Rattle.grid.proofs.NumberLoop.{none_above, numbered_words, marked_set, marked_zero}
 use Rattle.grid.proofs.number_table.Goals as goal
 
-pub mark_rows-marked-requires : goal.mark_rows-marked-requires
-mark_rows-marked-requires c =
+pub mark_rows-numbers-requires : goal.mark_rows-numbers-requires
+mark_rows-numbers-requires c =
     record {
       rows_fit = c.requires;
       none_above = none_above _ _ c.new-none.ensures c.with-start.ensures;
@@ -12,8 +12,7 @@ mark_rows-marked-requires c =
 
 pub number_rows-requires : goal.number_rows-requires
 number_rows-requires c =
-    let m = c.mark_rows-marked.ensures in record {
-      counted = m.counted;
+    let m = c.mark_rows-numbers.ensures in record {
       words_value = marked_zero _ _ _ _ c.new-none.ensures c.with-start.ensures m.marked;
       rows_fit = c.requires;
     }
@@ -21,5 +20,5 @@ number_rows-requires c =
 pub returns : goal.returns
 returns c =
     numbered_words
-    (marked_set _ _ _ _ c.new-none.ensures c.with-start.ensures c.mark_rows-marked.ensures.marked)
+    (marked_set _ _ _ _ c.new-none.ensures c.with-start.ensures c.mark_rows-numbers.ensures.marked)
     c.number_rows.ensures

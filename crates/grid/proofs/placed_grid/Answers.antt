@@ -26,17 +26,8 @@ ends-front c = figures_take 2 row_by row_end (omega arith) c.args.placed.rows c.
 entries-front : (c : Start) (f : Entry → ℕ) → figures 3 entry_by f (take (3 * c.args.placed.entries) c.args.entries.now) ≡ take c.args.placed.entries (figures 3 entry_by f c.args.entries.now)
 entries-front c f = figures_take 3 entry_by f (omega arith) c.args.placed.entries c.args.entries.now (entries_in_fits c)
 
-pub overflow_mul-r : goal.overflow_mul-r
-overflow_mul-r c = omega (arith, rows_in_fits (goal.at.overflow_mul-r c).Start)
-
-pub overflow_mul-n : goal.overflow_mul-n
-overflow_mul-n c = omega (arith, entries_in_fits (goal.at.overflow_mul-n c).Start)
-
 pub slice_bounds-number_table-end : goal.slice_bounds-number_table-end
 slice_bounds-number_table-end c = sym (length-take-le _ _ (rows_in_fits (goal.at.slice_bounds-number_table-end c).Start))
-
-pub slice_bounds-number_table-end-2 : goal.slice_bounds-number_table-end-2
-slice_bounds-number_table-end-2 c = entries_in_fits (goal.at.slice_bounds-number_table-end-2 c).Start
 
 pub slice_bounds-number_table-end-3 : goal.slice_bounds-number_table-end-3
 slice_bounds-number_table-end-3 c = sym (length-take-le _ _ (entries_in_fits (goal.at.slice_bounds-number_table-end-3 c).Start))
@@ -49,6 +40,6 @@ returns-in_default c = absurd (never_missing c.number_table.ensures c.in_default
 
 pub returns : goal.returns
 returns c =
-    let m = rw (ends-front (goal.at.returns c).Start, entries-front (goal.at.returns c).Start entry_span, entries-front (goal.at.returns c).Start entry_cell, c.in-Done.is) at c.number_table.ensures in
+    let m = rw (ends-front (goal.at.returns c).Start, entries-front (goal.at.returns c).Start entry_span, entries-front (goal.at.returns c).Start entry_cell, c.in-Some.is) at c.number_table.ensures in
     let n = c.number_table.auto.entries ∙ length-take-le _ _ (entries_in_fits (goal.at.returns c).Start) in
     rw (of_append 3 entry_by entry_cell (omega arith) _ _ _ n) (numbered_front m _)

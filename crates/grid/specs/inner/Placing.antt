@@ -1,9 +1,8 @@
 -- Rows by positions in slices, and what numbering them takes and gives. These are definitions; nothing is assumed.
-use Rattle.std.specs.Prelude.{◌≡◌, Bool, List, ◌∷◌, map, ℕ, ◌/◌, ◌≤◌, length, take}
+use Rattle.std.specs.Prelude.{◌≡◌, Bool, List, ◌∷◌, map, ℕ, ◌/◌, ◌≤◌, length, take, Some}
 use Rattle.lists.specs.Lists.{mem}
 use Rattle.records.specs.declared.Entry as packed
 use Rattle.edges.specs.Edges.{rows_from, rows_ends, RowsFit}
-use Rattle.edges.specs.declared.Numbered.TheVariants.{Done}
 use Rattle.cells.specs.Cells as cells
 use Rattle.rows.specs.Row.{item_line, item_span}
 use Rattle.positions.specs.declared.Positions.{Positions}
@@ -27,7 +26,7 @@ pub record RowsReady (rows entries : ℕ) (wide ends : List ℕ) : Type 0 where
 -- what becomes of them in columns, of which there are so many
 abbrev pub PlacedNumbered : ℕ → ℕ → List ℕ → List ℕ → List ℕ → ℕ → List packed.Entry → Type 0
 PlacedNumbered rows entries wide line ends columns es =
-    RowsNumbered (edge_of_rows (rows_from 0 (take rows ends) (take entries wide))) (rows_from 0 (take rows ends) (take entries wide)) (take entries line) (Done columns) es
+    RowsNumbered (edge_of_rows (rows_from 0 (take rows ends) (take entries wide))) (rows_from 0 (take rows ends) (take entries wide)) (take entries line) (Some columns) es
 
 -- the rows of a table by positions stand in the first places of the slices
 pub record RowsStand (table : List cells.Row) (rows entries : ℕ) (wide line row end : List ℕ) : Type 0 where

@@ -1,13 +1,8 @@
 -- `grid_counts::row_sum` meets its contract. The loop's invariant, `Summing`: what is added up, with the sum of the cells from place j on, is the row's sum. The
 -- measure is how many lines are left. Assumes nothing.
-use Prim.Native.Nat.{◌-◌}
-use lib.ListN.{length}
 use Rattle.records.specs.Kept.{kepts_of}
 use Rattle.grid_counts.proofs.SumLoop.{Summing}
 use Rattle.grid_counts.proofs.row_sum.Given as goal
 
-abbrev pub invariant-loop-line : goal.invariant-loop-line
-invariant-loop-line l = Summing (kepts_of l.lines) l.d l.i l.sum l.j
-
-abbrev pub decreases-loop-line : goal.decreases-loop-line
-decreases-loop-line l = length (kepts_of l.lines) - l.j
+abbrev pub invariant-loop-j : goal.invariant-loop-j
+invariant-loop-j l = Summing (kepts_of l.lines) l.d l.i l.sum l.j

@@ -1,7 +1,9 @@
 -- What is counted of a row and of a body, where the lines from a place on hold them. These are definitions; nothing is assumed.
-use Rattle.std.specs.Prelude.{◌≡◌, true, false, cond, List, map, ℕ, suc, ◌+◌, ◌-◌, ◌*◌, ◌≤◌, ◌<◌, min, eqb, length, get_or, drop}
+use Rattle.std.specs.Prelude.{◌≡◌, true, false, cond, List, map, ℕ, suc, ◌+◌, ◌-◌, ◌*◌, ◌≤◌, ◌<◌, min, eqb, length, get_or, drop, Result, Ok, Err}
 use Rattle.lists.specs.Lists.{sum}
 use Rattle.lists.specs.Limits.{max_lines, max_depth, max_cols, max_position, max_entries}
+use Rattle.lists.specs.declared.Reason.{Reason}
+use Rattle.lists.specs.declared.Reason.TheVariants.{RowEnd}
 use Rattle.records.specs.Kept.{no_kept}
 use Rattle.records.specs.declared.Kept.{Kept}
 use Rattle.cells.specs.Cells.{Cell, Row, Frame, frame, row_sum, widest, resolve_cell, hangs, cut_cell, resolve_body}
@@ -9,9 +11,6 @@ use Rattle.cells.specs.Listed.{cell_cols}
 use Rattle.rows.specs.Row.{Item, item_of}
 use Rattle.positions.specs.Positions.{all_rows, ends_past, entry_count}
 use Rattle.grid_counts.specs.declared.Tally.{Tally}
-use Rattle.grid_counts.specs.declared.Tally.TheVariants as tally
-use Rattle.grid_counts.specs.declared.Entries.{Entries}
-use Rattle.grid_counts.specs.declared.Entries.TheVariants as upto
 
 -- what the lines from place i on hold, below a table of depth d: the cells of the open row, the other rows of its body, and the other bodies
 abbrev pub framed : List Kept → ℕ → ℕ → Frame
@@ -81,9 +80,9 @@ pub record RowDone (cs : List Cell) (q left reach entries : ℕ) (ends₀ ends :
   pub entries_are : entries' ≡ min (entries + rows_taken cs) many_entries
   pub ends_are : (k : ℕ) → k ≤ left → get_or ends (q + k) 0 ≡ get_or ends₀ (q + k) 0 + wides_of k (map item_of cs)
 
-pub record RowCounted (cs : List Cell) (q left reach entries : ℕ) (ends₀ ends : List ℕ) (r : Tally) : Type 0 where
-  pub past : r ≡ tally.Past → max_position < reach + cols_sum cs
-  pub counted : (o e : ℕ) → r ≡ tally.Counted o e → RowDone cs q left reach entries ends₀ ends o e
+pub record RowCounted (cs : List Cell) (q left reach entries : ℕ) (ends₀ ends : List ℕ) (r : Result Tally Reason) : Type 0 where
+  pub past : (why : Reason) → r ≡ Err why → (why ≡ RowEnd) × (max_position < reach + cols_sum cs)
+  pub counted : (t : Tally) → r ≡ Ok t → RowDone cs q left reach entries ends₀ ends t.reach t.entries
 
 -- ---- a body
 
@@ -96,6 +95,6 @@ pub record BodyDone (b : List Row) (entries e : ℕ) : Type 0 where
   pub within : ends_past (all_rows (resolve_body b)) ≡ false
   pub entries_are : e ≡ min (entries + entry_count (all_rows (resolve_body b))) many_entries
 
-pub record BodyCounted (b : List Row) (entries : ℕ) (r : Entries) : Type 0 where
-  pub past : r ≡ upto.Past → ends_past (all_rows (resolve_body b)) ≡ true
-  pub counted : (e : ℕ) → r ≡ upto.Counted e → BodyDone b entries e
+pub record BodyCounted (b : List Row) (entries : ℕ) (r : Result ℕ Reason) : Type 0 where
+  pub past : (why : Reason) → r ≡ Err why → (why ≡ RowEnd) × (ends_past (all_rows (resolve_body b)) ≡ true)
+  pub counted : (e : ℕ) → r ≡ Ok e → BodyDone b entries e

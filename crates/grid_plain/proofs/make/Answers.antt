@@ -9,4 +9,4 @@ pub returns-in_default : goal.returns-in_default
 returns-in_default c = c.make_sound.ensures
 
 pub returns : goal.returns
-returns c = c.try_plain.ensures.made _ c.in-Plain.is
+returns c = c.try_plain.ensures.made _ c.in-Some.is

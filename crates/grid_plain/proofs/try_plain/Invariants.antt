@@ -1,7 +1,6 @@
 -- `grid_plain::try_plain` meets its contract. The loop's invariant, `TableLoop`: the rows so far are plain, with what the lines still to come hold they are the
 -- table's as they are written, and their entries and records stand in the slices. A line of the table that the loop meets is a row or a body, since
 -- `try_row` passes what is deeper. The measure is the number of lines left. Assumes nothing.
-use mathlib.Core.Path.{◌≡◌}
 use Prim.Native.Nat.{◌-◌}
 use lib.ListN.{length}
 use Rattle.records.specs.Kept.{kepts_of, entries_of, rows_of}
@@ -11,8 +10,6 @@ use Rattle.grid_plain.proofs.try_plain.Given as goal
 abbrev pub invariant-loop-line : goal.invariant-loop-line
 invariant-loop-line l =
     TableLoop (kepts_of l.lines) l.at (entries_of l.initial.entries) (entries_of l.entries) (rows_of l.initial.rows) (rows_of l.rows) l.n l.r l.columns l.i
-    × (length l.entries ≡ length l.initial.entries)
-    × (length l.rows ≡ length l.initial.rows)
 
 abbrev pub decreases-loop-line : goal.decreases-loop-line
 decreases-loop-line l = length (kepts_of l.lines) - l.i

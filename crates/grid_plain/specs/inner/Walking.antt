@@ -1,5 +1,5 @@
 -- The lines of a plain table, row by row. These are definitions; nothing is assumed.
-use Rattle.std.specs.Prelude.{◌≡◌, List, ◌++◌, map, ℕ, ◌+◌, ◌≤◌, length, get_or, take, drop}
+use Rattle.std.specs.Prelude.{◌≡◌, List, ◌++◌, map, ℕ, ◌+◌, ◌≤◌, length, get_or, take, drop, Option, Some}
 use Rattle.lists.specs.Lists.{All}
 use Rattle.lists.specs.Limits.{max_lines, max_depth, max_entries}
 use Rattle.records.specs.Kept.{no_kept}
@@ -11,10 +11,6 @@ use Rattle.cells.specs.Cells as cells
 use Rattle.gridding.specs.declared.Counts.{Counts}
 use Rattle.gridding.specs.Packed.{shown, TableMade}
 use Rattle.grid_plain.specs.declared.RowEnd.{RowEnd}
-use Rattle.grid_plain.specs.declared.RowFound.{RowFound}
-use Rattle.grid_plain.specs.declared.RowFound.TheVariants as row_found
-use Rattle.grid_plain.specs.declared.Tried.{Tried}
-use Rattle.grid_plain.specs.declared.Tried.TheVariants as tried
 use Rattle.grid_plain.specs.Plain.{Plain, plain_entries}
 
 -- what the lines from the place i on hold, below a table of depth d
@@ -44,9 +40,9 @@ pub record RowDone (ks : List Kept) (d i n : ℕ) (end : RowEnd) (es₀ es : Lis
   pub count : end.cells ≡ length (cells_from ks d i)
   pub written : take (n + end.cells) es ≡ take n es₀ ++ map shown (plain_entries 0 (cells_from ks d i))
 
-pub record RowWalked (ks : List Kept) (d i n : ℕ) (found : RowFound) (es₀ es : List Entry) : Type 0 where
-  pub done : (end : RowEnd) → found ≡ row_found.Plain end → RowDone ks d i n end es₀ es
+pub record RowWalked (ks : List Kept) (d i n : ℕ) (found : Option RowEnd) (es₀ es : List Entry) : Type 0 where
+  pub done : (end : RowEnd) → found ≡ Some end → RowDone ks d i n end es₀ es
 
 -- of a table that is found plain the grid is made
-pub record TableWalked (table : List cells.Row) (found : Tried) (es : List Entry) (rs : List Row) : Type 0 where
-  pub made : (counts : Counts) → found ≡ tried.Plain counts → TableMade table counts es rs
+pub record TableWalked (table : List cells.Row) (found : Option Counts) (es : List Entry) (rs : List Row) : Type 0 where
+  pub made : (counts : Counts) → found ≡ Some counts → TableMade table counts es rs

@@ -1,17 +1,14 @@
 -- `line::calc_line` meets its contract: the text's measure is told by `calc::measured`, and each way is the definition's. Assumes nothing.
+use borrow.Author.Rules.{rules}
 use mathlib.Core.Path.{sym, ap, ◌∙◌}
-use Rattle.line.specs.declared.LineRead.TheVariants.{Good}
+use Rattle.std.specs.Prelude.{Ok}
 use Rattle.line.specs.Reading.{calc_read}
 use Rattle.line.proofs.calc_line.Goals as goal
 
-pub returns-in-Size : goal.returns-in-Size
+pub returns-in_err-own : goal.returns-in_err-own
 unfolding calc_read
-returns-in-Size c = ap Good c.node_with.ensures ∙ ap (calc_read _ _) (sym c.in-Size.is ∙ c.measured.ensures)
+returns-in_err-own c = let e = ap (calc_read c.args.f c.args.to) (sym c.in_err-own.was ∙ c.measured.ensures) in search rules
 
-pub returns-in-NoExpression : goal.returns-in-NoExpression
+pub returns : goal.returns
 unfolding calc_read
-returns-in-NoExpression c = ap (calc_read _ _) (sym c.in-NoExpression.is ∙ c.measured.ensures)
-
-pub returns-in-NoValue : goal.returns-in-NoValue
-unfolding calc_read
-returns-in-NoValue c = ap (calc_read _ _) (sym c.in-NoValue.is ∙ c.measured.ensures)
+returns c = ap Ok c.node_with.ensures ∙ ap (calc_read _ _) (sym c.in_ok-own.was ∙ c.measured.ensures)

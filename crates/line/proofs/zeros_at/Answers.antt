@@ -1,14 +1,13 @@
 -- `line::zeros_at` meets its contract: the four bytes at the place, and the four two places on, are the three fields (`zeros`). Assumes nothing.
-use borrow.Author.Rules.{rules}
-use mathlib.Core.Bool.{false≢true}
+use mathlib.Core.Path.{sym, ◌∙◌}
+use mathlib.Core.Bool.{true≢false}
 use Rattle.line.proofs.Zeros.{zeros}
 use Rattle.line.proofs.zeros_at.Goals as goal
+use Rattle.line.proofs.zeros_at.Goals.{then-not-ranked, else-not-ranked}
 
-pub returns-then-not-four_at : goal.returns-then-not-four_at
-returns-then-not-four_at c = λ e. absurd (false≢true e)
-
-pub overflow_add-at : goal.overflow_add-at
-overflow_add-at c = let f = c.four_at.ensures c.if-not-four_at.false in search (rules, f.inside)
-
-pub returns : goal.returns
-returns c = λ e. zeros _ _ _ (search rules) (c.four_at.ensures c.if-not-four_at.false) (c.four_at-2.ensures e)
+pub returns-then-four_at : goal.returns-then-four_at
+returns-then-four_at c = λ e.
+    elim c.if-not-ranked.branch [
+      | then-not-ranked w ↦ zeros _ _ _ w.if-not-ranked.true (w.four_at.ensures (sym w.value-is ∙ c.if-four_at.true)) (c.four_at-then-four_at.ensures e)
+      | else-not-ranked w ↦ absurd (true≢false (sym c.if-four_at.true ∙ w.value-is ∙ rw w.if-not-ranked.false))
+    ]

@@ -1,12 +1,13 @@
 -- The missing entries and the causes of one table, by the lines of a measured sheet and by the sheet's bytes. These are definitions; nothing is assumed.
-use Rattle.std.specs.Prelude.{◌≡◌, List, ℕ, ◌-◌, ◌≤◌, length, take}
+use Rattle.answers.specs.Answers.{causes_with}
+use Rattle.answers.specs.declared.Causes.{Causes}
+use Rattle.lists.specs.declared.Refusal.{Refusal}
+use Rattle.std.specs.Prelude.{◌≡◌, List, ℕ, ◌-◌, ◌≤◌, length, take, Err, Ok, Result}
 use Rattle.lists.specs.Limits.{max_lines, max_entries}
 use Rattle.lists.specs.Refusals.{Check, first_answer, if_passes}
 use Rattle.text.specs.declared.Estimate.{Estimate}
 use Rattle.records.specs.Kept.{kepts_of}
 use Rattle.records.specs.declared.Kept.{Kept}
-use Rattle.sheet.specs.declared.Reading.{Reading}
-use Rattle.sheet.specs.declared.Reading.TheVariants.{Lines, Refused as NotRead}
 use Rattle.columns.specs.Boxes.{Box, flat}
 use Rattle.columns.specs.Columns.{size_of, least_of, largest}
 use Rattle.cells.specs.Listed.{table_rows}
@@ -16,8 +17,6 @@ use Rattle.table.specs.Arranging.{CellsAre, boxes_at}
 use Rattle.sheet_figures.specs.Figures.{columns_at}
 use Rattle.causes.specs.Causes.{causes, missing_from}
 use Rattle.causes.specs.Sheets.{causes_at, missing_at}
-use Rattle.answers.specs.declared.Explained.{Explained}
-use Rattle.answers.specs.declared.Explained.TheVariants.{Causes, Refused}
 
 -- the lent buffers have the places of a table's entries, and of its columns
 pub record ExplainRoom (entry cause : List ℕ) : Type 0 where
@@ -25,36 +24,36 @@ pub record ExplainRoom (entry cause : List ℕ) : Type 0 where
   pub cause_room : max_lines ≤ length cause
 
 -- how many entries are missing, and how many columns there are
-unfoldable pub missed_total : Explained → ℕ
-missed_total (Causes count columns) = count
-missed_total (Refused number line) = 0
+unfoldable pub missed_total : Result Causes Refusal → ℕ
+missed_total (Ok t) = t.count
+missed_total (Err why) = 0
 
-unfoldable pub column_total : Explained → ℕ
-column_total (Causes count columns) = columns
-column_total (Refused number line) = 0
+unfoldable pub column_total : Result Causes Refusal → ℕ
+column_total (Ok t) = t.columns
+column_total (Err why) = 0
 
 -- of a table with these rows of boxes in so many columns: the answer, and what stands in the first places
-pub record TableTold (columns : ℕ) (rows : List (List Box)) (raw width : ℕ) (r : Explained) (entry cause : List ℕ) : Type 0 where
-  pub answer : r ≡ Causes (length (missing_from 0 (places_in columns rows raw width))) columns
+pub record TableTold (columns : ℕ) (rows : List (List Box)) (raw width : ℕ) (r : Result Causes Refusal) (entry cause : List ℕ) : Type 0 where
+  pub answer : r ≡ Ok (causes_with (length (missing_from 0 (places_in columns rows raw width))) columns)
   pub entries : take (missed_total r) entry ≡ missing_from 0 (places_in columns rows raw width)
   pub causes : take (column_total r) cause
       ≡ causes (largest size_of (flat rows) columns) (largest least_of (flat rows) columns) (widths_in columns rows raw width) width
 
 -- of the table in a line, at the wrap of the estimates
-pub record MissingMade (ks : List Kept) (line : ℕ) (figures : List Estimate) (raw width : ℕ) (r : Explained) (entry cause : List ℕ) : Type 0 where
+pub record MissingMade (ks : List Kept) (line : ℕ) (figures : List Estimate) (raw width : ℕ) (r : Result Causes Refusal) (entry cause : List ℕ) : Type 0 where
   pub few_entries : missed_total r ≤ max_entries
   pub few_columns : column_total r ≤ max_lines
   pub told : (wrap : ℕ) → CellsAre wrap ks (line - 1) figures
       → TableTold (columns_of (table_rows ks (line - 1))) (boxes_at wrap ks (line - 1)) raw width r entry cause
 
 -- the refusal handed up, or those of the lines that were read
-pub record MissingRead (read : Reading) (lines : List ℕ) (line : ℕ) (figures : List Estimate) (raw width : ℕ) (r : Explained) (entry cause : List ℕ) : Type 0 where
-  pub refused : (number at : ℕ) → read ≡ NotRead number at → r ≡ Refused number at
-  pub made : (n : ℕ) → read ≡ Lines n → MissingMade (take n (kepts_of lines)) line figures raw width r entry cause
+pub record MissingRead (read : Result ℕ Refusal) (lines : List ℕ) (line : ℕ) (figures : List Estimate) (raw width : ℕ) (r : Result Causes Refusal) (entry cause : List ℕ) : Type 0 where
+  pub refused : (why : Refusal) → read ≡ Err why → r ≡ Err why
+  pub made : (n : ℕ) → read ≡ Ok n → MissingMade (take n (kepts_of lines)) line figures raw width r entry cause
 
 -- found in the sheet, or the first refusal; the figures stand in the first places
-pub record MissingFound (cs : List Check) (s : List ℕ) (line wrap raw width : ℕ) (r : Explained) (entry cause : List ℕ) : Type 0 where
-  pub answer : r ≡ first_answer Refused (Causes (length (missing_at s line wrap raw width)) (columns_at s line)) cs
+pub record MissingFound (cs : List Check) (s : List ℕ) (line wrap raw width : ℕ) (r : Result Causes Refusal) (entry cause : List ℕ) : Type 0 where
+  pub answer : r ≡ first_answer Err (Ok (causes_with (length (missing_at s line wrap raw width)) (columns_at s line))) cs
   pub few_entries : missed_total r ≤ max_entries
   pub few_columns : column_total r ≤ max_lines
   pub entries : take (missed_total r) entry ≡ if_passes cs (missing_at s line wrap raw width)

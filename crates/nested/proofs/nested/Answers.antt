@@ -1,6 +1,7 @@
 -- `nested::nested` meets its contract: what is found stands in the front of the lent buffers, which are long enough where something is found, and the
 -- rest of each is cleared. Assumes nothing.
-use Rattle.nested.proofs.NestCall.{keep_fits, nest_fit, nest_rooms, nest_answered}
+use native.Mathlib.Omega.{arith}
+use Rattle.nested.proofs.NestCall.{nest_fit, nest_rooms, nest_answered}
 use Rattle.nested.proofs.nested.Goals as goal
 
 pub find_nested-found-requires : goal.find_nested-found-requires
@@ -9,23 +10,19 @@ find_nested-found-requires c = λ z. let a = c.args in nest_fit a.wrap a.raw a.w
 pub keep_front-requires : goal.keep_front-requires
 keep_front-requires c =
     let a = c.args in
-    let f = c.find_nested-found in
-    keep_fits c.column_count-n.ensures (nest_rooms a.wrap a.raw a.width a.overflow _ _ _ _ c.of_nested-asked.ensures c.find_nested-found.ensures).0 c.find_nested-found.auto.column
+    omega (arith, c.column_count-n.ensures, (nest_rooms a.wrap a.raw a.width a.overflow _ _ _ _ c.of_nested-asked.ensures c.find_nested-found.ensures).0, c.find_nested-found.auto.column)
 
 pub keep_front-requires-2 : goal.keep_front-requires-2
 keep_front-requires-2 c =
     let a = c.args in
-    let f = c.find_nested-found in
-    keep_fits c.entry_count-m.ensures (nest_rooms a.wrap a.raw a.width a.overflow _ _ _ _ c.of_nested-asked.ensures c.find_nested-found.ensures).1 c.find_nested-found.auto.x
+    omega (arith, c.entry_count-m.ensures, (nest_rooms a.wrap a.raw a.width a.overflow _ _ _ _ c.of_nested-asked.ensures c.find_nested-found.ensures).1, c.find_nested-found.auto.x)
 
 pub keep_front-requires-3 : goal.keep_front-requires-3
 keep_front-requires-3 c =
     let a = c.args in
-    let f = c.find_nested-found in
-    keep_fits c.entry_count-m.ensures (nest_rooms a.wrap a.raw a.width a.overflow _ _ _ _ c.of_nested-asked.ensures c.find_nested-found.ensures).2 c.find_nested-found.auto.wide
+    omega (arith, c.entry_count-m.ensures, (nest_rooms a.wrap a.raw a.width a.overflow _ _ _ _ c.of_nested-asked.ensures c.find_nested-found.ensures).2, c.find_nested-found.auto.wide)
 
 pub returns : goal.returns
 returns c =
-    let f = c.find_nested-found in
     nest_answered c.of_nested-asked.ensures c.find_nested-found.ensures c.column_count-n.ensures c.entry_count-m.ensures c.find_nested-found.auto.column c.find_nested-found.auto.x c.find_nested-found.auto.wide
     c.keep_front.ensures c.keep_front-2.ensures c.keep_front-3.ensures

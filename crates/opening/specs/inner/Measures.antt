@@ -1,13 +1,12 @@
 -- What measuring an opened sheet takes and promises. These are definitions; nothing is assumed.
-use Rattle.std.specs.Prelude.{◌≡◌, Bool, true, List, ℕ, ◌-◌, ◌/◌, ◌≤◌, ◌<◌, length, get_or, take}
+use Rattle.lists.specs.declared.Refusal.{Refusal}
+use Rattle.std.specs.Prelude.{◌≡◌, ◌⊎◌, List, ℕ, ◌-◌, ◌/◌, ◌≤◌, ◌<◌, length, get_or, take, Ok, Result, Option, Some, None}
 use Rattle.lists.specs.Limits.{max_position, max_entries, max_lines}
 use Rattle.text.specs.declared.Estimate.{Estimate}
 use Rattle.records.specs.Kept.{kept_count, kepts_of}
 use Rattle.records.specs.declared.Kept.{Kept}
 use Rattle.records.specs.declared.Entry.{Entry}
 use Rattle.records.specs.declared.Row.{Row}
-use Rattle.sheet.specs.declared.Reading.{Reading}
-use Rattle.sheet.specs.declared.Reading.TheVariants.{Lines}
 use Rattle.grid.specs.Facts.{CellOf}
 use Rattle.grid.specs.Judging.{Lined}
 use Rattle.grid_bounds.specs.Sheets.{Nests, AllSound, Suffice}
@@ -16,8 +15,6 @@ use Rattle.estimates.specs.Sheet as estimates
 use Rattle.estimates.specs.Meets.{Bounded, Lent, Measured, CellsMeasured}
 use Rattle.opening.specs.Opening.{kept_lines}
 use Rattle.opening.specs.inner.Opened.{Apt, Opened}
-use Rattle.opening.specs.declared.Scope.{Scope}
-use Rattle.opening.specs.declared.Scope.TheVariants as scope
 
 -- ---- the lines of an opened sheet
 
@@ -29,23 +26,27 @@ pub record Measurable (ks : List Kept) (fs : List Estimate) : Type 0 where
   pub sound : AllSound ks
   pub results : length ks ≤ length fs
 
--- a line that is measured below is a table
-pub record InScope (s : Scope) (ks : List Kept) : Type 0 where
-  pub table : (line : ℕ) → s ≡ scope.Table line → Apt ks line
+-- a line below which alone is measured is a table
+pub record InScope (below : Option ℕ) (ks : List Kept) : Type 0 where
+  pub table : (line : ℕ) → below ≡ Some line → Apt ks line
 
-pub record ScopeMeasured (s : Scope) (wrap : ℕ) (ks : List Kept) (b c : List Estimate) : Type 0 where
-  pub sheet : s ≡ scope.Sheet → Measured wrap ks b c
-  pub table : (line : ℕ) → s ≡ scope.Table line → CellsMeasured wrap ks (line - 1) b c
+pub record ScopeMeasured (below : Option ℕ) (wrap : ℕ) (ks : List Kept) (b c : List Estimate) : Type 0 where
+  pub sheet : below ≡ None → Measured wrap ks b c
+  pub table : (line : ℕ) → below ≡ Some line → CellsMeasured wrap ks (line - 1) b c
 
 -- ---- the lines that were read
 
 -- they are the first of the records
-abbrev pub LinesIn : Reading → List ℕ → Type 0
-LinesIn r lines = (n : ℕ) → r ≡ Lines n → n ≤ kept_count lines
+abbrev pub LinesIn : Result ℕ Refusal → List ℕ → Type 0
+LinesIn r lines = (n : ℕ) → r ≡ Ok n → n ≤ kept_count lines
 
--- so many records of entries and of rows suffice for them
-abbrev pub SufficeIn : Reading → List ℕ → ℕ → ℕ → Type 0
-SufficeIn r lines entries rows = (n : ℕ) → r ≡ Lines n → Suffice entries rows (take n (kepts_of lines))
+-- so many records of entries and of rows do for any table of the lines: as many as all cells ask for, or as many as a table may have
+abbrev pub Enough : ℕ → ℕ → List Kept → Type 0
+Enough entries rows ks = Suffice entries rows ks ⊎ ((max_entries ≤ entries) × (max_lines ≤ rows))
+
+-- they do for those that were read
+abbrev pub EnoughIn : Result ℕ Refusal → List ℕ → ℕ → ℕ → Type 0
+EnoughIn r lines entries rows = (n : ℕ) → r ≡ Ok n → Enough entries rows (take n (kepts_of lines))
 
 -- scratch for any table
 pub record ScratchForAny (leasts entries rows : List ℕ) : Type 0 where
@@ -54,13 +55,13 @@ pub record ScratchForAny (leasts entries rows : List ℕ) : Type 0 where
   pub rows_room : max_lines ≤ length rows / 2
 
 -- what measuring them takes, and promises
-pub record ReadLent (r : Reading) (s : Scope) (lines : List ℕ) (fs : List Estimate) (leasts : List ℕ) (es : List Entry) (rs : List Row) : Type 0 where
+pub record ReadLent (r : Result ℕ Refusal) (below : Option ℕ) (lines : List ℕ) (fs : List Estimate) (leasts : List ℕ) (es : List Entry) (rs : List Row) : Type 0 where
   pub front : LinesIn r lines
-  pub lent : (n : ℕ) → r ≡ Lines n → Lent (take n (kepts_of lines)) fs leasts es rs
-  pub scope : (n : ℕ) → r ≡ Lines n → InScope s (take n (kepts_of lines))
+  pub lent : (n : ℕ) → r ≡ Ok n → Lent (take n (kepts_of lines)) fs leasts es rs
+  pub scope : (n : ℕ) → r ≡ Ok n → InScope below (take n (kepts_of lines))
 
-abbrev pub ReadMeasured : Reading → Scope → ℕ → List ℕ → List Estimate → List Estimate → Type 0
-ReadMeasured r s wrap lines b c = (n : ℕ) → r ≡ Lines n → ScopeMeasured s wrap (take n (kepts_of lines)) b c
+abbrev pub ReadMeasured : Result ℕ Refusal → Option ℕ → ℕ → List ℕ → List Estimate → List Estimate → Type 0
+ReadMeasured r below wrap lines b c = (n : ℕ) → r ≡ Ok n → ScopeMeasured below wrap (take n (kepts_of lines)) b c
 
 -- ---- a sheet
 
@@ -69,15 +70,15 @@ pub record LinesMeasured (wrap : ℕ) (ks : List Kept) (fs : List Estimate) : Ty
   pub figures : take (length ks) fs ≡ estimates wrap ks
   pub sound : (k : ℕ) → k < length ks → Bounded (get_or (estimates wrap ks) k none)
 
-pub record SheetMeasured (asks : Bool) (s : List ℕ) (line wrap : ℕ) (r : Reading) (lines : List ℕ) (figures : List Estimate) : Type 0 where
-  pub opened : Opened asks s line r lines
-  pub measured : (n : ℕ) → r ≡ Lines n → LinesMeasured wrap (kept_lines s) figures
+pub record SheetMeasured (asked : Option ℕ) (s : List ℕ) (wrap : ℕ) (r : Result ℕ Refusal) (lines : List ℕ) (figures : List Estimate) : Type 0 where
+  pub opened : Opened asked s r lines
+  pub measured : (n : ℕ) → r ≡ Ok n → LinesMeasured wrap (kept_lines s) figures
 
 -- the cells of the table at a place measured
 pub record CellsKnown (wrap : ℕ) (ks : List Kept) (at : ℕ) (fs : List Estimate) : Type 0 where
   pub cells : (k : ℕ) → CellOf ks at k → get_or fs k none ≡ get_or (estimates wrap ks) k none
   pub sound : (k : ℕ) → CellOf ks at k → Bounded (get_or (estimates wrap ks) k none)
 
-pub record TableMeasured (s : List ℕ) (line wrap : ℕ) (r : Reading) (lines : List ℕ) (figures : List Estimate) : Type 0 where
-  pub opened : Opened true s line r lines
-  pub measured : (n : ℕ) → r ≡ Lines n → CellsKnown wrap (kept_lines s) (line - 1) figures
+pub record TableMeasured (s : List ℕ) (line wrap : ℕ) (r : Result ℕ Refusal) (lines : List ℕ) (figures : List Estimate) : Type 0 where
+  pub opened : Opened (Some line) s r lines
+  pub measured : (n : ℕ) → r ≡ Ok n → CellsKnown wrap (kept_lines s) (line - 1) figures

@@ -16,6 +16,5 @@ measure_sheet-requires c =
 
 pub returns : goal.returns
 returns c =
-    let m = c.measure_sheet in
     sheet_opened c.measure_sheet.ensures (omega (arith, c.requires.sheet_bound, c.measure_sheet.auto.lines))
     (figures_room _ c.measure_sheet.new.figures (omega (arith, c.requires.figures_in_bounds, length_of 3 figure_by c.args.figures.now, c.measure_sheet.auto.figures)))

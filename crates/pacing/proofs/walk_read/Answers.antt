@@ -1,4 +1,5 @@
 -- `pacing::walk_read` meets its contract: the first n records stand in the first 2 * n places, and a refusal is handed up. Assumes nothing.
+use Rattle.std.proofs.Common.{rules, ◌≡◌, Err}
 use mathlib.Core.Path.{sym}
 use native.Mathlib.Omega.{arith}
 use lib.Seq.{length-take-le}
@@ -6,24 +7,28 @@ use Rattle.pacing.proofs.Opening.{front_walkable, walk_refused, walk_accepted, w
 use Rattle.pacing.proofs.walk_read.Goals as goal
 
 pub overflow_mul-end : goal.overflow_mul-end
-overflow_mul-end c = omega (arith, c.requires.read_walkable.front _ c.in-Lines.is)
+overflow_mul-end c = omega (arith, c.requires.read_walkable.front _ c.in_ok-n.was)
 
 pub slice_bounds-walk_lines-end : goal.slice_bounds-walk_lines-end
-slice_bounds-walk_lines-end c = sym (length-take-le _ _ (omega (arith, c.requires.read_walkable.front _ c.in-Lines.is)))
+slice_bounds-walk_lines-end c = sym (length-take-le _ _ (omega (arith, c.requires.read_walkable.front _ c.in_ok-n.was)))
 
-pub walk_lines-verdict-requires : goal.walk_lines-verdict-requires
-walk_lines-verdict-requires c =
-    let w = front_walkable _ c.requires.read_walkable c.in-Lines.is in record {
+pub walk_lines-requires : goal.walk_lines-requires
+walk_lines-requires c =
+    let w = front_walkable _ c.requires.read_walkable c.in_ok-n.was in record {
       walkable = w.0;
       raw_bound = c.requires.raw_bound;
       lines_in_bounds = w.1;
     }
 
-pub returns-in-Refused : goal.returns-in-Refused
-returns-in-Refused c = walk_refused _ c.in-Refused.is
+pub returns-in_err-n : goal.returns-in_err-n
+returns-in_err-n c =
+    let q : c.from_residual.result ≡ Err c.in_err-n.field-0.0 = search rules in
+    rw q (walk_refused _ c.in_err-n.was)
 
-pub returns-in-Accepted : goal.returns-in-Accepted
-returns-in-Accepted c = walk_accepted _ _ c.in-Lines.is (c.requires.read_walkable.front _ c.in-Lines.is) _ c.walk_lines-verdict.ensures c.in-Accepted.is
+pub returns : goal.returns
+returns c = walk_accepted _ _ c.in_ok-n.was (c.requires.read_walkable.front _ c.in_ok-n.was) _ c.walk_lines.ensures c.in_ok-walk_lines.was
 
-pub returns-in-Refused-verdict : goal.returns-in-Refused-verdict
-returns-in-Refused-verdict c = walk_narrow _ _ c.in-Lines.is (c.requires.read_walkable.front _ c.in-Lines.is) _ c.walk_lines-verdict.ensures c.in-Refused-verdict.is
+pub returns-in_err-walk_lines : goal.returns-in_err-walk_lines
+returns-in_err-walk_lines c =
+    let q : c.from_residual-in_err-walk_lines.result ≡ Err c.in_err-walk_lines.field-0.0 = search rules in
+    rw q (walk_narrow _ _ c.in_ok-n.was (c.requires.read_walkable.front _ c.in_ok-n.was) _ c.walk_lines.ensures c.in_err-walk_lines.was)

@@ -8,7 +8,7 @@ use Rattle.pacing.proofs.walk_sheet.Goals as goal
 
 pub walk_read-requires : goal.walk_read-requires
 walk_read-requires c =
-    let o = c.open_measured-read in record {
+    record {
       read_walkable = read_walkable c.open_measured-read.ensures (omega (arith, c.requires.sheet_bound, c.open_measured-read.auto.lines)) (figures_room _ c.open_measured-read.new.figures (omega (arith, c.requires.figures_in_bounds, length_of 3 figure_by c.args.figures.now, c.open_measured-read.auto.figures))) c.requires.places_in_bounds;
       raw_bound = c.requires.raw_bound;
     }

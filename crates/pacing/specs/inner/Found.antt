@@ -1,5 +1,6 @@
 -- A sheet opened, measured and walked, by its bytes. These are definitions; nothing is assumed.
-use Rattle.std.specs.Prelude.{◌≡◌, Bool, List, map, ◌++◌, ℕ, ◌≤◌, ◌<◌, length, get_or, take}
+use Rattle.lists.specs.declared.Refusal.{Refusal}
+use Rattle.std.specs.Prelude.{◌≡◌, List, map, ◌++◌, ℕ, ◌≤◌, ◌<◌, length, get_or, take, Err, Ok, Result, None, Option}
 use Rattle.lists.specs.Limits.{max_size}
 use Rattle.lists.specs.Refusals.{Check, first_answer}
 use Rattle.kinds.specs.Kinds.{table_kind}
@@ -7,8 +8,6 @@ use Rattle.text.specs.declared.Estimate.{Estimate}
 use Rattle.records.specs.Kept.{no_kept, kept_count, kepts_of}
 use Rattle.records.specs.declared.Place.{Place}
 use Rattle.sheet.specs.Sheet.{sheet_lines}
-use Rattle.sheet.specs.declared.Reading.{Reading}
-use Rattle.sheet.specs.declared.Reading.TheVariants.{Lines, Refused as NotRead}
 use Rattle.cells.specs.Listed.{table_rows}
 use Rattle.grid.specs.Facts.{Sound}
 use Rattle.estimates.specs.Estimates.{estimates}
@@ -18,41 +17,40 @@ use Rattle.opening.specs.inner.Measures.{LinesMeasured}
 use Rattle.passing.specs.Walk.{walk, narrow_checks}
 use Rattle.passing.specs.inner.Places.{width_place}
 use Rattle.walking.specs.inner.Steps.{AtMost, Walkable}
-use Rattle.passing.specs.declared.Width.TheVariants.{Without}
 use Rattle.pacing.specs.Sheets.{walk_of}
 
 -- ---- a sheet opened and measured
 
-pub record SheetOpened (asks : Bool) (s : List ℕ) (line wrap : ℕ) (r : Reading) (lines : List ℕ) (figures : List Estimate) : Type 0 where
-  pub answer : r ≡ opened_of asks s line
-  pub holds : (n : ℕ) → r ≡ Lines n → take n (kepts_of lines) ≡ kept_lines s
-  pub sheet : (n : ℕ) → r ≡ Lines n → Sheet (kept_lines s)
-  pub sound : (n : ℕ) → r ≡ Lines n → (t : ℕ) → t < length (kept_lines s) → (get_or (kept_lines s) t no_kept).kind ≡ table_kind → Sound (table_rows (kept_lines s) t)
-  pub measured : (n : ℕ) → r ≡ Lines n → LinesMeasured wrap (kept_lines s) figures
+pub record SheetOpened (asked : Option ℕ) (s : List ℕ) (wrap : ℕ) (r : Result ℕ Refusal) (lines : List ℕ) (figures : List Estimate) : Type 0 where
+  pub answer : r ≡ opened_of asked s
+  pub holds : (n : ℕ) → r ≡ Ok n → take n (kepts_of lines) ≡ kept_lines s
+  pub sheet : (n : ℕ) → r ≡ Ok n → Sheet (kept_lines s)
+  pub sound : (n : ℕ) → r ≡ Ok n → (t : ℕ) → t < length (kept_lines s) → (get_or (kept_lines s) t no_kept).kind ≡ table_kind → Sound (table_rows (kept_lines s) t)
+  pub measured : (n : ℕ) → r ≡ Ok n → LinesMeasured wrap (kept_lines s) figures
 
 -- what walking its lines takes
-pub record ReadWalkable (read : Reading) (lines : List ℕ) (figures : List Estimate) (ps : List Place) : Type 0 where
-  pub front : (n : ℕ) → read ≡ Lines n → n ≤ kept_count lines
-  pub walkable : (n : ℕ) → read ≡ Lines n → Walkable (take n (kepts_of lines)) figures
-  pub room : (n : ℕ) → read ≡ Lines n → n ≤ length ps
+pub record ReadWalkable (read : Result ℕ Refusal) (lines : List ℕ) (figures : List Estimate) (ps : List Place) : Type 0 where
+  pub front : (n : ℕ) → read ≡ Ok n → n ≤ kept_count lines
+  pub walkable : (n : ℕ) → read ≡ Ok n → Walkable (take n (kepts_of lines)) figures
+  pub room : (n : ℕ) → read ≡ Ok n → n ≤ length ps
 
 -- the refusal handed up; or 12; or the widths of the lines that were read
-pub record WalkRead (read : Reading) (lines : List ℕ) (figures : List Estimate) (raw width overflow : ℕ) (r : Reading) (ps : List Place) : Type 0 where
-  pub refused : (number at : ℕ) → read ≡ NotRead number at → r ≡ NotRead number at
-  pub answer : (n : ℕ) → read ≡ Lines n → (wrap : ℕ) → take n figures ≡ estimates wrap (take n (kepts_of lines))
-      → r ≡ first_answer NotRead (Lines n) (narrow_checks wrap raw width overflow (take n (kepts_of lines)))
-  pub widths : (n : ℕ) → read ≡ Lines n → (wrap : ℕ) → take n figures ≡ estimates wrap (take n (kepts_of lines))
-      → r ≡ Lines n → take n ps ≡ map width_place (walk wrap raw width (take n (kepts_of lines)))
-  pub small : (n : ℕ) → read ≡ Lines n → (wrap : ℕ) → take n figures ≡ estimates wrap (take n (kepts_of lines))
-      → r ≡ Lines n → (k : ℕ) → AtMost max_size (get_or (walk wrap raw width (take n (kepts_of lines))) k Without)
+pub record WalkRead (read : Result ℕ Refusal) (lines : List ℕ) (figures : List Estimate) (raw width overflow : ℕ) (r : Result ℕ Refusal) (ps : List Place) : Type 0 where
+  pub refused : (why : Refusal) → read ≡ Err why → r ≡ Err why
+  pub answer : (n : ℕ) → read ≡ Ok n → (wrap : ℕ) → take n figures ≡ estimates wrap (take n (kepts_of lines))
+      → r ≡ first_answer Err (Ok n) (narrow_checks wrap raw width overflow (take n (kepts_of lines)))
+  pub widths : (n : ℕ) → read ≡ Ok n → (wrap : ℕ) → take n figures ≡ estimates wrap (take n (kepts_of lines))
+      → r ≡ Ok n → take n ps ≡ map width_place (walk wrap raw width (take n (kepts_of lines)))
+  pub small : (n : ℕ) → read ≡ Ok n → (wrap : ℕ) → take n figures ≡ estimates wrap (take n (kepts_of lines))
+      → r ≡ Ok n → (k : ℕ) → AtMost max_size (get_or (walk wrap raw width (take n (kepts_of lines))) k None)
 
 -- ---- a sheet walked
 
-abbrev pub walked_checks : Bool → List ℕ → ℕ → ℕ → ℕ → ℕ → ℕ → List Check
-walked_checks asks s line wrap raw width overflow = open_checks asks s line ++ narrow_checks wrap raw width overflow (kept_lines s)
+abbrev pub walked_checks : Option ℕ → List ℕ → ℕ → ℕ → ℕ → ℕ → List Check
+walked_checks asked s wrap raw width overflow = open_checks asked s ++ narrow_checks wrap raw width overflow (kept_lines s)
 
-pub record SheetWalked (asks : Bool) (s : List ℕ) (line wrap raw width overflow : ℕ) (r : Reading) (lines : List ℕ) (figures : List Estimate) (ps : List Place) : Type 0 where
-  pub answer : r ≡ first_answer NotRead (Lines (length (sheet_lines s))) (walked_checks asks s line wrap raw width overflow)
-  pub opened : (n : ℕ) → r ≡ Lines n → SheetOpened asks s line wrap (Lines n) lines figures
-  pub widths : (n : ℕ) → r ≡ Lines n → take n ps ≡ map width_place (walk_of s wrap raw width)
-  pub small : (n : ℕ) → r ≡ Lines n → (k : ℕ) → AtMost max_size (get_or (walk_of s wrap raw width) k Without)
+pub record SheetWalked (asked : Option ℕ) (s : List ℕ) (wrap raw width overflow : ℕ) (r : Result ℕ Refusal) (lines : List ℕ) (figures : List Estimate) (ps : List Place) : Type 0 where
+  pub answer : r ≡ first_answer Err (Ok (length (sheet_lines s))) (walked_checks asked s wrap raw width overflow)
+  pub opened : (n : ℕ) → r ≡ Ok n → SheetOpened asked s wrap (Ok n) lines figures
+  pub widths : (n : ℕ) → r ≡ Ok n → take n ps ≡ map width_place (walk_of s wrap raw width)
+  pub small : (n : ℕ) → r ≡ Ok n → (k : ℕ) → AtMost max_size (get_or (walk_of s wrap raw width) k None)

@@ -1,7 +1,7 @@
 -- `placing::place_side_row` meets its contract. The loop's invariant, `Sides`: the entries before i are written, and those left are placed from
 -- `start` on. An entry's columns lie within the row's, since it tiles them, so its part is there and its sum fits; the entry is written as the
--- definition places it, and `start` is where the definition goes on. The measure is the number of entries left. Assumes nothing.
-use mathlib.Core.Path.{◌≡◌}
+-- definition places it, and `start` is where the definition goes on. Assumes nothing.
+use mathlib.Core.Path.{◌≡◌, refl}
 use Prim.Native.Nat.{◌+◌, ◌-◌, ◌≤◌, ◌<◌}
 use native.Mathlib.Omega.{arith}
 use lib.ListN.{length, take, drop}
@@ -11,78 +11,65 @@ use Rattle.records.specs.Kept.{entry_by, entries_of}
 use Rattle.records.proofs.Records.{length_of}
 use Rattle.placing.proofs.RowLoop.{side_start, side_columns, side_sum, side_room, side_turn, side_stop, part_sum}
 use Rattle.placing.proofs.place_side_row.Goals as goal
-use Rattle.placing.proofs.place_side_row.Goals.{After-index, After-spread_of-total, In-loop-i}
+use Rattle.placing.proofs.place_side_row.Goals.{After-entry_at-e, After-spread_of-total, In-loop-i}
 
 -- there is one more entry
 less : (c : In-loop-i) → c.loop-i.i < length (entries_of c.args.entries.now)
-less c = omega (arith, c.loop-i-test.true, c.loop-i.invariant.1.xs_length, c.requires.xs_length)
-
--- there is one more entry
-less-at-After-index : (c : After-index) → c.loop-i.i < length (entries_of c.args.entries.now)
-less-at-After-index c = omega (arith, c.loop-i-test.true, c.loop-i.invariant.1.xs_length, c.requires.xs_length)
+less c = omega (arith, c.loop-i-test.true, c.requires.xs_length)
 
 -- its columns are there
-inside : (c : After-index) → c.index-from.result + c.index.result ≤ length c.args.ws.now
-inside c = omega (arith, c.index-from.ensures, c.index.ensures, side_columns _ _ _ _ c.requires _ c.entry_at-e.result c.entry_at-e.ensures (less-at-After-index c))
+inside : (c : After-entry_at-e) → c.entry_at-e.result.first + c.entry_at-e.result.span ≤ length c.args.ws.now
+inside c = side_columns _ _ _ _ c.requires _ c.entry_at-e.result c.entry_at-e.ensures (omega (arith, c.loop-i-test.true, c.requires.xs_length))
 
 -- what `spread_of` answers is their sum
 sum_is : (c : After-spread_of-total) → let e = c.entry_at-e.result in
     c.spread_of-total.result ≡ sum (take e.span (drop e.first c.args.ws.now))
-sum_is c = part_sum _ _ c.index-from.result c.index.result _ _ c.spread_of-total.ensures c.index-from.ensures c.index.ensures
-
--- there is one more entry
-less-at-After-spread_of-total : (c : After-spread_of-total) → c.loop-i.i < length (entries_of c.args.entries.now)
-less-at-After-spread_of-total c = omega (arith, c.loop-i-test.true, c.loop-i.invariant.1.xs_length, c.requires.xs_length)
+sum_is c = part_sum _ _ c.entry_at-e.result.first c.entry_at-e.result.span _ _ c.spread_of-total.ensures refl refl
 
 -- the entry does not reach too far
 room : (c : After-spread_of-total) → c.loop-i.start + (c.spread_of-total.result + c.entry_at-e.result.span) ≤ max_size + 1
 room c =
     let l = c.loop-i in
     rw (sum_is c)
-    (side_room _ _ _ _ c.requires l.i c.entry_at-e.result c.entry_at-e.ensures l.x l.wide l.start l.invariant.1 (less-at-After-spread_of-total c))
+    (side_room _ _ _ _ c.requires l.i c.entry_at-e.result c.entry_at-e.ensures l.x l.wide l.start l.invariant (omega (arith, c.loop-i-test.true, c.requires.xs_length)))
 
 pub loop-i-init : goal.loop-i-init
-loop-i-init c = (omega arith, side_start _ _ _ _ c.requires)
+loop-i-init c = side_start _ _ _ _ c.requires
 
 pub entry_at-e-requires : goal.entry_at-e-requires
 entry_at-e-requires c = omega (arith, less (goal.at.entry_at-e-requires c).In-loop-i, length_of 3 entry_by c.args.entries.now)
 
 pub overflow_add-to : goal.overflow_add-to
-overflow_add-to c = omega (arith, inside (goal.at.overflow_add-to c).After-index)
+overflow_add-to c = omega (arith, inside (goal.at.overflow_add-to c).After-entry_at-e)
 
 pub offset_bounds-ws-from : goal.offset_bounds-ws-from
-offset_bounds-ws-from c = omega (arith, inside (goal.at.offset_bounds-ws-from c).After-index)
+offset_bounds-ws-from c = omega (arith, inside (goal.at.offset_bounds-ws-from c).After-entry_at-e)
 
 pub slice_bounds-spread_of-end : goal.slice_bounds-spread_of-end
-slice_bounds-spread_of-end c = omega (arith, inside (goal.at.slice_bounds-spread_of-end c).After-index)
+slice_bounds-spread_of-end c = omega (arith, inside (goal.at.slice_bounds-spread_of-end c).After-entry_at-e)
 
 pub spread_of-total-requires : goal.spread_of-total-requires
 spread_of-total-requires c =
-    let a = c.index-from.result in
-    side_sum _ _ _ _ c.requires a (a + c.index.result - a)
+    let e = c.entry_at-e.result in
+    side_sum _ _ _ _ c.requires e.first (e.first + e.span - e.first)
 
 pub own_width-requires : goal.own_width-requires
 own_width-requires c = omega (arith, room (goal.at.own_width-requires c).After-spread_of-total)
 
 pub bounds-wide-i : goal.bounds-wide-i
-bounds-wide-i c = omega (arith, less (goal.at.bounds-wide-i c).In-loop-i, c.loop-i.invariant.1.wides_length, c.requires.wides_length)
+bounds-wide-i c = omega (arith, less (goal.at.bounds-wide-i c).In-loop-i, c.loop-i.invariant.wides_length, c.requires.wides_length)
 
 pub next_start-start-requires : goal.next_start-start-requires
 next_start-start-requires c = room (goal.at.next_start-start-requires c).After-spread_of-total
 
-pub loop-i-smaller : goal.loop-i-smaller
-loop-i-smaller c = omega (arith, less (goal.at.loop-i-smaller c).In-loop-i)
-
 pub loop-i-preserved : goal.loop-i-preserved
 loop-i-preserved c =
-    let l = c.loop-i in (
-      omega (arith, less (goal.at.loop-i-preserved c).In-loop-i),
-      side_turn _ _ _ _ c.requires l.i c.entry_at-e.result c.entry_at-e.ensures l.x l.wide l.start l.invariant.1 (less (goal.at.loop-i-preserved c).In-loop-i) _ _ _
-          (sum_is (goal.at.loop-i-preserved c).After-spread_of-total) c.own_width.ensures c.next_start-start.ensures,
-    )
+    let l = c.loop-i in
+    side_turn _ _ _ _ c.requires l.i c.entry_at-e.result c.entry_at-e.ensures l.x l.wide l.start l.invariant (less (goal.at.loop-i-preserved c).In-loop-i) _ _ _
+    (sum_is (goal.at.loop-i-preserved c).After-spread_of-total) c.own_width.ensures c.next_start-start.ensures
 
 pub returns : goal.returns
 returns c =
     let l = c.loop-i in
-    side_stop _ _ _ _ c.requires l.x l.wide l.start l.i l.invariant.1
-    (omega (arith, c.loop-i-test.false, l.invariant.1.xs_length, c.requires.xs_length))
+    side_stop _ _ _ _ c.requires l.x l.wide l.start l.i l.invariant
+    (omega (arith, c.loop-i-test.false, l.invariant.xs_length, c.requires.xs_length))

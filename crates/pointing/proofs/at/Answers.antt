@@ -1,10 +1,10 @@
 -- `pointing::at` meets its contract. The loop's invariant, `Sofar`: what lies ahead of entry i, once it is known whether a printed cell has ended
--- at the column, is what the row has there. The measure is the number of entries left. Assumes nothing.
+-- at the column, is what the row has there. Assumes nothing.
 use mathlib.Core.Path.{sym, ◌∙◌}
-use Prim.Native.Nat.{◌-◌}
 use native.Mathlib.Omega.{arith}
 use Rattle.pointing.proofs.PointLoop.{sofar_start, sofar_stop, sofar_gap, sofar_skip, sofar_cell, sofar_turn}
 use Rattle.pointing.proofs.at.Goals as goal
+use Rattle.pointing.proofs.at.Goals.{then-ended+else-w-ne0, else-ended+else-covers_column}
 
 pub loop-i-init : goal.loop-i-init
 loop-i-init c =
@@ -17,12 +17,6 @@ returns-then-w-ne0 c =
     let l = c.loop-i in
     sofar_gap a.x.now a.wide.now a.first a.end a.column c.requires l.i (omega arith) l.ended l.invariant c.if-ended.true (omega arith)
 
-pub loop-i-preserved-then-ended : goal.loop-i-preserved-then-ended
-loop-i-preserved-then-ended c =
-    let a = c.args in
-    let l = c.loop-i in
-    sofar_skip a.x.now a.wide.now a.first a.end a.column c.requires l.i (omega arith) l.ended l.invariant c.if-ended.true (omega arith)
-
 pub returns-then-covers_column : goal.returns-then-covers_column
 returns-then-covers_column c =
     let a = c.args in
@@ -33,8 +27,13 @@ pub loop-i-preserved : goal.loop-i-preserved
 loop-i-preserved c =
     let a = c.args in
     let l = c.loop-i in
-    sofar_turn a.x.now a.wide.now a.first a.end a.column c.requires l.i (omega arith) l.ended l.invariant c.if-ended.false
-    (sym c.covers_column.ensures ∙ c.if-covers_column.false) _ c.closes_at-ended.ensures
+    elim c.if-ended.branch [
+      | then-ended+else-w-ne0 w ↦ rw w.ended-is (sofar_skip a.x.now a.wide.now a.first a.end a.column c.requires l.i (omega arith) l.ended l.invariant w.if-ended.true (omega arith))
+      | else-ended+else-covers_column w ↦
+          rw w.ended-is
+          (sofar_turn a.x.now a.wide.now a.first a.end a.column c.requires l.i (omega arith) l.ended l.invariant w.if-ended.false
+          (sym w.covers_column.ensures ∙ w.if-covers_column.false) _ w.closes_at-ended.ensures)
+    ]
 
 pub returns : goal.returns
 returns c =

@@ -1,9 +1,9 @@
 -- `positions::position_rows` merges the rows. The loop keeps: the rows done, with the rows of what is left of the table and of what
 -- hangs now, are the table's rows, of which none ends past 4,096 and whose entries have places; those of the rows done are written, and the records of
--- the rows that are left say where their cells end. A turn merges the next row, and the measure is how many rows are left. Assumes nothing.
+-- the rows that are left say where their cells end. A turn merges the next row. Assumes nothing.
 use mathlib.Core.Path.{◌≡◌, refl, sym, ap, ◌∙◌}
 use mathlib.Core.List.{[]}
-use Prim.Native.Nat.{◌-◌, ◌<◌}
+use Prim.Native.Nat.{◌/◌, ◌<◌}
 use native.Mathlib.Omega.{arith}
 use lib.ListN.{length, get_or}
 use Rattle.records.specs.Kept.{entry_by, row_by}
@@ -59,12 +59,6 @@ overflow_cast-n c = omega (arith, few_entries c.requires c.loop-r.invariant.0 (m
 pub end_row-requires : goal.end_row-requires
 end_row-requires c = omega (arith, c.loop-r.invariant.2.rows_long, c.loop-r-test.true)
 
-pub overflow_add-r : goal.overflow_add-r
-overflow_add-r c = omega (arith, more (goal.at.overflow_add-r c).In-loop-r, c.requires.few)
-
-pub loop-r-smaller : goal.loop-r-smaller
-loop-r-smaller c = omega (arith, c.loop-r-test.true)
-
 pub loop-r-preserved : goal.loop-r-preserved
 loop-r-preserved c =
     let z = c.loop-r.invariant.1 in
@@ -91,6 +85,6 @@ loop-r-preserved c =
 pub returns : goal.returns
 returns c =
     let i = c.loop-r.invariant in record {
-      made = (λ row_lines. stop c.requires i.0 row_lines (i.1 row_lines) (omega (arith, length_figures 2 row_by row_end c.args.rows.now, c.loop-r-test.false)));
+      made = (λ row_lines. stop c.requires i.0 row_lines (i.1 row_lines) (omega (arith, length_figures 2 row_by row_end c.args.rows.now, c.loop-r-test.false)) (length c.args.rows.now / 2) (sym (length_figures 2 row_by row_end c.args.rows.now)));
       lined = i.2.lines_same;
     }

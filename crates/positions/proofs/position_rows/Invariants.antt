@@ -1,9 +1,8 @@
 -- `positions::position_rows` merges the rows. The loop keeps: the rows done, with the rows of what is left of the table and of what
 -- hangs now, are the table's rows, of which none ends past 4,096 and whose entries have places; those of the rows done are written, and the records of
--- the rows that are left say where their cells end. A turn merges the next row, and the measure is how many rows are left. Assumes nothing.
+-- the rows that are left say where their cells end. A turn merges the next row. Assumes nothing.
 use mathlib.Core.List.{List}
-use Prim.Native.Nat.{ℕ, ◌-◌, ◌/◌}
-use lib.ListN.{length}
+use Prim.Native.Nat.{ℕ}
 use Rattle.cells.specs.Held.{lines_of, spans_of, rowspans_of, row_ends_of, entry_cells_of, entry_spans_of}
 use Rattle.rows.specs.inner.Overhangs.{lefts_of, ats_of, wides_of, lefts_in, ats_in, wides_in}
 use Rattle.positions.proofs.RowsLoop.{Bounds, Sofar, Held}
@@ -16,6 +15,3 @@ invariant-loop-r l =
     × ((row_lines : List ℕ) → Sofar (lines_of l.cells) (spans_of l.cells) (rowspans_of l.cells) (row_ends_of l.initial.rows) row_lines (entry_cells_of l.initial.entries) (entry_spans_of l.initial.entries) (row_ends_of l.initial.rows)
     (entry_cells_of l.entries) (entry_spans_of l.entries) (row_ends_of l.rows) (lefts_in l.overhang) (ats_in l.overhang) (wides_in l.overhang) l.first l.r l.n l.k)
     × Held l.initial.rows l.initial.entries l.initial.overhang l.initial.next l.rows l.entries l.overhang l.next
-
-abbrev pub decreases-loop-r : goal.decreases-loop-r
-decreases-loop-r l = length l.initial.rows / 2 - l.r

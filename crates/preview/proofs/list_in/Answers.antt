@@ -4,13 +4,13 @@ use Rattle.preview.proofs.list_in.Goals as goal
 
 pub within-requires : goal.within-requires
 within-requires c =
-    let f = c.requires.spot_fits _ _ _ c.in-Row.is in record {
+    let f = c.requires.spot_fits _ c.in-Ok.is in record {
       in_slices = f.here;
-      room = row_room f (c.requires.spot_room _ _ _ c.in-Row.is);
+      room = row_room f (c.requires.spot_room _ c.in-Ok.is);
     }
 
-pub returns-in-Refused : goal.returns-in-Refused
-returns-in-Refused c = listed_none _ _ _ c.in-Refused.is
+pub returns-in-Err : goal.returns-in-Err
+returns-in-Err c = listed_none _ _ _ c.in-Err.is
 
-pub returns-in-Row : goal.returns-in-Row
-returns-in-Row c = listed_row c.in-Row.is (c.requires.spot_fits _ _ _ c.in-Row.is) (c.requires.spot_room _ _ _ c.in-Row.is) c.within.ensures c.within.auto.entry
+pub returns-in-Ok : goal.returns-in-Ok
+returns-in-Ok c = listed_row c.in-Ok.is (c.requires.spot_fits _ c.in-Ok.is) (c.requires.spot_room _ c.in-Ok.is) c.within.ensures c.within.auto.entry

@@ -1,10 +1,10 @@
 -- `records::unpack` writes the numbers f of the first n records over the front of the buffer, one a turn. Each stands within the slice by the law
 -- `place_in`. Assumes nothing.
-use mathlib.Core.Path.{◌≡◌, refl, sym, ap, ◌∙◌}
+use mathlib.Core.Path.{◌≡◌, sym, ap, ◌∙◌}
 use mathlib.Core.List.{List}
-use Prim.Native.Nat.{ℕ, ◌+◌, ◌*◌, ◌-◌}
+use Prim.Native.Nat.{ℕ, ◌+◌, ◌*◌}
 use native.Mathlib.Omega.{arith}
-use lib.ListN.{get_or, length-set}
+use lib.ListN.{get_or}
 use lib.Seq.{take_all}
 use Rattle.lists.specs.Lists.{over}
 use Rattle.lists.proofs.Over.{over_none, over_step}
@@ -14,7 +14,7 @@ use borrow.Author.Rules.{rules}
 use Rattle.records.proofs.unpack.Goals as goal
 
 pub loop-i-init : goal.loop-i-init
-loop-i-init c = (search rules, refl, sym (over_none _))
+loop-i-init c = sym (over_none _)
 
 pub overflow_mul-buffer : goal.overflow_mul-buffer
 overflow_mul-buffer c =
@@ -41,15 +41,12 @@ loop-i-preserved c =
     let a = c.args in
     let v = c.loop-i in
     let l = length_numbers a.w a.f a.n a.records.now in
-    let e : get_or (numbers_of a.w a.f a.n a.records.now) v.i 0 ≡ get_or a.records.now (a.w * v.i + a.f) 0 = numbers_at a.w a.f a.n a.records.now v.i (search rules) (search rules) in (
-      search rules,
-      simp length-set v.invariant.1,
-      rw (← e, v.invariant.2) (over_step (numbers_of a.w a.f a.n a.records.now) a.buffer.now v.i (omega arith) (omega arith)),
-    )
+    let e : get_or (numbers_of a.w a.f a.n a.records.now) v.i 0 ≡ get_or a.records.now (a.w * v.i + a.f) 0 = numbers_at a.w a.f a.n a.records.now v.i (search rules) (search rules) in
+    rw (← e, v.invariant) (over_step (numbers_of a.w a.f a.n a.records.now) a.buffer.now v.i (omega arith) (omega arith))
 
 pub returns : goal.returns
 returns c =
     let a = c.args in
     let v = c.loop-i in
     let g = numbers_of a.w a.f a.n a.records.now in
-    v.invariant.2 ∙ ap (λ (l : List ℕ). over l a.buffer.now) (take_all v.i g (omega (arith, length_numbers a.w a.f a.n a.records.now)))
+    v.invariant ∙ ap (λ (l : List ℕ). over l a.buffer.now) (take_all v.i g (omega (arith, length_numbers a.w a.f a.n a.records.now)))

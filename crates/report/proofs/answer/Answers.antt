@@ -6,14 +6,12 @@ use Rattle.settings.proofs.Bounds.{settings_in_range}
 use Rattle.report.proofs.answer.Goals as goal
 
 pub slice_bounds-opened-count : goal.slice_bounds-opened-count
-slice_bounds-opened-count c = (settings_in_range _ _ (sym c.settings-settled.ensures ∙ c.in-Set.is)).sheet
+slice_bounds-opened-count c = (settings_in_range _ _ (sym c.settings.ensures ∙ c.in-Ok.is)).sheet
 
 pub slice_bounds-opened-start : goal.slice_bounds-opened-start
-slice_bounds-opened-start c = omega (arith, (settings_in_range _ _ (sym c.settings-settled.ensures ∙ c.in-Set.is)).sheet)
+slice_bounds-opened-start c = omega (arith, (settings_in_range _ _ (sym c.settings.ensures ∙ c.in-Ok.is)).sheet)
 
 pub opened-requires : goal.opened-requires
 opened-requires c =
-    let r = settings_in_range _ _ (sym c.settings-settled.ensures ∙ c.in-Set.is) in record {
-      place = c.requires;
-      raw_bound = (omega (arith, r.raw, c.asked_of.ensures.0), omega (arith, r.width, c.asked_of.ensures.1));
-    }
+    let r = settings_in_range _ _ (sym c.settings.ensures ∙ c.in-Ok.is) in
+    (omega (arith, r.raw), omega (arith, r.width))

@@ -12,12 +12,8 @@ walk_sheet-read-requires c =
       figures_in_bounds = figures_room _ _ (omega arith);
       places_in_bounds = places_room _ _ (omega arith);
       max_position_in_bounds = omega arith;
-      raw_bound = c.requires.raw_bound;
+      raw_bound = c.requires;
     }
 
 pub told-requires : goal.told-requires
-told-requires c =
-    record {
-      place = c.requires.place;
-      read_listable = read_listable _ c.walk_sheet-read.ensures (omega arith) (figures_room _ _ (omega arith)) (omega arith) c.requires.raw_bound.1;
-    }
+told-requires c = read_listable _ c.walk_sheet-read.ensures (omega arith) (figures_room _ _ (omega arith)) (omega arith) c.requires.1

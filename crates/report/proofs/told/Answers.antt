@@ -6,17 +6,16 @@ use lib.Seq.{length-take-le}
 use Rattle.report.proofs.Ready.{front_listable, front_narrow}
 use Rattle.report.proofs.told.Goals as goal
 
-pub overflow_mul-end : goal.overflow_mul-end
-overflow_mul-end c = omega (arith, c.requires.read_listable.few _ c.in-Lines.is)
+pub overflow_mul-n : goal.overflow_mul-n
+overflow_mul-n c = omega (arith, c.requires.few _ c.in-Ok.is)
 
 pub slice_bounds-laid-end : goal.slice_bounds-laid-end
-slice_bounds-laid-end c = sym (length-take-le _ _ (omega (arith, c.requires.read_listable.front _ c.in-Lines.is)))
+slice_bounds-laid-end c = sym (length-take-le _ _ (omega (arith, c.requires.front _ c.in-Ok.is)))
 
 pub laid-requires : goal.laid-requires
 laid-requires c =
     let pre = c.requires in
-    let e = c.in-Lines.is in record {
-      place = pre.place;
-      listable = front_listable pre.read_listable e;
-      walk_narrow = front_narrow pre.read_listable e;
+    let e = c.in-Ok.is in record {
+      listable = front_listable pre e;
+      walk_narrow = front_narrow pre e;
     }

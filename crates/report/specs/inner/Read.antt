@@ -1,5 +1,6 @@
 -- The records that a sheet was read into, the widths of its lines, and its tables. These are definitions; nothing is assumed.
-use Rattle.std.specs.Prelude.{◌≡◌, List, ℕ, ◌/◌, ◌≤◌, ◌<◌, length, get_or, take}
+use Rattle.lists.specs.declared.Refusal.{Refusal}
+use Rattle.std.specs.Prelude.{◌≡◌, List, ℕ, ◌/◌, ◌≤◌, ◌<◌, length, get_or, take, Ok, Result}
 use Rattle.lists.specs.Limits.{max_lines, max_size}
 use Rattle.kinds.specs.Kinds.{table_kind}
 use Rattle.text.specs.declared.Estimate.{Estimate}
@@ -8,8 +9,6 @@ use Rattle.records.specs.declared.Kept.{Kept}
 use Rattle.cells.specs.Listed.{table_rows}
 use Rattle.grid.specs.Facts.{Sound}
 use Rattle.grid.specs.Judging.{Lined}
-use Rattle.sheet.specs.declared.Reading.{Reading}
-use Rattle.sheet.specs.declared.Reading.TheVariants.{Lines}
 use Rattle.table.specs.Arranging.{AllMeasured}
 use Rattle.passing.specs.inner.Places.{width_by}
 use Rattle.walking.specs.inner.Steps.{AtMost}
@@ -37,8 +36,8 @@ pub record WalkNarrow (n : ℕ) (walk : List ℕ) : Type 0 where
   pub small : (k : ℕ) → k < n → AtMost max_size (width_by (get_or (places_of walk) k no_place))
 
 -- if the sheet is accepted, its lines are the first records, and they can be listed
-pub record ReadListable (read : Reading) (lines : List ℕ) (figures : List Estimate) (width : ℕ) (walk : List ℕ) : Type 0 where
-  pub front : (n : ℕ) → read ≡ Lines n → n ≤ kept_count lines
-  pub few : (n : ℕ) → read ≡ Lines n → n ≤ max_lines
-  pub listable : (n : ℕ) → read ≡ Lines n → Listable (take n (kepts_of lines)) figures width
-  pub narrow : (n : ℕ) → read ≡ Lines n → WalkNarrow n walk
+pub record ReadListable (read : Result ℕ Refusal) (lines : List ℕ) (figures : List Estimate) (width : ℕ) (walk : List ℕ) : Type 0 where
+  pub front : (n : ℕ) → read ≡ Ok n → n ≤ kept_count lines
+  pub few : (n : ℕ) → read ≡ Ok n → n ≤ max_lines
+  pub listable : (n : ℕ) → read ≡ Ok n → Listable (take n (kepts_of lines)) figures width
+  pub narrow : (n : ℕ) → read ≡ Ok n → WalkNarrow n walk

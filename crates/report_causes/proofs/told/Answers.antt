@@ -6,15 +6,14 @@ use Rattle.causes.proofs.Told.{front_few, records_in, causes_ready}
 use Rattle.report_causes.proofs.told.Goals as goal
 
 pub slice_bounds-columns-end : goal.slice_bounds-columns-end
-slice_bounds-columns-end c = sym (length-take-le _ _ (records_in _ c.requires.front_ready))
+slice_bounds-columns-end c = sym (length-take-le _ _ (records_in _ c.requires))
 
-pub columns-next-requires : goal.columns-next-requires
-columns-next-requires c =
+pub columns-requires : goal.columns-requires
+columns-requires c =
     let pre = c.requires in record {
-      place = pre.place;
-      entered = rw (length-take-le _ _ pre.front_ready.cause_in) at (causes_ready _ pre.front_ready).0;
-      c_le_max_position = pre.front_ready.columns_few;
+      entered = rw (length-take-le _ _ pre.cause_in) at (causes_ready _ pre).0;
+      c_le_max_position = pre.columns_few;
     }
 
-pub overflow_cast-count : goal.overflow_cast-count
-overflow_cast-count c = omega (arith, front_few c.requires.front_ready c.explain_front-count.ensures, c.requires.front_ready.entries_few)
+pub overflow_cast-missed : goal.overflow_cast-missed
+overflow_cast-missed c = omega (arith, front_few c.requires c.explain_front-count.ensures, c.requires.entries_few)

@@ -2,17 +2,20 @@
 -- Assumes nothing.
 use mathlib.Core.Path.{sym, ◌∙◌}
 use native.Mathlib.Omega.{arith}
+use borrow.Author.Tests.{eqb-true, eqb-false}
 use Rattle.settings.proofs.Digits.{written_none, written_digits, written_led, written_zero}
 use Rattle.settings.proofs.written_in.Goals as goal
 
-pub returns-then-field-eq0 : goal.returns-then-field-eq0
-returns-then-field-eq0 c = sym (written_none _ _ c.if-field-eq0.true)
+pub returns-then-is_empty : goal.returns-then-is_empty
+returns-then-is_empty c = sym (written_none _ _ (eqb-true _ _ (sym c.is_empty.ensures ∙ c.if-is_empty.true)))
 
 pub returns-then-field-ne48 : goal.returns-then-field-ne48
-returns-then-field-ne48 c = c.digits_in.ensures ∙ sym (written_digits _ c.args.field.now (omega arith) c.if-field-ne48.true)
+returns-then-field-ne48 c =
+    let some = eqb-false _ _ (sym c.is_empty.ensures ∙ c.if-is_empty.false) in
+    c.digits_in.ensures ∙ sym (written_digits _ c.args.field.now (omega arith) c.if-field-ne48.true)
 
-pub returns-then-field-gt1 : goal.returns-then-field-gt1
-returns-then-field-gt1 c = sym (written_led _ _ c.if-field-gt1.true c.if-field-ne48.false)
+pub returns-then-goes_on : goal.returns-then-goes_on
+returns-then-goes_on c = sym (written_led _ _ c.if-goes_on.true c.if-field-ne48.false)
 
-pub returns : goal.returns
-returns c = sym (written_zero _ _ c.if-field-gt1.false c.if-field-ne48.false)
+pub returns-else-goes_on : goal.returns-else-goes_on
+returns-else-goes_on c = sym (written_zero _ _ c.if-goes_on.false c.if-field-ne48.false)

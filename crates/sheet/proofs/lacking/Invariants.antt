@@ -1,13 +1,10 @@
--- `sheet::lacking` meets its contract. The invariant: no more are found than were looked at, and where none is, none of these is left empty. The measure is what is
--- left up to the end. Assumes nothing.
+-- `sheet::lacking` meets its contract. The invariant: no more are found than were looked at, and where none is, none of these is left empty.
+-- Assumes nothing.
 use mathlib.Core.Path.{◌≡◌}
-use Prim.Native.Nat.{◌-◌, ◌≤◌}
+use Prim.Native.Nat.{◌≤◌}
 use Rattle.records.specs.Kept.{kepts_of}
 use Rattle.sheet.specs.Steps.{FilledTo}
 use Rattle.sheet.proofs.lacking.Given as goal
 
 abbrev pub invariant-loop-i : goal.invariant-loop-i
-invariant-loop-i l = (l.i ≤ l.end) × (l.found ≤ l.i) × (l.found ≡ 0 → FilledTo (kepts_of l.lines) l.i)
-
-abbrev pub decreases-loop-i : goal.decreases-loop-i
-decreases-loop-i l = l.end - l.i
+invariant-loop-i l = (l.found ≤ l.i) × (l.found ≡ 0 → FilledTo (kepts_of l.lines) l.i)

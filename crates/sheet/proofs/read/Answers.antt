@@ -5,15 +5,16 @@ use Rattle.sheet.proofs.Heading.{too_long_refused, unheaded_refused, begun, refu
 use Rattle.sheet.proofs.read.Goals as goal
 
 pub returns-then-too_long : goal.returns-then-too_long
-returns-then-too_long c = refused_reads (too_long_refused _ (sym c.too_long.ensures ∙ c.if-too_long.true))
+returns-then-too_long c = rw c.at.ensures (refused_reads (too_long_refused _ (sym c.too_long.ensures ∙ c.if-too_long.true)))
 
 pub returns-then-not-is_headed : goal.returns-then-not-is_headed
-returns-then-not-is_headed c = refused_reads (unheaded_refused _ (sym c.too_long.ensures ∙ c.if-too_long.false) (sym c.is_headed.ensures ∙ c.if-not-is_headed.true))
+returns-then-not-is_headed c =
+    rw c.at-then-not-is_headed.ensures
+    (refused_reads (unheaded_refused _ (sym c.too_long.ensures ∙ c.if-too_long.false) (sym c.is_headed.ensures ∙ c.if-not-is_headed.true)))
 
 pub read_lines-requires : goal.read_lines-requires
 read_lines-requires c =
-    let p = c.requires in record {
-      classes = p.classes;
+    record {
       begun = begun _ (sym c.too_long.ensures ∙ c.if-too_long.false) (sym c.is_headed.ensures ∙ c.if-not-is_headed.false);
-      bytes_bound = p.bytes_bound;
+      bytes_bound = c.requires.bytes_bound;
     }

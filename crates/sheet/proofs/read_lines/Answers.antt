@@ -2,45 +2,48 @@
 -- are to the next one, and the sheet's answer is that of the checks from line n + 1 on, which starts at the place. A faulty line is the answer; a
 -- sound one is kept, and the checks go on after it. After the last line only the checks of `finish` are left. The measure is what is left of the
 -- sheet: a line has at least its line feed. Assumes nothing.
--- where a sound line is known, before it is kept
 use mathlib.Core.Path.{◌≡◌, sym, ap, ◌∙◌}
 use mathlib.Core.List.{List}
-use Prim.Native.Nat.{◌-◌, ◌*◌, ◌≤◌}
+use Prim.Native.Nat.{◌*◌, ◌≤◌}
 use native.Mathlib.Omega.{arith}
 use lib.Seq.{length-take-le}
 use borrow.Author.Rules.{rules}
+use Rattle.std.specs.Prelude.{Ok}
 use Rattle.lists.specs.Limits.{max_depth}
 use Rattle.records.specs.declared.Kept.{Kept}
 use Rattle.records.proofs.Kepts.{kepts_take}
 use Rattle.line.specs.LineAt.{line_at}
 use Rattle.line.specs.declared.Node.{Node}
-use Rattle.sheet.specs.Steps.{sound, judgement_of, BriefOf, line_end, bare}
+use Rattle.sheet.specs.Steps.{judgement_of, BriefOf, line_end, bare}
 use Rattle.sheet.proofs.Heading.{refused_reads}
 use Rattle.sheet.proofs.Accepted.{accepted_passed}
 use Rattle.sheet.proofs.Turns.{NextLine, turns_start, turns_refuse, turns_next, turns_more, turns_end, turns_stored}
 use Rattle.sheet.proofs.read_lines.Goals as goal
-use Rattle.sheet.proofs.read_lines.Goals.{In-Sound}
+use Rattle.sheet.proofs.read_lines.Goals.{In-Ok}
 
-known : (c : In-Sound) → (node : Node) × (judgement_of c.loop-at.chain c.loop-at.n c.loop-at.previous (line_at c.args.bytes.now c.loop-at.at) ≡ sound node) × BriefOf node c.in-Sound.b
-known c = c.judge.ensures.kept _ c.in-Sound.is
+-- what is known of a sound line before it is kept
 
-next-line : (c : In-Sound) → (let b = c.in-Sound.b in NextLine c.args.bytes.now c.loop-at.at c.loop-at.n b.depth b.kind b.next)
+known : (c : In-Ok) → (node : Node) × (judgement_of c.loop-at.chain c.loop-at.n c.loop-at.previous (line_at c.args.bytes.now c.loop-at.at) ≡ Ok node) × BriefOf node c.in-Ok.b
+known c = c.judge.ensures.kept _ c.in-Ok.is
+
+next-line : (c : In-Ok) → (let b = c.in-Ok.b in NextLine c.args.bytes.now c.loop-at.at c.loop-at.n b.depth b.kind b.next)
 next-line c = turns_next c.loop-at.invariant c.loop-at-test.true _ (known c)
 
 pub loop-at-init : goal.loop-at-init
 loop-at-init c = turns_start _ _ c.requires.begun
 
-pub returns-in-Faulty : goal.returns-in-Faulty
-returns-in-Faulty c = refused_reads (turns_refuse c.loop-at.invariant c.loop-at-test.true _ (c.judge.ensures.refused _ c.in-Faulty.is))
+pub returns-in-Err : goal.returns-in-Err
+returns-in-Err c =
+    rw c.at.ensures (refused_reads (turns_refuse c.loop-at.invariant c.loop-at-test.true _ (c.judge.ensures.refused _ c.in-Err.is)))
 
 pub bounds-chain-here : goal.bounds-chain-here
 bounds-chain-here c =
-    let h : c.in-Sound.b.depth ≤ max_depth = (next-line (goal.at.bounds-chain-here c).In-Sound).deep in
+    let h : c.in-Ok.b.depth ≤ max_depth = (next-line (goal.at.bounds-chain-here c).In-Ok).deep in
     omega arith
 
 pub keep_at-requires : goal.keep_at-requires
 keep_at-requires c =
-    let l = next-line (goal.at.keep_at-requires c).In-Sound in record {
+    let l = next-line (goal.at.keep_at-requires c).In-Ok in record {
       i_bound = omega (arith, l.few);
       depth_le_max_depth = (l.deep, l.known);
     }
@@ -50,12 +53,12 @@ overflow_add-n c = record { fits = omega (arith, c.loop-at.invariant.few, c.requ
 
 pub loop-at-smaller : goal.loop-at-smaller
 loop-at-smaller c =
-    let l = next-line (goal.at.loop-at-smaller c).In-Sound in
+    let l = next-line (goal.at.loop-at-smaller c).In-Ok in
     omega (arith, l.ahead, l.ends)
 
 pub loop-at-preserved : goal.loop-at-preserved
 loop-at-preserved c =
-    turns_more c.loop-at.invariant c.loop-at-test.true _ (known (goal.at.loop-at-preserved c).In-Sound) _ (omega (arith, (next-line (goal.at.loop-at-preserved c).In-Sound).few, c.requires.begun.few, c.requires.bytes_bound)) c.keep_at.auto.lines
+    turns_more c.loop-at.invariant c.loop-at-test.true _ (known (goal.at.loop-at-preserved c).In-Ok) _ (omega (arith, (next-line (goal.at.loop-at-preserved c).In-Ok).few, c.requires.begun.few, c.requires.bytes_bound)) c.keep_at.auto.lines
     c.keep_at.ensures
 
 pub slice_bounds-finish-end-2 : goal.slice_bounds-finish-end-2

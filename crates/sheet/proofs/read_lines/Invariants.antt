@@ -2,7 +2,6 @@
 -- are to the next one, and the sheet's answer is that of the checks from line n + 1 on, which starts at the place. A faulty line is the answer; a
 -- sound one is kept, and the checks go on after it. After the last line only the checks of `finish` are left. The measure is what is left of the
 -- sheet: a line has at least its line feed. Assumes nothing.
--- where a sound line is known, before it is kept
 use Prim.Native.Nat.{◌-◌}
 use lib.ListN.{length}
 use Rattle.sheet.proofs.Turns.{ReadingLoop}

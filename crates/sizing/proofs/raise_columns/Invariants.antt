@@ -1,7 +1,6 @@
 -- `sizing::raise_columns` meets its contract. The loop's invariant, `Sofar`: what stands in the columns is the largest that the first i entries
 -- give. A turn passes an entry without a size, or raises its columns by its two quotients; the parts that are lent lie within the columns,
--- as the entry ends there. The measure is the number of entries left. Assumes nothing.
-use Prim.Native.Nat.{◌-◌}
+-- as the entry ends there. Assumes nothing.
 use lib.ListN.{length}
 use Rattle.records.specs.Kept.{entries_of}
 use Rattle.estimates.specs.inner.Figures.{figures_of}
@@ -9,7 +8,4 @@ use Rattle.sizing.proofs.Raises.{Sofar}
 use Rattle.sizing.proofs.raise_columns.Given as goal
 
 abbrev pub invariant-loop-i : goal.invariant-loop-i
-invariant-loop-i l = Sofar (entries_of l.entries) (figures_of l.figures) (length l.initial.sizes) l.sizes l.leasts l.i
-
-abbrev pub decreases-loop-i : goal.decreases-loop-i
-decreases-loop-i l = length (entries_of l.entries) - l.i
+invariant-loop-i l = Sofar (entries_of l.entries) (figures_of l.figures) (length l.fn.sizes) l.sizes l.leasts l.i

@@ -1,13 +1,12 @@
 -- Where a row stands among the entries of its table, and what stands in two slices of all placed entries. These are definitions; nothing is assumed.
-use Rattle.std.specs.Prelude.{◌≡◌, true, List, [], ◌∷◌, ℕ, ◌+◌, ◌-◌, ◌≤◌, length, get_or, take}
+use Rattle.lists.specs.declared.Refusal.{Refusal}
+use Rattle.std.specs.Prelude.{◌≡◌, true, List, [], ◌∷◌, ℕ, ◌+◌, ◌-◌, ◌≤◌, length, get_or, take, Err, Ok, Result}
 use Rattle.std.proofs.Math.Seq.{slice}
 use Rattle.lists.specs.Limits.{max_entries}
 use Rattle.lists.specs.Refusals.{Check, first_answer, passes}
 use Rattle.text.specs.declared.Estimate.{Estimate}
 use Rattle.records.specs.Kept.{kepts_of, rows_of}
 use Rattle.records.specs.declared.Kept.{Kept}
-use Rattle.sheet.specs.declared.Reading.{Reading}
-use Rattle.sheet.specs.declared.Reading.TheVariants.{Lines, Refused as NotRead}
 use Rattle.columns.specs.Boxes.{Box}
 use Rattle.cells.specs.Listed.{table_rows}
 use Rattle.grid.specs.Grid.{GridRow, grid_of, columns_of}
@@ -20,16 +19,18 @@ use Rattle.pointing.specs.Point.{placed}
 use Rattle.pointing.specs.inner.Rows.{InSlices}
 use Rattle.sheet_figures.specs.Figures.{rows_at, boxes_at, way_at, widths_at}
 use Rattle.spots.specs.Rows.{start_in, row_check}
-use Rattle.spots.specs.declared.Spot.{Spot}
-use Rattle.spots.specs.declared.Spot.TheVariants.{Row, Refused}
+use Rattle.spots.specs.declared.Span.{Span}
 
 -- the first rows of the records are those of a grid
 abbrev pub HasRows : ℕ → List ℕ → List GridRow → Type 0
 HasRows n rows g = take n (rows_of rows) ≡ ended_rows 0 g
 
+abbrev pub span_with : (first end next : ℕ) → Span
+span_with first end next = record { first = first; end = end; next = next }
+
 -- the numbers of the entries at which the row starts, at which it ends, and at which the next one ends; or 10
-unfoldable pub spot_in : Way → List GridRow → ℕ → Spot
-spot_in way g row = first_answer Refused (Row (start_in g row) (start_in g (row + 1)) (start_in g (row + 2))) (row_check way g row ∷ [])
+unfoldable pub spot_in : Way → List GridRow → ℕ → Result Span Refusal
+spot_in way g row = first_answer Err (Ok (span_with (start_in g row) (start_in g (row + 1)) (start_in g (row + 2)))) (row_check way g row ∷ [])
 
 -- the two slices have the places of a table's entries
 pub record PlacesRoom (x wide : List ℕ) : Type 0 where
@@ -43,20 +44,20 @@ pub record RowsTold (way : Way) (ws : List ℕ) (width : ℕ) (g : List GridRow)
   pub few : (k : ℕ) → start_in g k ≤ max_entries
 
 -- of the table in a line, at the wrap of the estimates
-pub record SpotTold (columns : ℕ) (g : List GridRow) (rows : List (List Box)) (raw width row : ℕ) (r : Spot) (x wide : List ℕ) : Type 0 where
+pub record SpotTold (columns : ℕ) (g : List GridRow) (rows : List (List Box)) (raw width row : ℕ) (r : Result Span Refusal) (x wide : List ℕ) : Type 0 where
   pub answer : r ≡ spot_in (way_in columns rows raw width) g row
   pub told : RowsTold (way_in columns rows raw width) (widths_in columns rows raw width) width g rows x wide
 
-pub record SpotMade (ks : List Kept) (line : ℕ) (figures : List Estimate) (raw width row : ℕ) (r : Spot) (x wide : List ℕ) : Type 0 where
+pub record SpotMade (ks : List Kept) (line : ℕ) (figures : List Estimate) (raw width row : ℕ) (r : Result Span Refusal) (x wide : List ℕ) : Type 0 where
   pub made : (wrap : ℕ) → table.CellsAre wrap ks (line - 1) figures
       → SpotTold (columns_of (table_rows ks (line - 1))) (grid_of (table_rows ks (line - 1))) (table.boxes_at wrap ks (line - 1)) raw width row r x wide
 
 -- the refusal handed up, or that of the lines that were read
-pub record SpotRead (read : Reading) (lines : List ℕ) (line : ℕ) (figures : List Estimate) (raw width row : ℕ) (r : Spot) (x wide : List ℕ) : Type 0 where
-  pub refused : (number at : ℕ) → read ≡ NotRead number at → r ≡ Refused number at
-  pub made : (n : ℕ) → read ≡ Lines n → SpotMade (take n (kepts_of lines)) line figures raw width row r x wide
+pub record SpotRead (read : Result ℕ Refusal) (lines : List ℕ) (line : ℕ) (figures : List Estimate) (raw width row : ℕ) (r : Result Span Refusal) (x wide : List ℕ) : Type 0 where
+  pub refused : (why : Refusal) → read ≡ Err why → r ≡ Err why
+  pub made : (n : ℕ) → read ≡ Ok n → SpotMade (take n (kepts_of lines)) line figures raw width row r x wide
 
 -- found in the sheet, or the first refusal
-pub record SpotFound (cs : List Check) (s : List ℕ) (line wrap raw width row : ℕ) (r : Spot) (x wide : List ℕ) : Type 0 where
-  pub answer : r ≡ first_answer Refused (spot_in (way_at s line wrap raw width) (rows_at s line) row) cs
+pub record SpotFound (cs : List Check) (s : List ℕ) (line wrap raw width row : ℕ) (r : Result Span Refusal) (x wide : List ℕ) : Type 0 where
+  pub answer : r ≡ first_answer Err (spot_in (way_at s line wrap raw width) (rows_at s line) row) cs
   pub told : passes cs ≡ true → RowsTold (way_at s line wrap raw width) (widths_at s line wrap raw width) width (rows_at s line) (boxes_at s line wrap) x wide

@@ -1,31 +1,20 @@
--- `sums::joined` meets its contract. By the two results and the operator. Assumes nothing.
-use mathlib.Core.Path.{sym, ap, ◌∙◌}
-use Rattle.sums.specs.Tree.{within, both, result_of}
-use lib.IntN.{ℤ, ◌+ℤ◌}
-use Rattle.sums.specs.inner.Worth.{signed}
-use Rattle.sums.proofs.Signs.{flipped}
+-- `sums::joined` meets its contract: by the two results, each of which reads back from its 64 bits. Assumes nothing.
+use Rattle.std.proofs.Common.{w64, rules, FitsSigned}
+use Rattle.std.proofs.Math.Facts.{to_z-of_z}
+use Rattle.sums.specs.Tree.{both}
 use Rattle.sums.proofs.joined.Goals as goal
 
-pub returns-in_default : goal.returns-in_default
+pub returns-in_err-a : goal.returns-in_err-a
 unfolding both
-returns-in_default c = rw c.in_default.is
+returns-in_err-a c = rw c.in_err-a.was c.from_residual.ensures
 
-pub returns-in_default-b : goal.returns-in_default-b
+pub returns-in_err-b : goal.returns-in_err-b
 unfolding both
-returns-in_default-b c = rw (c.in-Whole.is, c.in_default-b.is)
+returns-in_err-b c = rw (c.in_ok-a.was, c.in_err-b.was) c.from_residual-in_err-b.ensures
 
-pub returns-in-Plus : goal.returns-in-Plus
-unfolding both result_of
-returns-in-Plus c = rw (c.in-Plus.is, c.in-Whole.is, c.in-Whole-b.is) c.added.ensures
-
-pub returns-in-Minus : goal.returns-in-Minus
-unfolding both result_of
-returns-in-Minus c = rw (c.in-Minus.is, c.in-Whole.is, c.in-Whole-b.is) (c.added-in-Minus.ensures ∙ ap (λ (z : ℤ). within (signed c.in-Whole.s c.in-Whole.x +ℤ z)) (sym (flipped c.in-Whole-b.t c.in-Whole-b.y)))
-
-pub returns-in-Times : goal.returns-in-Times
-unfolding both result_of
-returns-in-Times c = rw (c.in-Times.is, c.in-Whole.is, c.in-Whole-b.is) c.multiplied.ensures
-
-pub returns-in-Over : goal.returns-in-Over
+pub returns : goal.returns
 unfolding both
-returns-in-Over c = rw (c.in-Over.is, c.in-Whole.is, c.in-Whole-b.is) c.divided.ensures
+returns c =
+    let f : FitsSigned w64 c.in_ok-a.field-0 = search rules in
+    let g : FitsSigned w64 c.in_ok-b.field-0 = search rules in
+    rw (c.in_ok-a.was, c.in_ok-b.was) (simp (to_z-of_z f, to_z-of_z g) at c.reckoned.ensures)

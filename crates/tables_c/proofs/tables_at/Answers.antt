@@ -4,4 +4,4 @@ use Rattle.crossing.specs.Answers.{at_result}
 use Rattle.tables_c.proofs.tables_at.Goals as goal
 
 pub returns : goal.returns
-returns c = c.at_result.ensures ∙ ap at_result c.at.ensures
+returns c = c.from.ensures ∙ ap at_result c.at.ensures

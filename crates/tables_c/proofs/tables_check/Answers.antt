@@ -4,4 +4,4 @@ use Rattle.crossing.specs.Answers.{check_result}
 use Rattle.tables_c.proofs.tables_check.Goals as goal
 
 pub returns : goal.returns
-returns c = c.check_result.ensures ∙ ap check_result c.check.ensures
+returns c = c.from.ensures ∙ ap check_result c.check.ensures

@@ -6,6 +6,6 @@ use Rattle.tables_c.proofs.tables_estimates.Goals as goal
 pub returns : goal.returns
 returns c =
     let told = c.estimates.ensures in record {
-      value = c.estimates_result.ensures ∙ ap estimates_result told.answer;
+      value = c.from.ensures ∙ ap estimates_result told.answer;
       estimates_buffers = told.left;
     }

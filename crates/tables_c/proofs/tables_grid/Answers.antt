@@ -6,6 +6,6 @@ use Rattle.tables_c.proofs.tables_grid.Goals as goal
 pub returns : goal.returns
 returns c =
     let told = c.grid.ensures in record {
-      value = c.grid_result.ensures ∙ ap grid_result told.answer;
+      value = c.from.ensures ∙ ap grid_result told.answer;
       grid_buffers = told.left;
     }

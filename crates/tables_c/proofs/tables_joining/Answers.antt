@@ -4,4 +4,4 @@ use Rattle.crossing.specs.Answers.{joining_result}
 use Rattle.tables_c.proofs.tables_joining.Goals as goal
 
 pub returns : goal.returns
-returns c = c.joining_result.ensures ∙ ap joining_result c.joining.ensures
+returns c = c.from.ensures ∙ ap joining_result c.joining.ensures

@@ -6,6 +6,6 @@ use Rattle.tables_c.proofs.tables_layout.Goals as goal
 pub returns : goal.returns
 returns c =
     let told = c.layout.ensures in record {
-      value = c.layout_result.ensures ∙ ap layout_result told.answer;
+      value = c.from.ensures ∙ ap layout_result told.answer;
       layout_buffers = told.left;
     }

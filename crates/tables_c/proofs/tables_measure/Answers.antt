@@ -5,4 +5,4 @@ use Rattle.crossing.specs.Answers.{measure_result}
 use Rattle.tables_c.proofs.tables_measure.Goals as goal
 
 pub returns : goal.returns
-returns c = c.measure_result.ensures ∙ ap measure_result (c.measure.ensures ∙ ap (measure_of _ _) c.as_img.ensures)
+returns c = c.from.ensures ∙ ap measure_result (c.measure.ensures ∙ ap (measure_of _ _) c.as_img.ensures)

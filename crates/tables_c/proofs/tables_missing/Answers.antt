@@ -6,6 +6,6 @@ use Rattle.tables_c.proofs.tables_missing.Goals as goal
 pub returns : goal.returns
 returns c =
     let told = c.missing.ensures in record {
-      value = c.missing_result.ensures ∙ ap missing_result told.answer;
+      value = c.from.ensures ∙ ap missing_result told.answer;
       missing_left = told.left;
     }

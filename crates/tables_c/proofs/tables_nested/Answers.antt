@@ -6,6 +6,6 @@ use Rattle.tables_c.proofs.tables_nested.Goals as goal
 pub returns : goal.returns
 returns c =
     let told = c.nested.ensures in record {
-      value = c.nested_result.ensures ∙ ap nested_result told.answer;
+      value = c.from.ensures ∙ ap nested_result told.answer;
       nested_left = told.left;
     }

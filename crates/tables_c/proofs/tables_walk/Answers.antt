@@ -6,6 +6,6 @@ use Rattle.tables_c.proofs.tables_walk.Goals as goal
 pub returns : goal.returns
 returns c =
     let told = c.walk.ensures in record {
-      value = c.walk_result.ensures ∙ ap walk_result told.answer;
+      value = c.from.ensures ∙ ap walk_result told.answer;
       walk_left = told.left;
     }

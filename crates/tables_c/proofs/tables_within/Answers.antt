@@ -6,6 +6,6 @@ use Rattle.tables_c.proofs.tables_within.Goals as goal
 pub returns : goal.returns
 returns c =
     let told = c.within.ensures in record {
-      value = c.within_result.ensures ∙ ap within_result told.answer;
+      value = c.from.ensures ∙ ap within_result told.answer;
       within_left = told.left;
     }

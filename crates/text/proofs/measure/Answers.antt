@@ -10,22 +10,22 @@ use Rattle.text.proofs.measure.Goals as goal
 
 pub returns-then-wrap-gt-MAX_WRAP : goal.returns-then-wrap-gt-MAX_WRAP
 unfolding measure_of first_answer
-returns-then-wrap-gt-MAX_WRAP c = rw (lt-ltb _ _ c.if-wrap-gt-MAX_WRAP.true)
+returns-then-wrap-gt-MAX_WRAP c = rw (lt-ltb _ _ c.if-wrap-gt-MAX_WRAP.true, c.at.ensures)
 
 pub returns-then-text-gt-MAX_BYTES : goal.returns-then-text-gt-MAX_BYTES
 unfolding measure_of first_answer
-returns-then-text-gt-MAX_BYTES c = rw (le-ltb _ _ c.if-wrap-gt-MAX_WRAP.false, lt-ltb _ _ c.if-text-gt-MAX_BYTES.true)
+returns-then-text-gt-MAX_BYTES c = rw (le-ltb _ _ c.if-wrap-gt-MAX_WRAP.false, lt-ltb _ _ c.if-text-gt-MAX_BYTES.true, c.at-then-text-gt-MAX_BYTES.ensures)
 
 pub returns-in_default : goal.returns-in_default
 unfolding measure_of first_answer
-returns-in_default c = rw (le-ltb _ _ c.if-wrap-gt-MAX_WRAP.false, le-ltb _ _ c.if-text-gt-MAX_BYTES.false, scan_unreadable _ (sym c.scan.ensures ∙ c.in_default.is))
+returns-in_default c = rw (le-ltb _ _ c.if-wrap-gt-MAX_WRAP.false, le-ltb _ _ c.if-text-gt-MAX_BYTES.false, scan_unreadable _ (sym c.scan.ensures ∙ c.in_default.is), c.at-in_default.ensures)
 
 pub with_img-size-requires : goal.with_img-size-requires
-with_img-size-requires c = omega (arith, scan_le _ _ (sym c.scan.ensures ∙ c.in-Size.is))
+with_img-size-requires c = omega (arith, scan_le _ _ (sym c.scan.ensures ∙ c.in-Some.is))
 
 pub returns : goal.returns
 unfolding measure_of first_answer
 returns c =
-    let told = scan_size _ _ (sym c.scan.ensures ∙ c.in-Size.is) in
+    let told = scan_size _ _ (sym c.scan.ensures ∙ c.in-Some.is) in
     rw (le-ltb _ _ c.if-wrap-gt-MAX_WRAP.false, le-ltb _ _ c.if-text-gt-MAX_BYTES.false, told.0)
-    (rw (c.smaller.ensures, c.with_img-size.ensures, told.1))
+    (rw (c.min.ensures, c.with_img-size.ensures, told.1))

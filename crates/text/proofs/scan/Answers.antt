@@ -2,8 +2,8 @@
 -- the text. Assumes nothing.
 use mathlib.Core.Path.{◌≡◌, refl, sym, ap, ◌∙◌}
 use native.Mathlib.Omega.{arith}
+use Rattle.std.specs.Prelude.{Some}
 use Rattle.text.specs.Bytes.{class_of, refused}
-use Rattle.text.specs.declared.Scanned.TheVariants.{Size}
 use Rattle.text.proofs.Sizes.{scan_whole, scan_short}
 use Rattle.text.proofs.scan.Goals as goal
 
@@ -14,7 +14,7 @@ stop-refused = refl
 pub returns-then-front-text : goal.returns-then-front-text
 returns-then-front-text c = sym (scan_short 255 stop-refused _ (omega (arith, c.scan_front-front.ensures.end)))
 
-pub returns : goal.returns
-returns c =
+pub returns-else-front-text : goal.returns-else-front-text
+returns-else-front-text c =
     let front = c.scan_front-front.ensures in
-    ap Size front.size ∙ sym (scan_whole 255 _ (omega (arith, front.end)))
+    ap Some front.size ∙ sym (scan_whole 255 _ (omega (arith, front.end)))

@@ -4,7 +4,7 @@ use Rattle.walking.proofs.walk.Goals as goal
 
 pub walk_lines-requires : goal.walk_lines-requires
 walk_lines-requires c =
-    let k = c.keep_front in record {
+    record {
       walkable = c.requires.walkable;
       raw_bound = c.requires.raw_bound;
       cleared = cleared _ c.args.walk.now c.keep_front.new.buffer c.requires.lines_in_bounds c.keep_front.ensures;

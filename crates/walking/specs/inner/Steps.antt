@@ -1,10 +1,9 @@
 -- A step of the walk, and what is asked for and left in slices. These are definitions; nothing is assumed.
-use Rattle.std.specs.Prelude.{◌≡◌, cond, List, [], ◌∷◌, map, ℕ, ◌-◌, ◌/◌, ◌≤◌, ◌<◌, eqb, length, get_or, set, take}
+use Rattle.lists.specs.declared.Refusal.{Refusal}
+use Rattle.std.specs.Prelude.{◌≡◌, cond, List, [], ◌∷◌, map, ℕ, ◌-◌, ◌/◌, ◌≤◌, ◌<◌, eqb, length, get_or, set, take, Ok, Result, None, Option, Some}
 use Prim.{Unit}
 use Rattle.lists.specs.Limits.{max_lines, max_entries, max_position, max_size}
 use Rattle.lists.specs.Refusals.{verdict_of}
-use Rattle.lists.specs.declared.Verdict.{Verdict}
-use Rattle.lists.specs.declared.Verdict.TheVariants.{Accepted}
 use Rattle.text.specs.declared.Estimate.{Estimate}
 use Rattle.kinds.specs.Kinds.{table_kind, cell_kind}
 use Rattle.records.specs.Kept.{no_kept, no_entry, no_place, kept_count, kepts_of}
@@ -19,8 +18,6 @@ use Rattle.estimates.specs.Sheet.{Sheet}
 use Rattle.table.specs.Arranging.{AllMeasured}
 use Rattle.passing.specs.Walk.{passed_on, printed, cell_width, walk, narrow_checks}
 use Rattle.passing.specs.inner.Places.{width_place, width_by}
-use Rattle.passing.specs.declared.Width.{Width}
-use Rattle.passing.specs.declared.Width.TheVariants.{Wide, Without}
 
 -- ---- what is walked
 
@@ -69,12 +66,12 @@ pub record CellsFit (n : ℕ) (es : List Entry) (wide : List ℕ) (ps : List Pla
   pub room : (k : ℕ) → k < n → (get_or es k no_entry).cell ≤ length ps
 
 -- a width at which a table can be laid out
-unfoldable pub AtMost : ℕ → Width → Type 0
-AtMost m Without = Unit {0}
-AtMost m (Wide w) = w ≤ m
+unfoldable pub AtMost : ℕ → Option ℕ → Type 0
+AtMost m None = Unit {0}
+AtMost m (Some w) = w ≤ m
 
 -- a line of a sheet that is walked, and its width
-pub record HandReady (ks : List Kept) (t : ℕ) (w : Width) : Type 0 where
+pub record HandReady (ks : List Kept) (t : ℕ) (w : Option ℕ) : Type 0 where
   pub within : t < length ks
   pub small : AtMost max_size w
 
@@ -83,7 +80,7 @@ abbrev pub CellIn : List Kept → ℕ → ℕ → Type 0
 CellIn ks t i = ((get_or ks t no_kept).kind ≡ table_kind) × CellOf ks t i
 
 -- the table at place t that has this width gives its cells theirs, where they had none; what else was there stays
-pub record HandedOut (ks : List Kept) (t : ℕ) (figures : List Estimate) (raw : ℕ) (w : Width) (ps₀ ps : List Place) : Type 0 where
+pub record HandedOut (ks : List Kept) (t : ℕ) (figures : List Estimate) (raw : ℕ) (w : Option ℕ) (ps₀ ps : List Place) : Type 0 where
   pub cell : (wrap : ℕ) → take (length ks) figures ≡ estimates wrap ks → (i : ℕ) → CellIn ks t i → get_or ps₀ i no_place ≡ no_place
       → get_or ps i no_place ≡ width_place (cell_width wrap raw ks t w i)
   pub other : (i : ℕ) → (CellIn ks t i → ⊥) → get_or ps i no_place ≡ get_or ps₀ i no_place
@@ -91,8 +88,8 @@ pub record HandedOut (ks : List Kept) (t : ℕ) (figures : List Estimate) (raw :
 -- ---- one line
 
 -- its width, by what stands at its place and what the nearest line of each depth passes on
-abbrev pub own_width : ℕ → ℕ → Kept → List Place → List Place → Width
-own_width root i k ps qs = cond (eqb i 0) (Wide root) (cond (eqb k.kind cell_kind) (width_by (get_or ps i no_place)) (width_by (get_or qs (k.depth - 1) no_place)))
+abbrev pub own_width : ℕ → ℕ → Kept → List Place → List Place → Option ℕ
+own_width root i k ps qs = cond (eqb i 0) (Some root) (cond (eqb k.kind cell_kind) (width_by (get_or ps i no_place)) (width_by (get_or qs (k.depth - 1) no_place)))
 
 -- the line at place i is one of the sheet's, and its depth has a place
 pub record LineHere (lines figures walk passed : List ℕ) (i : ℕ) : Type 0 where
@@ -101,7 +98,7 @@ pub record LineHere (lines figures walk passed : List ℕ) (i : ℕ) : Type 0 wh
   pub place_in : i < length walk / 2
   pub depth_in : (get_or (kepts_of lines) i no_kept).depth < length passed / 2
 
-pub record Stepped (ks : List Kept) (figures : List Estimate) (root i : ℕ) (w : Width) (ps₀ qs₀ ps qs : List Place) : Type 0 where
+pub record Stepped (ks : List Kept) (figures : List Estimate) (root i : ℕ) (w : Option ℕ) (ps₀ qs₀ ps qs : List Place) : Type 0 where
   pub width_is : w ≡ own_width root i (get_or ks i no_kept) ps₀ qs₀
   pub written : ps ≡ set ps₀ i (width_place w)
   pub passes : qs ≡ set qs₀ (get_or ks i no_kept).depth (width_place (passed_on (get_or ks i no_kept).kind (get_or figures i none) w))
@@ -114,7 +111,7 @@ pub record Cleared (lines : ℕ) (ps : List Place) : Type 0 where
   pub no_width : (i : ℕ) → get_or ps i no_place ≡ no_place
 
 -- the answer, and where it is accepted the width of each line, at which a table can be laid out
-pub record Walked (ks : List Kept) (figures : List Estimate) (raw root overflow : ℕ) (r : Verdict) (ps : List Place) : Type 0 where
+pub record Walked (ks : List Kept) (figures : List Estimate) (raw root overflow : ℕ) (r : Result (Unit {0}) Refusal) (ps : List Place) : Type 0 where
   pub answer : (wrap : ℕ) → take (length ks) figures ≡ estimates wrap ks → r ≡ verdict_of (narrow_checks wrap raw root overflow ks)
-  pub widths : (wrap : ℕ) → take (length ks) figures ≡ estimates wrap ks → r ≡ Accepted → take (length ks) ps ≡ map width_place (walk wrap raw root ks)
-  pub small : (wrap : ℕ) → take (length ks) figures ≡ estimates wrap ks → r ≡ Accepted → (k : ℕ) → AtMost max_size (get_or (walk wrap raw root ks) k Without)
+  pub widths : (wrap : ℕ) → take (length ks) figures ≡ estimates wrap ks → r ≡ (Ok tt) → take (length ks) ps ≡ map width_place (walk wrap raw root ks)
+  pub small : (wrap : ℕ) → take (length ks) figures ≡ estimates wrap ks → r ≡ (Ok tt) → (k : ℕ) → AtMost max_size (get_or (walk wrap raw root ks) k None)

@@ -1,16 +1,13 @@
 -- What is found in a sheet that is walked, by its bytes. These are definitions; nothing is assumed.
-use Rattle.std.specs.Prelude.{◌≡◌, List, map, ℕ, ◌/◌, ◌≤◌, length, take}
+use Rattle.lists.specs.declared.Refusal.{Refusal}
+use Rattle.std.specs.Prelude.{◌≡◌, List, map, ℕ, ◌/◌, ◌≤◌, length, take, Err, Ok, Result}
 use Rattle.lists.specs.Limits.{max_lines}
 use Rattle.lists.specs.Refusals.{Check, first_answer, if_passes}
 use Rattle.records.specs.declared.Place.{Place}
 use Rattle.sheet.specs.Sheet.{sheet_lines}
-use Rattle.sheet.specs.declared.Reading.{Reading}
-use Rattle.sheet.specs.declared.Reading.TheVariants.{Lines, Refused as NotRead}
 use Rattle.passing.specs.Walk.{given_number, width_number}
 use Rattle.sheet_figures.specs.inner.Opened.{lines_in}
 use Rattle.pacing.specs.Sheets.{walk_of}
-use Rattle.answers.specs.declared.Walked.{Walked}
-use Rattle.answers.specs.declared.Walked.TheVariants as walked
 
 -- the lent buffers have the places of a sheet's lines
 pub record WalkRoom (given wide : List ℕ) : Type 0 where
@@ -33,14 +30,9 @@ pub record WalkTold (n : ℕ) (ps : List Place) (given wide : List ℕ) : Type 0
   pub givens : take n given ≡ map first_in (take n ps)
   pub wides : take n wide ≡ map span_in (take n ps)
 
--- a reading in the words of `walk`
-unfoldable pub walked_in : Reading → Walked
-walked_in (Lines n) = walked.Lines n
-walked_in (NotRead number line) = walked.Refused number line
-
 -- the walk found in the sheet, or the first refusal; the figures stand in the first places
-pub record WalkFound (cs : List Check) (s : List ℕ) (wrap raw width : ℕ) (r : Reading) (given wide : List ℕ) : Type 0 where
-  pub answer : r ≡ first_answer NotRead (Lines (length (sheet_lines s))) cs
+pub record WalkFound (cs : List Check) (s : List ℕ) (wrap raw width : ℕ) (r : Result ℕ Refusal) (given wide : List ℕ) : Type 0 where
+  pub answer : r ≡ first_answer Err (Ok (length (sheet_lines s))) cs
   pub few : lines_in r ≤ max_lines
   pub givens : take (lines_in r) given ≡ if_passes cs (map given_number (walk_of s wrap raw width))
   pub wides : take (lines_in r) wide ≡ if_passes cs (map width_number (walk_of s wrap raw width))

@@ -10,4 +10,4 @@ pub overflow_add-result : goal.overflow_add-result
 overflow_add-result c = omega arith
 
 pub returns : goal.returns
-returns c = ap₂ ltb c.to_u64.ensures (ap₂ (λ (x y : ℕ). x + y) c.total.ensures.is c.gaps_of.ensures)
+returns c = ap₂ ltb c.from.ensures (ap₂ (λ (x y : ℕ). x + y) c.total.ensures.is c.gaps_of.ensures)

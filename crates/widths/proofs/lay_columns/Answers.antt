@@ -6,5 +6,5 @@ use Rattle.widths.proofs.lay_columns.Goals as goal
 pub write_widths-requires : goal.write_widths-requires
 write_widths-requires c = sized c.requires _ c.way_of-way.ensures
 
-pub table_width-own-requires : goal.table_width-own-requires
-table_width-own-requires c = fitted c.requires _ c.way_of-way.ensures c.write_widths.ensures
+pub table_width-requires : goal.table_width-requires
+table_width-requires c = fitted c.requires _ c.way_of-way.ensures c.write_widths.ensures

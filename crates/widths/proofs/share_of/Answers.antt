@@ -6,12 +6,12 @@ use native.Mathlib.Omega.{arith}
 use Rattle.widths.specs.Share.{share}
 use Rattle.widths.proofs.Share.{share_some, product_fits, part_le}
 use Rattle.widths.proofs.share_of.Goals as goal
-use Rattle.widths.proofs.share_of.Goals.{After-to_u64-2}
+use Rattle.widths.proofs.share_of.Goals.{After-from-2}
 
 -- the quotient that the code takes
-product : (c : After-to_u64-2) → let a = c.args in
-    c.to_u64.result * c.to_u64-2.result / a.all ≡ a.size * a.width / a.all
-product c = ap₂ (λ (x y : ℕ). x * y / c.args.all) c.to_u64.ensures c.to_u64-2.ensures
+product : (c : After-from-2) → let a = c.args in
+    c.from.result * c.from-2.result / a.all ≡ a.size * a.width / a.all
+product c = ap₂ (λ (x y : ℕ). x * y / c.args.all) c.from.ensures c.from-2.ensures
 
 pub returns-then-size-eq0 : goal.returns-then-size-eq0
 unfolding share
@@ -21,9 +21,9 @@ pub overflow_mul-part : goal.overflow_mul-part
 overflow_mul-part c = record { fits = product_fits _ _ (omega arith) (omega arith) }
 
 pub overflow_cast-part : goal.overflow_cast-part
-overflow_cast-part c = omega (arith, part_le c.args.size c.args.width c.args.all c.requires, product (goal.at.overflow_cast-part c).After-to_u64-2)
+overflow_cast-part c = omega (arith, part_le c.args.size c.args.width c.args.all c.requires, product (goal.at.overflow_cast-part c).After-from-2)
 
 pub returns : goal.returns
 returns c =
     let a = c.args in
-    omega (arith, product (goal.at.returns c).After-to_u64-2, share_some a.size a.least a.width a.all (omega arith))
+    omega (arith, product (goal.at.returns c).After-from-2, share_some a.size a.least a.width a.all (omega arith))

@@ -1,10 +1,8 @@
 -- `widths::write_shares` meets its contract. The loop's invariant: the first i places have the first i shares, and the rest stands as it did.
--- A turn stores the share of column i, whose size is at most the total. At the end all shares are written. The measure is the number of
--- columns left. Assumes nothing.
+-- A turn stores the share of column i, whose size is at most the total. At the end all shares are written. Assumes nothing.
 use mathlib.Core.Path.{◌≡◌, sym, ap, ◌∙◌}
-use Prim.Native.Nat.{◌-◌}
 use native.Mathlib.Omega.{arith}
-use lib.ListN.{length, length-set}
+use lib.ListN.{length}
 use Rattle.lists.specs.Lists.{sum}
 use Rattle.lists.proofs.Write.{write_more, write_all}
 use Rattle.widths.specs.Share.{share, shares}
@@ -27,15 +25,12 @@ loop-i-preserved c =
     let zs = c.args.sizes.now in
     let ls = c.args.leasts.now in
     let width = c.args.width in
-    let same = c.share_of.ensures ∙ ap (share (at zs l.i) (at ls l.i) width) c.total-all.ensures.is in (
-      omega arith,
-      simp length-set l.invariant.1,
-      write_more (shares zs ls width) c.args.wide.now (as_many (goal.at.loop-i-preserved c).Start) l.wide l.i c.share_of.result
-          (omega (arith, c.requires.wide_length)) l.invariant.2 (same ∙ sym (at_shares zs ls width (sum zs) l.i)),
-    )
+    let same = c.share_of.ensures ∙ ap (share (at zs l.i) (at ls l.i) width) c.total-all.ensures.is in
+    write_more (shares zs ls width) c.args.wide.now (as_many (goal.at.loop-i-preserved c).Start) l.wide l.i c.share_of.result
+    (omega (arith, c.requires.wide_length)) l.invariant (same ∙ sym (at_shares zs ls width (sum zs) l.i))
 
 pub returns : goal.returns
 returns c =
     let l = c.loop-i in
     write_all (shares c.args.sizes.now c.args.leasts.now c.args.width) c.args.wide.now (as_many (goal.at.returns c).Start) l.wide l.i
-    (omega (arith, c.requires.wide_length)) l.invariant.2
+    (omega (arith, c.requires.wide_length)) l.invariant

@@ -7,7 +7,7 @@ use Rattle.estimates.proofs.single.holder.Goals as goal
 
 pub returns-then-line-eq-LINK : goal.returns-then-line-eq-LINK
 unfolding holder_of
-returns-then-line-eq-LINK c = rw (eq-eqb _ 4 c.if-line-eq-LINK.true, c.larger.ensures)
+returns-then-line-eq-LINK c = rw (eq-eqb _ 4 c.if-line-eq-LINK.true, c.max.ensures)
 
 pub overflow_add-result-2 : goal.overflow_add-result-2
 overflow_add-result-2 c =

@@ -1,6 +1,5 @@
 -- `estimates::spread::spread_entries` meets its contract. The loop's invariant, `SpreadLoop`: what is passed, with the entries left, comes to the
--- whole, in the sum and in each column. The measure is how many entries are left. Assumes nothing.
-use Prim.Native.Nat.{◌-◌}
+-- whole, in the sum and in each column. Assumes nothing.
 use lib.ListN.{length, take}
 use Rattle.records.specs.Kept.{entries_of}
 use Rattle.estimates.specs.inner.Figures.{figures_of}
@@ -8,7 +7,4 @@ use Rattle.estimates.proofs.Spreading.{SpreadLoop}
 use Rattle.estimates.proofs.spread.spread_entries.Given as goal
 
 abbrev pub invariant-loop-i : goal.invariant-loop-i
-invariant-loop-i l = SpreadLoop (figures_of l.figures) (take l.n (entries_of l.entries)) (length l.initial.columns) l.sum l.i l.columns
-
-abbrev pub decreases-loop-i : goal.decreases-loop-i
-decreases-loop-i l = l.n - l.i
+invariant-loop-i l = SpreadLoop (figures_of l.figures) (take l.n (entries_of l.entries)) (length l.fn.columns) l.sum l.i l.columns

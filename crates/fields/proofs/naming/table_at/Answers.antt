@@ -1,15 +1,7 @@
 -- `fields::naming::table_at` meets its contract: the four bytes at the place, and the four two places on, are the name and its space
 -- (`table_name`). Assumes nothing.
-use borrow.Author.Rules.{rules}
-use mathlib.Core.Bool.{false≢true}
 use Rattle.fields.proofs.Names.{table_name}
 use Rattle.fields.proofs.naming.table_at.Goals as goal
 
-pub returns-then-not-four_at : goal.returns-then-not-four_at
-returns-then-not-four_at c = λ e. absurd (false≢true e)
-
-pub overflow_add-at : goal.overflow_add-at
-overflow_add-at c = let f = c.four_at.ensures c.if-not-four_at.false in search (rules, f.inside)
-
-pub returns : goal.returns
-returns c = λ e. table_name _ _ (c.four_at.ensures c.if-not-four_at.false) (c.four_at-2.ensures e)
+pub returns-then-four_at : goal.returns-then-four_at
+returns-then-four_at c = λ e. table_name _ _ (c.four_at.ensures c.if-four_at.true) (c.four_at-then-four_at.ensures e)

@@ -9,7 +9,7 @@ use lib.ListN.{drop}
 use Rattle.fields.specs.Reading.{is_lone}
 use Rattle.fields.proofs.Digits.{Lone, lone, natural_out, natural_blank, natural_lone, natural_more, natural_rest}
 use Rattle.fields.proofs.numbers.natural_at.Goals as goal
-use Rattle.fields.proofs.numbers.natural_at.Goals.{Then-lone_at}
+use Rattle.fields.proofs.numbers.natural_at.Goals.{Then-lone_at, then-at-bytes-via-then-at-bytes, then-at-bytes-via-else-at-bytes+then-bytes-at-eq32}
 
 -- what is known where a single digit was found
 lone-told : (c : Then-lone_at) → (let a = c.args in is_lone (drop a.at a.bytes.now)) ≡ true
@@ -24,9 +24,6 @@ bounds-bytes-at c = omega (arith, (digit-here (goal.at.bounds-bytes-at c).Then-l
 pub overflow_sub-value : goal.overflow_sub-value
 overflow_sub-value c = (digit-here (goal.at.overflow_sub-value c).Then-lone_at).least
 
-pub overflow_cast-value : goal.overflow_cast-value
-overflow_cast-value c = let d = digit-here (goal.at.overflow_cast-value c).Then-lone_at in search (rules, d.most)
-
 pub returns-then-value-most : goal.returns-then-value-most
 returns-then-value-most c = sym (natural_lone _ _ _ (lone-told (goal.at.returns-then-value-most c).Then-lone_at) ∙ rw (lt-leb _ _ c.if-value-most.true))
 
@@ -37,13 +34,15 @@ pub returns-then-lone_at : goal.returns-then-lone_at
 returns-then-lone_at c = sym (natural_lone _ _ _ (lone-told (goal.at.returns-then-lone_at c).Then-lone_at) ∙ rw (le-leb _ _ c.if-value-most.false))
 
 pub returns-then-at-bytes : goal.returns-then-at-bytes
-returns-then-at-bytes c = sym (natural_out _ _ _ c.if-at-bytes.true)
+returns-then-at-bytes c =
+    elim c.then-at-bytes.branch [
+      | then-at-bytes-via-then-at-bytes w ↦ sym (natural_out _ _ _ w.if-at-bytes.true)
+      | then-at-bytes-via-else-at-bytes+then-bytes-at-eq32 w ↦ sym (natural_blank _ _ _ w.if-at-bytes.false w.if-bytes-at-eq32.true)
+    ]
 
-pub returns-then-b-eq48 : goal.returns-then-b-eq48
-returns-then-b-eq48 c = sym (natural_more _ _ _ c.if-at-bytes.false c.if-b-eq48.true (sym c.lone_at.ensures ∙ c.if-lone_at.false))
-
-pub returns-then-b-eq32 : goal.returns-then-b-eq32
-returns-then-b-eq32 c = sym (natural_blank _ _ _ c.if-at-bytes.false c.if-b-eq32.true)
+pub returns-then-led_by_zero : goal.returns-then-led_by_zero
+returns-then-led_by_zero c =
+    sym (natural_more _ _ _ c.if-at-bytes.false c.if-led_by_zero.true (sym c.lone_at.ensures ∙ c.if-lone_at.false))
 
 pub returns : goal.returns
-returns c = c.digits_at.ensures ∙ sym (natural_rest _ _ _ c.if-at-bytes.false c.if-b-eq48.false c.if-b-eq32.false)
+returns c = c.digits_at.ensures ∙ sym (natural_rest _ _ _ c.if-at-bytes.false c.if-led_by_zero.false c.if-bytes-at-eq32.false)

@@ -7,24 +7,24 @@ use native.Mathlib.Omega.{arith}
 use Rattle.fields.proofs.Signs.{raised, raised_read, natural_most}
 use Rattle.fields.proofs.numbers.shifted_at.Goals as goal
 
-pub returns-in_default : goal.returns-in_default
-returns-in_default c = sym (raised_read _ _ _ _ ∙ ap (raised _) (sym c.natural_at.ensures ∙ c.in_default.is))
+pub returns-in_err-n : goal.returns-in_err-n
+returns-in_err-n c = c.from_residual.ensures ∙ sym (raised_read _ _ _ _ ∙ ap (raised _) (sym c.natural_at.ensures ∙ c.in_err-n.was))
 
-pub returns-then-value-least : goal.returns-then-value-least
-returns-then-value-least c =
+pub returns-then-n-least : goal.returns-then-n-least
+returns-then-n-least c =
     sym
     (raised_read _ _ _ _
-    ∙ ap (raised _) (sym c.natural_at.ensures ∙ c.in-Sound.is)
-    ∙ rw (lt-ltb _ _ c.if-value-least.true))
+    ∙ ap (raised _) (sym c.natural_at.ensures ∙ c.in_ok-n.was)
+    ∙ rw (lt-ltb _ _ c.if-n-least.true))
 
 pub overflow_add-result : goal.overflow_add-result
 overflow_add-result c =
-    let told = sym c.natural_at.ensures ∙ c.in-Sound.is in
-    omega (arith, natural_most _ _ _ _ _ told, c.requires)
+    let told = sym c.natural_at.ensures ∙ c.in_ok-n.was in
+    omega (arith, natural_most _ _ _ _ told, c.requires)
 
 pub returns : goal.returns
 returns c =
     sym
     (raised_read _ _ _ _
-    ∙ ap (raised _) (sym c.natural_at.ensures ∙ c.in-Sound.is)
-    ∙ rw (le-ltb _ _ c.if-value-least.false))
+    ∙ ap (raised _) (sym c.natural_at.ensures ∙ c.in_ok-n.was)
+    ∙ rw (le-ltb _ _ c.if-n-least.false))

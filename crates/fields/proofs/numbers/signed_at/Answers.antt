@@ -13,27 +13,28 @@ returns-then-at-bytes c = sym (signed_out _ _ c.if-at-bytes.true)
 pub returns-then-bytes-at-ne45 : goal.returns-then-bytes-at-ne45
 returns-then-bytes-at-ne45 c = c.shifted_at.ensures ∙ sym (signed_plain _ _ c.if-at-bytes.false c.if-bytes-at-ne45.true)
 
-pub returns-in_default : goal.returns-in_default
-returns-in_default c =
-    sym
+pub returns-in_err-n : goal.returns-in_err-n
+returns-in_err-n c =
+    c.from_residual.ensures
+    ∙ sym
     (signed_minus _ _ c.if-at-bytes.false c.if-bytes-at-ne45.false
-    ∙ ap lowered (sym c.natural_at.ensures ∙ c.in_default.is))
+    ∙ ap lowered (sym c.natural_at.ensures ∙ c.in_err-n.was))
 
-pub returns-then-value-eq0 : goal.returns-then-value-eq0
-returns-then-value-eq0 c =
+pub returns-then-n-eq0 : goal.returns-then-n-eq0
+returns-then-n-eq0 c =
     sym
     (signed_minus _ _ c.if-at-bytes.false c.if-bytes-at-ne45.false
-    ∙ ap lowered (sym c.natural_at.ensures ∙ c.in-Sound.is)
-    ∙ rw (eq-eqb _ _ c.if-value-eq0.true))
+    ∙ ap lowered (sym c.natural_at.ensures ∙ c.in_ok-n.was)
+    ∙ rw (eq-eqb _ _ c.if-n-eq0.true))
 
 pub overflow_sub-result : goal.overflow_sub-result
 overflow_sub-result c =
-    let told = sym c.natural_at.ensures ∙ c.in-Sound.is in
-    omega (arith, natural_most _ _ _ _ _ told)
+    let told = sym c.natural_at.ensures ∙ c.in_ok-n.was in
+    omega (arith, natural_most _ _ _ _ told)
 
 pub returns : goal.returns
 returns c =
     sym
     (signed_minus _ _ c.if-at-bytes.false c.if-bytes-at-ne45.false
-    ∙ ap lowered (sym c.natural_at.ensures ∙ c.in-Sound.is)
-    ∙ rw (ne_eqb _ _ c.if-value-eq0.false))
+    ∙ ap lowered (sym c.natural_at.ensures ∙ c.in_ok-n.was)
+    ∙ rw (ne_eqb _ _ c.if-n-eq0.false))

@@ -1,12 +1,7 @@
--- `grid_bounds::whole::sheet_fits` meets its contract. The loop's invariant is `SheetLoop`. The measure is how many
--- lines are left. Assumes nothing.
-use Prim.Native.Nat.{◌-◌}
+-- `grid_bounds::whole::sheet_fits` meets its contract. The loop's invariant is `SheetLoop`. Assumes nothing.
 use Rattle.records.specs.Kept.{kepts_of}
 use Rattle.grid_bounds.proofs.SheetLoop.{SheetLoop}
 use Rattle.grid_bounds.proofs.whole.sheet_fits.Given as goal
 
 abbrev pub invariant-loop-i : goal.invariant-loop-i
 invariant-loop-i l = SheetLoop (kepts_of l.lines) l.most l.end l.entries l.i
-
-abbrev pub decreases-loop-i : goal.decreases-loop-i
-decreases-loop-i l = l.n - l.i

@@ -1,4 +1,5 @@
 -- `missing::sheets::explain_read` meets its contract: the first n records stand in the first 2 * n places, and a refusal is handed up. Assumes nothing.
+use Rattle.std.proofs.Common.{rules, ◌≡◌, Err}
 use mathlib.Core.Path.{sym}
 use native.Mathlib.Omega.{arith}
 use lib.Seq.{length-take-le}
@@ -8,14 +9,14 @@ use Rattle.missing.proofs.Read.{read_refused, read_made}
 use Rattle.missing.proofs.sheets.explain_read.Goals as goal
 
 pub overflow_mul-end : goal.overflow_mul-end
-overflow_mul-end c = omega (arith, c.requires.asked_in.front _ c.in-Lines.is)
+overflow_mul-end c = omega (arith, c.requires.asked_in.front _ c.in_ok-n.was)
 
 pub slice_bounds-explain-end : goal.slice_bounds-explain-end
-slice_bounds-explain-end c = sym (length-take-le _ _ (omega (arith, c.requires.asked_in.front _ c.in-Lines.is)))
+slice_bounds-explain-end c = sym (length-take-le _ _ (omega (arith, c.requires.asked_in.front _ c.in_ok-n.was)))
 
-pub explain-requires : goal.explain-requires
-explain-requires c =
-    let p = c.requires in let e = c.in-Lines.is in record {
+pub explain-causes-requires : goal.explain-causes-requires
+explain-causes-requires c =
+    let p = c.requires in let e = c.in_ok-n.was in record {
       asked = front_asked p.asked_in e;
       max_entries_in_bounds = p.max_entries_in_bounds;
       table_measured = front_measured p.asked_in p.measured_in e;
@@ -23,8 +24,10 @@ explain-requires c =
       explain_room = p.explain_room;
     }
 
-pub returns-in-Refused : goal.returns-in-Refused
-returns-in-Refused c = read_refused c.in-Refused.is
+pub returns-in_err-n : goal.returns-in_err-n
+returns-in_err-n c =
+    let q : c.from_residual.result ≡ Err c.in_err-n.field-0.0 = search rules in
+    rw q (read_refused c.in_err-n.was)
 
-pub returns-in-Lines : goal.returns-in-Lines
-returns-in-Lines c = let e = c.in-Lines.is in read_made e (c.requires.asked_in.front _ e) c.explain.ensures
+pub returns : goal.returns
+returns c = let e = c.in_ok-n.was in read_made e (c.requires.asked_in.front _ e) c.explain-causes.ensures

@@ -1,21 +1,29 @@
--- `nested::nesting::nest_read` meets its contract: a table with a width is laid out at it, in arrays that have room for any table. Assumes nothing.
-use native.Mathlib.Omega.{arith}
-use Rattle.sheet_figures.proofs.Openings.{most_any, most_room}
+-- `nested::nesting::nest_read` meets its contract: a table with a width is laid out at it, in arrays that have room for any table; without one it has
+-- no layout. Assumes nothing.
+use Rattle.std.proofs.Common.{rules, ◌≡◌, Err, sym, ap, ◌∙◌}
+use Rattle.nested.specs.inner.Found.{nest_in, without_in}
 use Rattle.nested.proofs.NestCall.{read_without, read_laid, small_width}
 use Rattle.nested.proofs.nesting.nest_read.Goals as goal
 
-pub layout_read-arranged-requires : goal.layout_read-arranged-requires
-layout_read-arranged-requires c =
-    let p = c.requires in record {
-      asked_in = p.asked_in;
-      most_in = most_room p.asked_in (most_any p.asked_in) (omega arith) (omega arith);
-      measured_in = p.measured_in;
-      width_le_max_size = small_width c.in-Wide.is p.raw_bound.1;
-      out_room = p.out_room;
-    }
+pub returns-in_err-read : goal.returns-in_err-read
+unfolding without_in
+returns-in_err-read c =
+    let q : c.from_residual.result ≡ Err c.in_err-read.field-0.0 = search rules in
+    read_without c.in_default.is (q ∙ sym (ap without_in c.in_err-read.was))
 
-pub returns-in-Without : goal.returns-in-Without
-returns-in-Without c = read_without c.in-Without.is c.without_in.ensures
+pub returns-in_default : goal.returns-in_default
+unfolding without_in
+returns-in_default c = read_without c.in_default.is (sym (ap without_in c.in_ok-read.was))
 
-pub returns-in-Wide : goal.returns-in-Wide
-returns-in-Wide c = read_laid _ c.in-Wide.is _ c.nest_in.ensures c.layout_read-arranged.ensures
+pub layout_read-requires-clause-width_le_max_size : goal.layout_read-requires-clause-width_le_max_size
+layout_read-requires-clause-width_le_max_size c = small_width c.in-Some.is c.requires.raw_bound.1
+
+pub returns-in_err-layout : goal.returns-in_err-layout
+unfolding nest_in
+returns-in_err-layout c =
+    let q : c.from_residual-in_err-layout.result ≡ Err c.in_err-layout.field-0.0 = search rules in
+    read_laid _ c.in-Some.is _ (q ∙ sym (ap (nest_in c.in-Some.at) c.in_err-layout.was)) c.layout_read.ensures
+
+pub returns : goal.returns
+unfolding nest_in
+returns c = read_laid _ c.in-Some.is _ (sym (ap (nest_in c.in-Some.at) c.in_ok-layout.was)) c.layout_read.ensures

@@ -22,7 +22,7 @@ width_for-at-requires c = place_in c.walk_sheet-read.ensures _ (omega arith)
 
 pub nest_read-requires : goal.nest_read-requires
 nest_read-requires c =
-    let w = c.walk_sheet-read in record {
+    record {
       asked_in = nest_asked c.walk_sheet-read.ensures (omega arith);
       measured_in = nest_measured c.walk_sheet-read.ensures (figures_room _ _ (omega arith));
       raw_bound = (c.requires.raw_bound.0, width_small c.walk_sheet-read.ensures _ c.width_for-at.ensures);

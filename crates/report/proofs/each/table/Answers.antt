@@ -29,7 +29,6 @@ shown-requires c =
     let pre = c.requires in
     let a = c.arrange-arranged in
     let k = c.arrange-arranged.auto in record {
-      place = c.heading-next.ensures;
       front_ready = front_ready pre.listable pre.table_at pre.rooms _ _ k.entries k.rows c.arrange-arranged.ensures.made k.x k.wide;
       rows_few = rows_few pre.listable pre.table_at pre.rooms _ _ k.entries k.rows c.arrange-arranged.ensures.made;
     }

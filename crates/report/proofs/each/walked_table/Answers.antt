@@ -1,4 +1,5 @@
 -- `report::each::walked_table` meets its contract: a width that the walk gives is one at which a table can be laid out. Assumes nothing.
+use mathlib.Core.Path.{refl}
 use native.Mathlib.Omega.{arith}
 use Rattle.report.proofs.Ready.{listable_at, wide_small}
 use Rattle.report.proofs.each.walked_table.Goals as goal
@@ -9,9 +10,8 @@ place_at-requires c = let pre = c.requires in omega (arith, pre.table_at.within,
 pub table-requires : goal.table-requires
 table-requires c =
     let pre = c.requires in record {
-      place = pre.place;
       table_at = pre.table_at;
-      listable = listable_at pre.listable c.asked_at.ensures
-          (wide_small c.args.walk.now pre.walk_narrow pre.table_at.within c.place_at.ensures c.width_of.ensures c.in-Wide.is);
+      listable = listable_at pre.listable refl
+          (wide_small c.args.walk.now pre.walk_narrow pre.table_at.within c.place_at.ensures c.width_of.ensures c.in-Some.is);
       rooms = pre.rooms;
     }

@@ -1,13 +1,9 @@
--- `sheet::front::feeds_of` meets its contract. The loop's invariant: the line feeds counted, with those from the place on, are those of the whole.
--- A turn passes one block. The measure is what is left of the sheet. Assumes nothing.
+-- `sheet::front::feeds_of` meets its contract. The loop's invariant: the line feeds counted, with those of the blocks that are left, are those of the
+-- whole. Assumes nothing.
 use mathlib.Core.Path.{◌≡◌}
-use Prim.Native.Nat.{◌+◌, ◌-◌, ◌≤◌}
-use lib.ListN.{length, drop}
+use Prim.Native.Nat.{◌+◌}
 use Rattle.fields.specs.Lines.{feeds}
 use Rattle.sheet.proofs.front.feeds_of.Given as goal
 
-abbrev pub invariant-loop-i : goal.invariant-loop-i
-invariant-loop-i l = (l.i ≤ length l.bytes) × (l.n + feeds (drop l.i l.bytes) ≡ feeds l.bytes)
-
-abbrev pub decreases-loop-i : goal.decreases-loop-i
-decreases-loop-i l = length l.bytes - l.i
+abbrev pub invariant-loop-block : goal.invariant-loop-block
+invariant-loop-block l = (l.block-iterator.size ≡ 224) × (l.n + feeds l.block-iterator.rest.now ≡ feeds l.bytes)

@@ -24,20 +24,18 @@ arrange-arranged-requires c =
     let rooms = c.requires.rooms in record {
       table_ready = table_ready c.requires.walkable within kind rooms;
       table_measured = all_table _ c.requires.walkable.measured;
-      layout_room = layout_room c.requires.walkable within kind rooms (small_here c.in-Wide.is c.requires.hand_ready);
+      layout_room = layout_room c.requires.walkable within kind rooms (small_here c.in-Some.is c.requires.hand_ready);
     }
 
 pub print_cells-requires : goal.print_cells-requires
 print_cells-requires c =
     let kind = sym (ap (λ (k : Kept). k.kind) c.kept_at-here.ensures) ∙ c.if-here-ne-TABLE.false in
-    let a = c.arrange-arranged in
     cells_fit c.requires.walkable c.requires.hand_ready.within c.arrange-arranged.ensures _ _ refl (cells_room c.requires.walkable c.requires.hand_ready.within kind _ _ c.requires.rooms c.arrange-arranged.auto.entries)
     (wides_room c.requires.walkable c.requires.hand_ready.within kind _ c.arrange-arranged.new.wide c.requires.rooms c.arrange-arranged.auto.wide) c.requires.lines_in_bounds
 
 pub returns : goal.returns
 returns c =
     let kind = sym (ap (λ (k : Kept). k.kind) c.kept_at-here.ensures) ∙ c.if-here-ne-TABLE.false in
-    let a = c.arrange-arranged in
-    handed_at c.in-Wide.is
+    handed_at c.in-Some.is
     (handed c.requires.walkable c.requires.hand_ready.within c.arrange-arranged.ensures kind _ refl (wides_room c.requires.walkable c.requires.hand_ready.within kind _ c.arrange-arranged.new.wide c.requires.rooms c.arrange-arranged.auto.wide)
     _ _ c.requires.lines_in_bounds c.print_cells.ensures)

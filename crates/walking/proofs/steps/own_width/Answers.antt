@@ -19,4 +19,4 @@ returns-then-k-eq-CELL c = rw (ne_eqb _ 0 c.if-i-eq0.false, eq-eqb _ 22 c.if-k-e
 pub returns : goal.returns
 returns c =
     rw (ne_eqb _ 0 c.if-i-eq0.false, ne_eqb _ 22 c.if-k-eq-CELL.false)
-    (c.width_of-2.ensures ∙ ap width_by (c.place_at-2.ensures ∙ ap (λ (d : ℕ). get_or (places_of c.args.passed.now) d no_place) c.less-above.ensures))
+    (c.width_of-2.ensures ∙ ap width_by (c.place_at-2.ensures ∙ ap (λ (d : ℕ). get_or (places_of c.args.passed.now) d no_place) c.saturating_sub-above.ensures))

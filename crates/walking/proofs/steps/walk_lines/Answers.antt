@@ -1,7 +1,7 @@
 -- `walking::steps::walk_lines` meets its contract. The loop's invariant (`Sofar`): the lines that are passed have their widths, and the slices their lengths.
--- The measure is how many lines are left. Assumes nothing.
+-- Assumes nothing.
 use mathlib.Core.Path.{refl, sym, ◌∙◌}
-use Prim.Native.Nat.{◌-◌, ◌<◌}
+use Prim.Native.Nat.{◌<◌}
 use native.Mathlib.Omega.{arith}
 use lib.ListN.{length}
 use Rattle.records.specs.Kept.{kepts_of}
@@ -33,23 +33,24 @@ ends-requires c =
     let a = c.args in
     (omega (arith, (here (goal.at.ends-requires c).In-loop-i), length_kepts a.lines.now), figure_in a.lines.now a.figures.now a.walk.now c.requires.walkable c.requires.cleared (here (goal.at.ends-requires c).In-loop-i))
 
-pub overflow_add-result : goal.overflow_add-result
-overflow_add-result c = omega (arith, (here (goal.at.overflow_add-result c).In-loop-i), c.requires.walkable.lined.short)
+pub overflow_add-i : goal.overflow_add-i
+overflow_add-i c = omega (arith, (here (goal.at.overflow_add-i c).In-loop-i), c.requires.walkable.lined.short)
 
-pub overflow_cast-result : goal.overflow_cast-result
-overflow_cast-result c = omega (arith, (here (goal.at.overflow_cast-result c).In-loop-i), c.requires.walkable.lined.short)
+pub overflow_cast-i : goal.overflow_cast-i
+overflow_cast-i c = omega (arith, (here (goal.at.overflow_cast-i c).In-loop-i), c.requires.walkable.lined.short)
 
 pub returns-then-ends : goal.returns-then-ends
 returns-then-ends c =
     let a = c.args in
     let l = c.loop-i in
-    walked_refused a.lines.now a.figures.now a.walk.now c.requires.walkable c.requires.cleared a.raw a.width a.overflow c.requires.raw_bound.1 l.walk l.passed l.invariant.1 l.invariant.2 l.i l.invariant.0 (here (goal.at.returns-then-ends c).In-loop-i) _ _ _ c.step-own.ensures _ c.ends.ensures c.if-ends.true _
+    rw c.at.ensures
+    (walked_refused a.lines.now a.figures.now a.walk.now c.requires.walkable c.requires.cleared a.raw a.width a.overflow c.requires.raw_bound.1 l.walk l.passed l.invariant.1 l.invariant.2 l.i l.invariant.0 (here (goal.at.returns-then-ends c).In-loop-i) _ _ _ c.step-own.ensures _ c.ends.ensures c.if-ends.true _)
 
 pub hand_out-requires : goal.hand_out-requires
 hand_out-requires c =
     let a = c.args in
     let l = c.loop-i in
-    let t = c.step-own in record {
+    record {
       walkable = c.requires.walkable;
       hand_ready = hand_ready a.lines.now a.figures.now a.walk.now c.requires.walkable c.requires.cleared a.raw a.width a.overflow c.requires.raw_bound.1 l.walk l.passed l.invariant.1 l.invariant.2 l.i l.invariant.0 (here (goal.at.hand_out-requires c).In-loop-i) _ _ _ c.step-own.ensures;
       lines_in_bounds = walk_room a.lines.now a.figures.now a.walk.now c.requires.walkable c.requires.cleared c.step-own.new.walk (c.step-own.auto.walk ∙ l.invariant.1);
@@ -59,9 +60,7 @@ hand_out-requires c =
 pub loop-i-preserved : goal.loop-i-preserved
 loop-i-preserved c =
     let a = c.args in
-    let l = c.loop-i in
-    let t = c.step-own in
-    let g = c.hand_out in (
+    let l = c.loop-i in (
       walked_on a.lines.now a.figures.now a.walk.now c.requires.walkable c.requires.cleared a.raw a.width a.overflow c.requires.raw_bound.1 l.walk l.passed l.invariant.1 l.invariant.2 l.i l.invariant.0 (here (goal.at.loop-i-preserved c).In-loop-i) _ _ _ c.step-own.ensures _ c.ends.ensures c.if-ends.false _ c.hand_out.ensures,
       c.hand_out.auto.walk ∙ c.step-own.auto.walk ∙ l.invariant.1,
       c.step-own.auto.passed ∙ l.invariant.2,

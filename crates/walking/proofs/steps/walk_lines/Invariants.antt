@@ -1,7 +1,7 @@
 -- `walking::steps::walk_lines` meets its contract. The loop's invariant (`Sofar`): the lines that are passed have their widths, and the slices their lengths.
--- The measure is how many lines are left. Assumes nothing.
+-- Assumes nothing.
 use mathlib.Core.Path.{◌≡◌}
-use Prim.Native.Nat.{◌-◌, ◌*◌}
+use Prim.Native.Nat.{◌*◌}
 use lib.ListN.{length}
 use Rattle.lists.specs.Limits.{depths}
 use Rattle.records.specs.Kept.{kepts_of, places_of}
@@ -16,6 +16,3 @@ invariant-loop-i l =
     × (length l.walk ≡ length l.initial.walk)
     × (length l.passed ≡ 2 * depths)
     × Kepts l.initial.entries l.initial.rows l.initial.column l.initial.x l.initial.wide l.entries l.rows l.column l.x l.wide
-
-abbrev pub decreases-loop-i : goal.decreases-loop-i
-decreases-loop-i l = l.n - l.i

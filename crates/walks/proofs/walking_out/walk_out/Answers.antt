@@ -17,7 +17,6 @@ walk_sheet-read-requires c =
 
 pub tell-requires : goal.tell-requires
 tell-requires c =
-    let w = c.walk_sheet-read in
     tell_room _ c.args.sheet.now _ c.line_count.ensures (lines_few c.walk_sheet-read.ensures) (omega arith) (omega (arith, c.requires.walk_room.given_room, c.walk_sheet-read.auto.leasts)) c.requires.walk_room.wide_room
 
 pub returns : goal.returns

@@ -1,2 +1,0 @@
--- Laws of what crosses.
-pub mod Crossing

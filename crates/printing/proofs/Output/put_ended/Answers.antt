@@ -1,0 +1,8 @@
+-- `printing::Output::put_ended` meets its contract: the byte is put after the number (`put_after`).
+-- Assumes nothing.
+use native.Mathlib.Omega.{arith}
+use Rattle.printing.proofs.Writing.{put_after}
+use Rattle.printing.proofs.Output.put_ended.Goals as goal
+
+pub returns : goal.returns
+returns c = put_after c.put_number.ensures (omega arith) 1 (omega arith) c.put.ensures

@@ -1,0 +1,10 @@
+-- `printing::Output::put_two` meets its contract: the second number is put after the first (`put_next`).
+-- Assumes nothing.
+use native.Mathlib.Omega.{arith}
+use Rattle.printing.specs.Printing.{line}
+use Rattle.printing.proofs.Writing.{put_next}
+use Rattle.printing.proofs.Output.put_two.Goals as goal
+
+pub returns : goal.returns
+unfolding line
+returns c = put_next c.put_ended.ensures (omega arith) 11 c.put_ended-2.ensures

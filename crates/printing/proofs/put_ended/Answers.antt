@@ -1,8 +1,0 @@
--- `printing::put_ended` meets its contract: the byte is put after the number (`put_after`).
--- Assumes nothing.
-use native.Mathlib.Omega.{arith}
-use Rattle.printing.proofs.Writing.{put_after}
-use Rattle.printing.proofs.put_ended.Goals as goal
-
-pub returns : goal.returns
-returns c = put_after c.put_number-next.ensures (omega arith) 1 (omega arith) c.put.ensures
