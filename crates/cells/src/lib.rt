@@ -71,7 +71,7 @@ fn row_sum(cells: &[u32]) -> u32
 }
 
 // A cell's cols, with `instead` in the place of 0.
-fn filled(cols: u32, instead: u32) -> u32
+pub fn filled(cols: u32, instead: u32) -> u32
     ensures { result ≡ cond (eqb cols 0) instead cols }
 {
     if cols == 0 { instead } else { cols }

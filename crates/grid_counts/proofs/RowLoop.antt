@@ -1,7 +1,9 @@
 -- The loop of `count_row` on plain lists: what is counted, with what the cells still to come add, is what the row's cells add. Assumes nothing.
 use mathlib.Core.Path.{◌≡◌, refl, sym, ap, ap₂, ◌∙◌}
+use mathlib.Core.Bool.{Bool, true, false, cond}
 use mathlib.Core.List.{List, ◌∷◌, map}
 use Prim.Native.Nat.{ℕ, suc, ◌+◌, ◌-◌, ◌*◌, ◌≤◌, ◌<◌, min}
+use lib.Dec.{eqb}
 use native.Mathlib.Decide.{ℕ_discrete}
 use native.Mathlib.Omega.{arith}
 use lib.ListN.{length, get_or, set, length-set}
@@ -18,6 +20,14 @@ use Rattle.std.specs.Prelude.{Ok, Err}
 use Rattle.lists.specs.declared.Reason.TheVariants.{RowEnd}
 use Rattle.grid_counts.specs.inner.Tallies.{framed, many_entries, Filled, Hanging, ready, cols_sum, rows_taken, wides_of, RowReady, RowCounted}
 use Rattle.grid_counts.proofs.Scan.{there, cells_none, cells_more, cells_on}
+
+-- cols with `instead` in the place of 0 are no more than both together
+pub filled_at : {cols instead r : ℕ} → r ≡ cond (eqb cols 0) instead cols → Filled cols instead r
+filled_at {cols} {instead} e = record { is = e; small = rw e (least (eqb cols 0)) }
+  where
+    least : (b : Bool) → cond b instead cols ≤ instead + cols
+    least true = omega arith
+    least false = omega arith
 
 module _ (ks : List Kept) (d instead left : ℕ) where
   -- the cells from place j on, resolved

@@ -28,13 +28,6 @@ pub struct Body {
 // One more than the entries that a table may have: counting stops there.
 const MANY: u32 = 8193;
 
-// A cell's cols, with `instead` in the place of 0.
-fn filled(cols: u32, instead: u32) -> u32
-    ensures { Filled cols instead result }
-{
-    if cols == 0 { instead } else { cols }
-}
-
 // Into how many rows a cell hangs, where `left` rows follow its own in the body.
 fn hangs_within(rows: u32, left: u32) -> u32
     ensures { Hanging left rows result }
@@ -127,7 +120,7 @@ fn count_row(
             break;
         }
         if line.depth == row + 1 {
-            let wide = filled(line.cols, instead);
+            let wide = cells::filled(line.cols, instead);
             sum += wide;
             if MAX_POSITION < sum as usize {
                 return Err(Reason::RowEnd);

@@ -6,18 +6,17 @@ use Rattle.std.specs.Prelude.{Err, Ok, Option, Result, None, Some}
 use mathlib.Core.Path.{◌≡◌, refl, sym, ap, ◌∙◌}
 use mathlib.Core.Bool.{Bool, true, false, ◌||◌}
 use mathlib.Core.List.{List, [], ◌∷◌, append-nil}
-use Prim.Native.Nat.{ℕ, ◌-◌, ◌/◌, ◌≤◌}
+use Prim.Native.Nat.{ℕ, ◌-◌, ◌≤◌}
 use native.Mathlib.Omega.{arith}
 use lib.Dec.{ltb}
-use lib.ListN.{length, get_or, take, get_or-map}
+use lib.ListN.{length, get_or, take}
 use lib.Seq.{get_or-take}
 use borrow.Author.Tests.{ltb-false}
 use Rattle.lists.specs.Lists.{padded}
 use Rattle.lists.specs.Limits.{max_lines, max_entries, max_wrap, max_width, max_size}
 use Rattle.lists.specs.Refusals.{Check, first_answer, verdict_of, passes, if_passes}
 use Rattle.text.specs.declared.Estimate.{Estimate}
-use Rattle.records.specs.Kept.{no_place, kept_count}
-use Rattle.records.specs.declared.Place.{Place}
+use Rattle.records.specs.Kept.{kept_count}
 use Rattle.sheet.specs.Sheet.{sheet_lines}
 use Rattle.sheet.specs.Steps.{room_for}
 use Rattle.sheet.proofs.First.{neither, first_passes, first_accepts, first_carries, figures_pass, figures_fail}
@@ -39,11 +38,7 @@ use Rattle.call_layout.proofs.Found.{layout_found}
 use Rattle.call_layout.specs.Layout.{for_columns, for_places}
 use Rattle.sheet_figures.specs.inner.Early.{early}
 use Rattle.sheet_figures.proofs.Early.{early_nines, none_nines, fits, leaving}
-use Rattle.passing.specs.Walk.{given_number, width_number}
-use Rattle.passing.specs.inner.Places.{width_place, width_by}
 use Rattle.walking.specs.inner.Steps.{AtMost}
-use Rattle.walking.proofs.WalkLoop.{width_back}
-use Rattle.pacing.specs.Sheets.{walk_of}
 use Rattle.nested.specs.Nested.{width_to, told_at, columns_for, xs_for, wides_for, nested_checks, nested_of, NestedAnswer}
 use Rattle.pacing.specs.inner.Found.{walked_checks, SheetWalked}
 use Rattle.nested.specs.inner.Found.{width_for, PlaceIn, nest_in, without_in, NestRead, columns_in, entries_in, NestFound}
@@ -54,7 +49,7 @@ same_width e = cc
 
 -- ---- the table asked for, of a sheet that was walked
 
-module _ {s : List ℕ} {line wrap raw width overflow : ℕ} {r : Result ℕ Refusal} {lines : List ℕ} {figures : List Estimate} {ps : List Place}
+module _ {s : List ℕ} {line wrap raw width overflow : ℕ} {r : Result ℕ Refusal} {lines : List ℕ} {figures : List Estimate} {ps : List (Option ℕ)}
     (w : SheetWalked (Some line) s wrap raw width overflow r lines figures ps) where
   abbrev cs : List Check
   cs = walked_checks (Some line) s wrap raw width overflow
@@ -91,7 +86,7 @@ module _ {s : List ℕ} {line wrap raw width overflow : ℕ} {r : Result ℕ Ref
   pub nest_measured : room_for s ≤ length figures → MeasuredIn r lines line figures
   nest_measured h n e = measured_in (lines_of n e) h n refl
 
-  pub place_in : (walk : List ℕ) → room_for s ≤ length walk / 2 → PlaceIn r line walk
+  pub place_in : (walk : List (Option ℕ)) → room_for s ≤ length walk → PlaceIn r line walk
   place_in walk h = record {
     from_one = λ n e. (apt n e).from_one;
     within = λ n e. let t = apt n e in let p = opened_passed (w.opened n e) n refl in omega (arith, t.from_one, t.within, p.room, p.kept);
@@ -99,16 +94,13 @@ module _ {s : List ℕ} {line wrap raw width overflow : ℕ} {r : Result ℕ Ref
 
   -- the width at the table's place is the one that the walk gives it
   width_is : (n : ℕ) → r ≡ Ok n → width_for r line ps ≡ W
-  unfolding width_for given_number width_number
+  unfolding width_for
   width_is n e =
       let t = apt n e in
       let p = opened_passed (w.opened n e) n refl in
       ap (λ (x : Result ℕ Refusal). width_for x line ps) e
-      ∙ ap width_by
-      (sym (get_or-take n ps (line - 1) no_place (omega (arith, t.from_one, t.within, p.kept)))
-      ∙ ap (λ (l : List Place). get_or l (line - 1) no_place) (w.widths n e)
-      ∙ get_or-map width_place (walk_of s wrap raw width) (line - 1) None)
-      ∙ width_back W
+      ∙ sym (get_or-take n ps (line - 1) None (omega (arith, t.from_one, t.within, p.kept)))
+      ∙ ap (λ (l : List (Option ℕ)). get_or l (line - 1) None) (w.widths n e)
 
   pub width_small : (v : Option ℕ) → v ≡ width_for r line ps → AtMost max_size v
   unfolding width_for AtMost

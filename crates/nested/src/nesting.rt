@@ -1,7 +1,6 @@
 // One table of a sheet, laid out at the width that the walk gives it, written to the lent buffers.
 ghost use Rattle.std.specs.Prelude.{◌≡◌, ◌∷◌, ◌≤◌, Some};
 ghost use Rattle.lists.specs.Limits.{max_size};
-ghost use Rattle.records.specs.Kept.{places_of};
 ghost use Rattle.estimates.specs.inner.Figures.{figures_of};
 ghost use Rattle.table.specs.inner.Asked.{OutRoom};
 ghost use Rattle.sheet_figures.specs.inner.Opened.{AskedIn, MeasuredIn};
@@ -15,12 +14,12 @@ use arguments::Settings;
 use lists::{MAX_ENTRIES, MAX_LINES, Refusal};
 
 // The width at a line's place, if the sheet was read and the walk gives it one.
-fn width_for(read: Result<usize, Refusal>, line: u32, walk: &[u32]) -> Option<u32>
+fn width_for(read: Result<usize, Refusal>, line: u32, walk: &[Option<u32>]) -> Option<u32>
     requires { PlaceIn read line walk.now }
-    ensures { result ≡ width_for read line (places_of walk.now) }
+    ensures { result ≡ width_for read line walk.now }
 {
     match read {
-        Ok(_) => passing::width_of(records::place_at(walk, (line - 1) as usize)),
+        Ok(_) => walk[(line - 1) as usize],
         Err(_) => None,
     }
 }
@@ -82,7 +81,7 @@ fn nest_sheet(
 {
     let mut lines = [0u32; records::WIDTH * MAX_LINES];
     let mut figures = [0u32; 3 * MAX_LINES];
-    let mut walk = [0u32; 2 * MAX_LINES];
+    let mut walk = [None; MAX_LINES];
     let read = pacing::walk_sheet(
         sheet,
         Some(line),

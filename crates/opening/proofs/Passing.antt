@@ -8,7 +8,6 @@ use native.Mathlib.Omega.{arith}
 use lib.ListN.{length}
 use Rattle.lists.specs.Limits.{max_lines}
 use Rattle.lists.specs.Refusals.{passes}
-use Rattle.records.specs.Kept.{place_by, places_of}
 use Rattle.records.proofs.Records.{length_of}
 use Rattle.sheet.specs.Sheet.{sheet_lines}
 use Rattle.sheet.specs.Steps.{room_for}
@@ -44,8 +43,5 @@ module _ (asked : Option ℕ) (s : List ℕ) where
 -- ---- room
 
 -- slices that are long enough for so many records
-pub places_room : (k : ℕ) (xs : List ℕ) → k ≤ length xs / 2 → k ≤ length (places_of xs)
-places_room k xs h = omega (arith, length_of 2 place_by xs)
-
 pub figures_room : (k : ℕ) (xs : List ℕ) → k ≤ length xs / 3 → k ≤ length (figures_of xs)
 figures_room k xs h = omega (arith, length_of 3 figure_by xs)

@@ -11,7 +11,6 @@ use Rattle.lists.specs.Refusals.{Check, first_answer, verdict_of}
 use Rattle.text.specs.declared.Estimate.{Estimate}
 use Rattle.records.specs.Kept.{kept_count, kepts_of}
 use Rattle.records.specs.declared.Kept.{Kept}
-use Rattle.records.specs.declared.Place.{Place}
 use Rattle.records.proofs.Kepts.{kepts_take, length_kepts}
 use Rattle.sheet.specs.Sheet.{sheet_lines}
 use Rattle.sheet.specs.Steps.{room_for}
@@ -70,7 +69,7 @@ module _ {asked : Option ℕ} {s : List ℕ} {wrap : ℕ} {r : Result ℕ Refusa
               omega (arith, ap (λ (x : Estimate). x.least) f, (m.sound k h).small, (m.sound k h).least_size);
         }
 
-    pub read_walkable : {ps : List Place} → room_for s ≤ length ps → ReadWalkable r lines figures ps
+    pub read_walkable : {ps : List (Option ℕ)} → room_for s ≤ length ps → ReadWalkable r lines figures ps
     read_walkable d = record {
       front = λ n e. omega (arith, (opened_passed n e).room);
       walkable = λ n e. rw (o.holds n e) (lines_walkable n e);
@@ -78,7 +77,7 @@ module _ {asked : Option ℕ} {s : List ℕ} {wrap : ℕ} {r : Result ℕ Refusa
     }
 
 -- the first n records stand in the first 2 * n places
-pub front_walkable : {read : Result ℕ Refusal} {lines : List ℕ} {figures : List Estimate} {ps : List Place} (n : ℕ) → ReadWalkable read lines figures ps → read ≡ Ok n
+pub front_walkable : {read : Result ℕ Refusal} {lines : List ℕ} {figures : List Estimate} {ps : List (Option ℕ)} (n : ℕ) → ReadWalkable read lines figures ps → read ≡ Ok n
     → Walkable (kepts_of (take (2 * n) lines)) figures × (length (kepts_of (take (2 * n) lines)) ≤ length ps)
 front_walkable {lines = lines} n w e = (
   rw (kepts_take lines n (w.front n e)) (w.walkable n e),
@@ -95,7 +94,7 @@ carried : (n m : ℕ) (why : Refusal) (cs ds : List Check) → first_answer Err 
 carried n m why cs ds e =
     first_carries Err (Ok n) Err (Ok m) why (λ w f. cc) (λ f. let z : ◌≡◌ {A = ℕ} 0 1 = cc in omega arith) cs ds e
 
-module _ {read : Result ℕ Refusal} (lines : List ℕ) {figures : List Estimate} {raw width overflow : ℕ} {ps : List Place} where
+module _ {read : Result ℕ Refusal} (lines : List ℕ) {figures : List Estimate} {raw width overflow : ℕ} {ps : List (Option ℕ)} where
   pub walk_refused : {why : Refusal} → read ≡ Err why → WalkRead read lines figures raw width overflow (Err why) ps
   walk_refused e = record {
     refused = λ why f. let z = sym e ∙ f in cc;
@@ -153,7 +152,7 @@ module _ {read : Result ℕ Refusal} (lines : List ℕ) {figures : List Estimate
 
 -- ---- of the sheet
 
-module _ {asked : Option ℕ} {s : List ℕ} {wrap raw width overflow : ℕ} {read r : Result ℕ Refusal} {lines : List ℕ} {figures : List Estimate} {ps : List Place}
+module _ {asked : Option ℕ} {s : List ℕ} {wrap raw width overflow : ℕ} {read r : Result ℕ Refusal} {lines : List ℕ} {figures : List Estimate} {ps : List (Option ℕ)}
     (o : SheetOpened asked s wrap read lines figures) (w : WalkRead read lines figures raw width overflow r ps) where
   abbrev cs : List Check
   cs = open_checks asked s

@@ -3,7 +3,7 @@
 
 ghost use Rattle.std.specs.Prelude.{◌≤◌, length};
 ghost use Rattle.lists.specs.Limits.{max_position, max_size};
-ghost use Rattle.records.specs.Kept.{kept_count, kepts_of, places_of};
+ghost use Rattle.records.specs.Kept.{kept_count, kepts_of};
 ghost use Rattle.sheet.specs.Steps.{room_for};
 ghost use Rattle.estimates.specs.inner.Figures.{figures_of};
 ghost use Rattle.walking.specs.inner.Steps as steps;
@@ -46,12 +46,12 @@ fn walk_lines(
     lines: &[u32],
     figures: &[u32],
     settings: Settings,
-    walk: &mut [u32],
+    walk: &mut [Option<u32>],
 ) -> Result<(), Refusal>
     requires walkable { Walkable (kepts_of lines.now) (figures_of figures.now) }
     requires raw_bound { (settings.raw ≤ 1) × (settings.width ≤ max_size) }
-    requires lines_in_bounds { length (kepts_of lines.now) ≤ length (places_of walk.old) }
-    ensures { steps.Walked (kepts_of lines.now) (figures_of figures.now) settings.raw settings.width settings.overflow result (places_of walk.new) }
+    requires lines_in_bounds { length (kepts_of lines.now) ≤ length walk.old }
+    ensures { steps.Walked (kepts_of lines.now) (figures_of figures.now) settings.raw settings.width settings.overflow result walk.new }
 {
     let mut entries = [0u32; 3 * MAX_ENTRIES];
     let mut rows = [0u32; 2 * MAX_LINES];
@@ -79,11 +79,11 @@ fn walk_read(
     lines: &[u32],
     figures: &[u32],
     settings: Settings,
-    walk: &mut [u32],
+    walk: &mut [Option<u32>],
 ) -> Result<usize, Refusal>
-    requires read_walkable { ReadWalkable read lines.now (figures_of figures.now) (places_of walk.old) }
+    requires read_walkable { ReadWalkable read lines.now (figures_of figures.now) walk.old }
     requires raw_bound { (settings.raw ≤ 1) × (settings.width ≤ max_size) }
-    ensures { WalkRead read lines.now (figures_of figures.now) settings.raw settings.width settings.overflow result (places_of walk.new) }
+    ensures { WalkRead read lines.now (figures_of figures.now) settings.raw settings.width settings.overflow result walk.new }
 {
     let n = read?;
     let end = records::WIDTH * n;
@@ -98,15 +98,15 @@ pub fn walk_sheet(
     settings: Settings,
     lines: &mut [u32],
     figures: &mut [u32],
-    walk: &mut [u32],
+    walk: &mut [Option<u32>],
     leasts: &mut [u32],
 ) -> Result<usize, Refusal>
     requires sheet_bound { room_for sheet.now ≤ kept_count lines.old }
     requires figures_in_bounds { room_for sheet.now ≤ length (figures_of figures.old) }
-    requires places_in_bounds { room_for sheet.now ≤ length (places_of walk.old) }
+    requires places_in_bounds { room_for sheet.now ≤ length walk.old }
     requires max_position_in_bounds { max_position ≤ length leasts.old }
     requires raw_bound { (settings.raw ≤ 1) × (settings.width ≤ max_size) }
-    ensures { SheetWalked asked sheet.now settings.wrap settings.raw settings.width settings.overflow result lines.new (figures_of figures.new) (places_of walk.new) }
+    ensures { SheetWalked asked sheet.now settings.wrap settings.raw settings.width settings.overflow result lines.new (figures_of figures.new) walk.new }
 {
     let read = open_measured(sheet, asked, settings.wrap, lines, figures, leasts);
     walk_read(read, lines, figures, settings, walk)

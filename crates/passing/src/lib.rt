@@ -3,10 +3,8 @@
 
 ghost use Rattle.std.specs.Prelude.{◌≡◌};
 ghost use Rattle.passing.specs.Walk.{takes_off, passed_on, too_narrow, printed};
-ghost use Rattle.passing.specs.inner.Places.{width_place, width_by};
 
 use kinds::{DD, HEAD, OL, QUOTE, UL};
-use records::Place;
 use text::Estimate;
 
 // The width of a line is an `Option<u32>`: what stands in a missing cell has none, which is not the width 0.
@@ -41,27 +39,9 @@ pub fn too_narrow(kind: u32, e: Estimate, w: Option<u32>) -> bool
     }
 }
 
-// A width as two numbers: whether there is one, and which. No `From` can stand here, as `Option` and `Place` are of other crates.
-#[tactic(auto, unfolding(crate::specs::Walk::given_number, crate::specs::Walk::width_number))]
-pub fn place_of(w: Option<u32>) -> Place
-    ensures { result ≡ width_place w }
+// The width of a printed cell; a missing one has none.
+pub fn printed(w: u32) -> Option<u32>
+    ensures { result ≡ printed w }
 {
-    match w {
-        None => Place { first: 0, span: 0 },
-        Some(v) => Place { first: 1, span: v },
-    }
-}
-
-#[tactic(auto, unfolding(crate::specs::inner::Places::width_by))]
-pub fn width_of(p: Place) -> Option<u32>
-    ensures { result ≡ width_by p }
-{
-    if p.first == 0 { None } else { Some(p.span) }
-}
-
-// That of a printed cell; a missing one has none.
-pub fn printed(w: u32) -> Place
-    ensures { result ≡ width_place (printed w) }
-{
-    place_of(if w == 0 { None } else { Some(w) })
+    if w == 0 { None } else { Some(w) }
 }

@@ -6,7 +6,6 @@ use Rattle.records.specs.Records.{records_of}
 use Rattle.records.specs.declared.Kept.{Kept}
 use Rattle.records.specs.declared.Entry.{Entry}
 use Rattle.records.specs.declared.Row.{Row}
-use Rattle.records.specs.declared.Place.{Place}
 
 -- head and ol have a number
 abbrev pub has_number : ℕ → Bool
@@ -66,12 +65,3 @@ no_row = row_by []
 
 abbrev pub rows_of : List ℕ → List Row
 rows_of xs = records_of 2 row_by xs
-
-abbrev pub place_by : List ℕ → Place
-place_by r = record { first = get_or r 0 0; span = get_or r 1 0 }
-
-abbrev pub no_place : Place
-no_place = place_by []
-
-abbrev pub places_of : List ℕ → List Place
-places_of xs = records_of 2 place_by xs

@@ -1,4 +1,4 @@
-// Several numbers of one thing side by side in one slice: a line in two numbers, an entry of a grid in three, a row and a place in two each. Record i of w
+// Several numbers of one thing side by side in one slice: a line in two numbers, an entry of a grid in three, a row in two. Record i of w
 // numbers stands at the places from w * i on.
 #![tactic(auto)]
 
@@ -7,7 +7,7 @@ ghost use Rattle.lists.specs.Limits.{max_depth};
 ghost use Rattle.lists.specs.Lists.{over};
 ghost use Rattle.kinds.specs.Kinds.{kind_count};
 ghost use Rattle.records.specs.Records.{numbers_of};
-ghost use Rattle.records.specs.Kept.{has_number, kept_with, OfItsKind, kepts_of, kept_count, no_kept, entries_of, no_entry, rows_of, no_row, places_of, no_place};
+ghost use Rattle.records.specs.Kept.{has_number, kept_with, OfItsKind, kepts_of, kept_count, no_kept, entries_of, no_entry, rows_of, no_row};
 
 // What is kept of a line. The number is shifted up by 1,000,000,000; own is the size of the line's own text, 2 more for img.
 #[derive(Clone, Copy)]
@@ -156,33 +156,6 @@ pub fn put_row(rows: &mut [u32], i: usize, r: Row)
     let at = 2 * i;
     rows[at] = r.line;
     rows[at + 1] = r.end;
-}
-
-// Two numbers of a line: whether it has a width in the walk, and which.
-#[derive(Clone, Copy)]
-pub struct Place {
-    pub first: u32,
-    pub span: u32,
-}
-
-pub fn place_at(places: &[u32], i: usize) -> Place
-    requires { i < length places.now / 2 }
-    ensures { result ≡ get_or (places_of places.now) i no_place }
-{
-    let at = 2 * i;
-    Place {
-        first: places[at],
-        span: places[at + 1],
-    }
-}
-
-pub fn put_place(places: &mut [u32], i: usize, p: Place)
-    requires { i < length places.old / 2 }
-    ensures { places_of places.new ≡ set (places_of places.old) i p }
-{
-    let at = 2 * i;
-    places[at] = p.first;
-    places[at + 1] = p.span;
 }
 
 // Number f of each of the first n records of w numbers, over the front of a buffer.

@@ -3,16 +3,15 @@ use Rattle.lists.specs.declared.Refusal.{Refusal}
 use Rattle.std.specs.Prelude.{Ok, Result, None, Option, Some}
 use mathlib.Core.Path.{◌≡◌, refl, sym, ap, ◌∙◌}
 use mathlib.Core.List.{List}
-use Prim.Native.Nat.{ℕ, ◌*◌, ◌/◌, ◌≤◌, ◌<◌}
+use Prim.Native.Nat.{ℕ, ◌*◌, ◌≤◌, ◌<◌}
 use native.Mathlib.Omega.{arith}
-use lib.ListN.{length, get_or, take, get_or-map}
+use lib.ListN.{length, get_or, take}
 use lib.Seq.{length-take-le, get_or-take}
 use Rattle.lists.specs.Limits.{max_position, max_size}
 use Rattle.kinds.specs.Kinds.{table_kind}
 use Rattle.text.specs.declared.Estimate.{Estimate}
-use Rattle.records.specs.Kept.{entry_by, entries_of, row_by, rows_of, no_kept, no_place, kepts_of, kept_count, places_of}
+use Rattle.records.specs.Kept.{entry_by, entries_of, row_by, rows_of, no_kept, kepts_of, kept_count}
 use Rattle.records.specs.declared.Kept.{Kept}
-use Rattle.records.specs.declared.Place.{Place}
 use Rattle.records.proofs.Records.{length_of}
 use Rattle.records.proofs.Kepts.{length_kepts, kepts_take}
 use Rattle.cells.specs.Listed.{table_rows}
@@ -28,12 +27,8 @@ use Rattle.table.specs.inner.Room.{LayoutRoom, FrontLayable}
 use Rattle.table.proofs.Grids.{all_measured, all_table, made_front, same_records}
 use Rattle.table.proofs.Steps.{entered}
 use Rattle.opening.proofs.Passing.{Passed}
-use Rattle.passing.specs.Walk.{given_number, width_number}
-use Rattle.passing.specs.inner.Places.{width_place, width_by}
 use Rattle.walking.specs.inner.Steps.{AtMost, Rooms}
 use Rattle.causes.specs.inner.Fronts.{FrontReady}
-use Rattle.walking.proofs.WalkLoop.{width_back}
-use Rattle.pacing.specs.Sheets.{walk_of}
 use Rattle.pacing.specs.inner.Found.{SheetWalked}
 use Rattle.pacing.proofs.Opening.{opened_passed}
 use Rattle.report.specs.inner.Read.{Listable, TableAt, RowsFew, WalkNarrow, ReadListable}
@@ -90,11 +85,10 @@ module _ {ks : List Kept} {figures : List Estimate} {width at : ℕ} (l : Listab
 
 -- ---- the sheet
 
-pub read_listable : {s : List ℕ} {wrap raw width : ℕ} {read : Result ℕ Refusal} {lines : List ℕ} {figures : List Estimate} (walk : List ℕ)
-    → SheetWalked None s wrap raw width 0 read lines figures (places_of walk)
-    → room_for s ≤ kept_count lines → room_for s ≤ length figures → room_for s ≤ length walk / 2 → width ≤ max_size
+pub read_listable : {s : List ℕ} {wrap raw width : ℕ} {read : Result ℕ Refusal} {lines : List ℕ} {figures : List Estimate} (walk : List (Option ℕ))
+    → SheetWalked None s wrap raw width 0 read lines figures walk
+    → room_for s ≤ kept_count lines → room_for s ≤ length figures → room_for s ≤ length walk → width ≤ max_size
     → ReadListable read lines figures width walk
-unfolding given_number width_number
 read_listable {s} {wrap} {raw} {width} {read} {figures = figures} walk w h g d small = record {
   front = λ n e. omega (arith, (p n e).room);
   few = λ n e. (p n e).few;
@@ -111,9 +105,7 @@ read_listable {s} {wrap} {raw} {width} {read} {figures = figures} walk w h g d s
   narrow = λ n e. record {
     room = omega (arith, (p n e).room);
     small = λ k l.
-        rw (ap width_by
-        (sym (get_or-take n (places_of walk) k no_place l) ∙ ap (λ (y : List Place). get_or y k no_place) (w.widths n e) ∙ get_or-map width_place (walk_of s wrap raw width) k None)
-        ∙ width_back (get_or (walk_of s wrap raw width) k None))
+        rw (sym (get_or-take n walk k None l) ∙ ap (λ (y : List (Option ℕ)). get_or y k None) (w.widths n e))
         (w.small n e k);
   };
 }
@@ -126,18 +118,16 @@ pub listable_at : {ks : List Kept} {figures : List Estimate} {width v u : ℕ} �
 listable_at l e small = record { lined = l.lined; sound = l.sound; measured = l.measured; small = omega arith }
 
 -- the width of a table that the walk gives one
-pub wide_small : {n i v : ℕ} {q : Place} {w : Option ℕ} (walk : List ℕ) → WalkNarrow n walk → i < n → q ≡ get_or (places_of walk) i no_place → w ≡ width_by q → w ≡ Some v → v ≤ max_size
+pub wide_small : {n i v : ℕ} (walk : List (Option ℕ)) → WalkNarrow n walk → i < n → get_or walk i None ≡ Some v → v ≤ max_size
 unfolding AtMost
-wide_small {i = i} {v} {q} {w} walk z h a b c =
-    let e : width_by (get_or (places_of walk) i no_place) ≡ Some v = sym (ap width_by a) ∙ sym b ∙ c in
-    rw e at (z.small i h)
+wide_small {i = i} walk z h e = rw e at (z.small i h)
 
 -- the first n records stand in the first 2 * n places
-pub front_listable : {read : Result ℕ Refusal} {lines : List ℕ} {figures : List Estimate} {width n : ℕ} {walk : List ℕ} → ReadListable read lines figures width walk → read ≡ Ok n
+pub front_listable : {read : Result ℕ Refusal} {lines : List ℕ} {figures : List Estimate} {width n : ℕ} {walk : List (Option ℕ)} → ReadListable read lines figures width walk → read ≡ Ok n
     → Listable (kepts_of (take (2 * n) lines)) figures width
 front_listable {lines = lines} {n = n} r e = rw (kepts_take lines n (r.front n e)) (r.listable n e)
 
-pub front_narrow : {read : Result ℕ Refusal} {lines : List ℕ} {figures : List Estimate} {width n : ℕ} {walk : List ℕ} → ReadListable read lines figures width walk → read ≡ Ok n
+pub front_narrow : {read : Result ℕ Refusal} {lines : List ℕ} {figures : List Estimate} {width n : ℕ} {walk : List (Option ℕ)} → ReadListable read lines figures width walk → read ≡ Ok n
     → WalkNarrow (length (kepts_of (take (2 * n) lines))) walk
 front_narrow {lines = lines} {n = n} r e =
     let c : length (kepts_of (take (2 * n) lines)) ≡ n =

@@ -106,7 +106,7 @@ fn walked_table(
     asked: Asked,
     lines: &[u32],
     figures: &[u32],
-    walk: &[u32],
+    walk: &[Option<u32>],
     grid: &mut [u32],
     rows: &mut [u32],
     column: &mut [u32],
@@ -118,7 +118,7 @@ fn walked_table(
     requires walk_narrow { WalkNarrow (length (kepts_of lines.now)) walk.now }
     requires rooms { Rooms grid.old rows.old column.old x.old wide.old }
 {
-    let Some(width) = passing::width_of(records::place_at(walk, place)) else {
+    let Some(width) = walk[place] else {
         return;
     };
     table(
@@ -142,7 +142,7 @@ pub fn all_tables(
     asked: Asked,
     lines: &[u32],
     figures: &[u32],
-    walk: &[u32],
+    walk: &[Option<u32>],
     grid: &mut [u32],
     rows: &mut [u32],
     column: &mut [u32],

@@ -30,7 +30,7 @@ pub struct Asked {
 }
 
 // Puts every table of a walked sheet. All tables are laid out in the same arrays.
-fn laid(out: &mut Output, asked: Asked, kept: &[u32], figures: &[u32], walk: &[u32])
+fn laid(out: &mut Output, asked: Asked, kept: &[u32], figures: &[u32], walk: &[Option<u32>])
     requires listable { Listable (kepts_of kept.now) (figures_of figures.now) asked.width }
     requires walk_narrow { WalkNarrow (length (kepts_of kept.now)) walk.now }
 {
@@ -60,7 +60,7 @@ fn told(
     read: Result<usize, Refusal>,
     kept: &[u32],
     figures: &[u32],
-    walk: &[u32],
+    walk: &[Option<u32>],
 )
     requires { ReadListable read kept.now (figures_of figures.now) asked.width walk.now }
 {
@@ -77,7 +77,7 @@ fn opened(out: &mut Output, sheet: &[u8], wrap: u32, asked: Asked)
 {
     let mut kept = [0u32; records::WIDTH * MAX_LINES];
     let mut figures = [0u32; 3 * MAX_LINES];
-    let mut walk = [0u32; 2 * MAX_LINES];
+    let mut walk = [None; MAX_LINES];
     let mut leasts = [0u32; MAX_POSITION];
     let settings = Settings {
         wrap,

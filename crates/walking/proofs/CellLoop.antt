@@ -10,21 +10,20 @@ use lib.Dec.{eqb}
 use lib.ListN.{length, get_or, take, drop, set, length-map, length-set, drop_of_length-le, get_or-map}
 use lib.Seq.{drop-cons, get_or-take, length-take-le, get_or-set_same, get_or-set_other}
 use borrow.Author.Tests.{eq-eqb, ne_eqb}
+use Rattle.std.specs.Prelude.{Option, None}
 use Rattle.lists.specs.Lists.{mem}
-use Rattle.records.specs.Kept.{no_entry, no_place}
+use Rattle.records.specs.Kept.{no_entry}
 use Rattle.records.specs.declared.Entry.{Entry}
-use Rattle.records.specs.declared.Place.{Place}
 use Rattle.passing.specs.Walk.{printed, printed_in}
-use Rattle.passing.specs.inner.Places.{width_place}
 use Rattle.walking.specs.inner.Steps.{cell_in, printed_by, CellsFit}
 
 -- ---- the loop
 
-pub record Sofar (n : ℕ) (es : List Entry) (wide : List ℕ) (ps₀ ps : List Place) (i : ℕ) : Type 0 where
+pub record Sofar (n : ℕ) (es : List Entry) (wide : List ℕ) (ps₀ ps : List (Option ℕ)) (i : ℕ) : Type 0 where
   pub at : i ≤ n
   pub left : ps ≡ printed_by (drop i (map cell_in (take n es))) (drop i (take n wide)) ps₀
 
-module _ {n : ℕ} {es : List Entry} {wide : List ℕ} {ps₀ : List Place} (f : CellsFit n es wide ps₀) where
+module _ {n : ℕ} {es : List Entry} {wide : List ℕ} {ps₀ : List (Option ℕ)} (f : CellsFit n es wide ps₀) where
   abbrev cs : List ℕ
   cs = map cell_in (take n es)
 
@@ -41,7 +40,7 @@ module _ {n : ℕ} {es : List Entry} {wide : List ℕ} {ps₀ : List Place} (f :
   unfolding printed_by
   start = record { at = omega arith; left = sym (ap (λ (l : List ℕ). printed_by l (drop n vs) ps₀) (drop_of_length-le cs {i = n} (omega (arith, cells_count)))) }
 
-  module _ {ps : List Place} {i : ℕ} (z : Sofar n es wide ps₀ ps i) where
+  module _ {ps : List (Option ℕ)} {i : ℕ} (z : Sofar n es wide ps₀ ps i) where
     pub stop : i ≤ 0 → ps ≡ printed_by (map cell_in (take n es)) (take n wide) ps₀
     stop h = let o : i ≡ 0 = omega arith in rw o at z.left
 
@@ -62,13 +61,13 @@ module _ {n : ℕ} {es : List Entry} {wide : List ℕ} {ps₀ : List Place} (f :
           let w : i - 1 < length vs = omega (arith, within, wides_count) in
           drop-cons vs (i - 1) 0 w ∙ (λ j. get_or-take n wide (i - 1) 0 within j ∷ drop (s j) vs)
 
-      next : printed_by (drop (i - 1) cs) (drop (i - 1) vs) ps₀ ≡ cond (eqb e.cell 0) ps (set ps (e.cell - 1) (width_place (printed (get_or wide (i - 1) 0))))
+      next : printed_by (drop (i - 1) cs) (drop (i - 1) vs) ps₀ ≡ cond (eqb e.cell 0) ps (set ps (e.cell - 1) (printed (get_or wide (i - 1) 0)))
       unfolding printed_by
       next =
           (λ j. printed_by (cells_here j) (wides_here j) ps₀)
-          ∙ sym (ap (λ (l : List Place). cond (eqb e.cell 0) l (set l (e.cell - 1) (width_place (printed (get_or wide (i - 1) 0))))) z.left)
+          ∙ sym (ap (λ (l : List (Option ℕ)). cond (eqb e.cell 0) l (set l (e.cell - 1) (printed (get_or wide (i - 1) 0)))) z.left)
 
-      pub turn_cell : (e.cell ≡ 0 → ⊥) → (p : Place) → p ≡ width_place (printed (get_or wide (i - 1) 0)) → (ps' : List Place) → ps' ≡ set ps (e.cell - 1) p
+      pub turn_cell : (e.cell ≡ 0 → ⊥) → (p : Option ℕ) → p ≡ printed (get_or wide (i - 1) 0) → (ps' : List (Option ℕ)) → ps' ≡ set ps (e.cell - 1) p
           → Sofar n es wide ps₀ ps' (i - 1)
       turn_cell c p r ps' w = record { at = omega (arith, z.at); left = w ∙ ap (set ps (e.cell - 1)) r ∙ sym (rw (ne_eqb e.cell 0 c) at next) }
 
@@ -84,29 +83,29 @@ module _ {n : ℕ} {es : List Entry} {wide : List ℕ} {ps₀ : List Place} (f :
 
 -- ---- what stands at a place
 
-pub length_by : (lines wides : List ℕ) (ps : List Place) → length (printed_by lines wides ps) ≡ length ps
+pub length_by : (lines wides : List ℕ) (ps : List (Option ℕ)) → length (printed_by lines wides ps) ≡ length ps
 unfolding printed_by
 length_by [] wides ps = refl
 length_by (c ∷ lines) [] ps = refl
 length_by (c ∷ lines) (v ∷ wides) ps = go (eqb c 0) (length_by lines wides ps)
   where
-    go : (b : Bool) → length (printed_by lines wides ps) ≡ length ps → length (cond b (printed_by lines wides ps) (set (printed_by lines wides ps) (c - 1) (width_place (printed v)))) ≡ length ps
+    go : (b : Bool) → length (printed_by lines wides ps) ≡ length ps → length (cond b (printed_by lines wides ps) (set (printed_by lines wides ps) (c - 1) (printed v))) ≡ length ps
     go true r = r
-    go false r = length-set (printed_by lines wides ps) (c - 1) (width_place (printed v)) ∙ r
+    go false r = length-set (printed_by lines wides ps) (c - 1) (printed v) ∙ r
 
 -- no entry shows its line
-pub place_other : (lines wides : List ℕ) (ps : List Place) (p : ℕ) → mem (suc p) lines ≡ false → get_or (printed_by lines wides ps) p no_place ≡ get_or ps p no_place
+pub place_other : (lines wides : List ℕ) (ps : List (Option ℕ)) (p : ℕ) → mem (suc p) lines ≡ false → get_or (printed_by lines wides ps) p None ≡ get_or ps p None
 unfolding printed_by mem
 place_other [] wides ps p m = refl
 place_other (c ∷ lines) [] ps p m = refl
 place_other (c ∷ lines) (v ∷ wides) ps p m = go (eqb c 0) refl (eqb (suc p) c) refl m (λ r. place_other lines wides ps p r)
   where
     go : (b : Bool) → eqb c 0 ≡ b → (a : Bool) → eqb (suc p) c ≡ a → (a || mem (suc p) lines) ≡ false
-        → (mem (suc p) lines ≡ false → get_or (printed_by lines wides ps) p no_place ≡ get_or ps p no_place)
-        → get_or (cond b (printed_by lines wides ps) (set (printed_by lines wides ps) (c - 1) (width_place (printed v)))) p no_place ≡ get_or ps p no_place
+        → (mem (suc p) lines ≡ false → get_or (printed_by lines wides ps) p None ≡ get_or ps p None)
+        → get_or (cond b (printed_by lines wides ps) (set (printed_by lines wides ps) (c - 1) (printed v))) p None ≡ get_or ps p None
     go b e true f n ih = absurd (true≢false n)
     go true e false f n ih = ih n
-    go false e false f n ih = get_or-set_other (printed_by lines wides ps) (c - 1) p (width_place (printed v)) no_place (λ q. differ q) ∙ ih n
+    go false e false f n ih = get_or-set_other (printed_by lines wides ps) (c - 1) p (printed v) None (λ q. differ q) ∙ ih n
       where
         differ : p ≡ c - 1 → ⊥
         differ q = absurd (zero_case (ℕ_discrete c 0))
@@ -116,28 +115,28 @@ place_other (c ∷ lines) (v ∷ wides) ps p m = go (eqb c 0) refl (eqb (suc p) 
             zero_case (no z) = true≢false (sym (eq-eqb (suc p) c (omega arith)) ∙ f)
 
 -- the first entry that shows its line
-pub place_cell : (lines wides : List ℕ) (ps : List Place) (p : ℕ) → length wides ≡ length lines → mem (suc p) lines ≡ true → p < length ps
-    → get_or (printed_by lines wides ps) p no_place ≡ width_place (printed_in lines wides (suc p))
+pub place_cell : (lines wides : List ℕ) (ps : List (Option ℕ)) (p : ℕ) → length wides ≡ length lines → mem (suc p) lines ≡ true → p < length ps
+    → get_or (printed_by lines wides ps) p None ≡ (printed_in lines wides (suc p))
 unfolding printed_by printed_in mem
 place_cell [] wides ps p l m h = absurd (true≢false (sym m))
 place_cell (c ∷ lines) [] ps p l m h = absurd (omega arith)
 place_cell (c ∷ lines) (v ∷ wides) ps p l m h = go (ℕ_discrete c (suc p)) (λ r. place_cell lines wides ps p (omega arith) r h)
   where
-    go : Dec (c ≡ suc p) → (mem (suc p) lines ≡ true → get_or (printed_by lines wides ps) p no_place ≡ width_place (printed_in lines wides (suc p)))
-        → get_or (cond (eqb c 0) (printed_by lines wides ps) (set (printed_by lines wides ps) (c - 1) (width_place (printed v)))) p no_place
-        ≡ width_place (cond (eqb c (suc p)) (printed v) (printed_in lines wides (suc p)))
+    go : Dec (c ≡ suc p) → (mem (suc p) lines ≡ true → get_or (printed_by lines wides ps) p None ≡ (printed_in lines wides (suc p)))
+        → get_or (cond (eqb c 0) (printed_by lines wides ps) (set (printed_by lines wides ps) (c - 1) (printed v))) p None
+        ≡ (cond (eqb c (suc p)) (printed v) (printed_in lines wides (suc p)))
     go (yes e) ih =
         let o : c - 1 ≡ p = omega arith in
         rw (ne_eqb c 0 (λ z. omega arith), eq-eqb c (suc p) e, o)
-        (get_or-set_same (printed_by lines wides ps) p (width_place (printed v)) no_place (omega (arith, length_by lines wides ps)))
+        (get_or-set_same (printed_by lines wides ps) p (printed v) None (omega (arith, length_by lines wides ps)))
     go (no e) ih = rw (ne_eqb c (suc p) e) (rest (ℕ_discrete c 0))
       where
         later : mem (suc p) lines ≡ true
         later = rw (ne_eqb (suc p) c (λ z. e (sym z))) at m
 
-        rest : Dec (c ≡ 0) → get_or (cond (eqb c 0) (printed_by lines wides ps) (set (printed_by lines wides ps) (c - 1) (width_place (printed v)))) p no_place
-            ≡ width_place (printed_in lines wides (suc p))
+        rest : Dec (c ≡ 0) → get_or (cond (eqb c 0) (printed_by lines wides ps) (set (printed_by lines wides ps) (c - 1) (printed v))) p None
+            ≡ (printed_in lines wides (suc p))
         rest (yes z) = rw (eq-eqb c 0 z) (ih later)
         rest (no z) =
             rw (ne_eqb c 0 z)
-            (get_or-set_other (printed_by lines wides ps) (c - 1) p (width_place (printed v)) no_place (λ q. e (omega arith)) ∙ ih later)
+            (get_or-set_other (printed_by lines wides ps) (c - 1) p (printed v) None (λ q. e (omega arith)) ∙ ih later)

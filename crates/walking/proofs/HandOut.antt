@@ -15,11 +15,10 @@ use Rattle.lists.specs.Lists.{mem}
 use Rattle.lists.specs.Limits.{max_size}
 use Rattle.text.specs.declared.Estimate.{Estimate}
 use Rattle.kinds.specs.Kinds.{table_kind}
-use Rattle.records.specs.Kept.{no_kept, no_entry, no_place, entry_by, entries_of, row_by, rows_of}
+use Rattle.records.specs.Kept.{no_kept, no_entry, entry_by, entries_of, row_by, rows_of}
 use Rattle.records.specs.declared.Kept.{Kept}
 use Rattle.records.specs.declared.Entry as packed
 use Rattle.records.specs.declared.Row.{Row}
-use Rattle.records.specs.declared.Place.{Place}
 use Rattle.records.proofs.Records.{length_of}
 use Rattle.cells.specs.Listed.{table_rows}
 use Rattle.grid.specs.Grid as grid
@@ -38,8 +37,7 @@ use Rattle.widths.specs.declared.Laid.{Laid}
 use Rattle.table.specs.Laying.{places_in}
 use Rattle.table.specs.Arranging.{boxes_at, ArrangedAt}
 use Rattle.table.specs.inner.Room.{LayoutRoom}
-use Rattle.passing.specs.Walk.{width_in, printed_in, cell_width, given_number, width_number}
-use Rattle.passing.specs.inner.Places.{width_place}
+use Rattle.passing.specs.Walk.{width_in, printed_in, cell_width}
 use Rattle.walking.specs.inner.Steps.{cell_in, printed_by, Walkable, Rooms, AtMost, HandReady, CellsFit, HandedOut}
 use Rattle.walking.proofs.CellLoop.{place_other, place_cell}
 
@@ -102,7 +100,7 @@ module _ {ks : List Kept} {figures : List Estimate} (p : Walkable ks figures) {t
     cells_are : map cell_in (take counts.entries qs) ≡ map shown_line es
     cells_are = ap (λ (n : ℕ). map cell_in (take n qs)) a.made.entries_are ∙ ap (map cell_in) a.made.entries ∙ cells_shown es
 
-    pub cells_fit : (N : ℕ) (ps : List Place) → N ≡ counts.entries → length es ≤ length qs → length es ≤ length wide → length ks ≤ length ps → CellsFit N qs wide ps
+    pub cells_fit : (N : ℕ) (ps : List (Option ℕ)) → N ≡ counts.entries → length es ≤ length qs → length es ≤ length wide → length ks ≤ length ps → CellsFit N qs wide ps
     cells_fit N ps e q w n = record {
       entries_in_fits = omega (arith, a.made.entries_are);
       wide_in = omega (arith, a.made.entries_are);
@@ -115,7 +113,7 @@ module _ {ks : List Kept} {figures : List Estimate} (p : Walkable ks figures) {t
           (all_map (IsCell ks t) (λ y. y.cell ≤ length ps) shown (λ y. shown_within (length ps) ks t y n) es (entries_cells p.lined t h)) b);
     }
 
-    module _ (kind : (get_or ks t no_kept).kind ≡ table_kind) (N : ℕ) (e : N ≡ counts.entries) (ew : length es ≤ length wide) (ps₀ ps : List Place)
+    module _ (kind : (get_or ks t no_kept).kind ≡ table_kind) (N : ℕ) (e : N ≡ counts.entries) (ew : length es ≤ length wide) (ps₀ ps : List (Option ℕ))
         (n : length ks ≤ length ps₀) (w : ps ≡ printed_by (map cell_in (take N qs)) (take N wide) ps₀) where
       member : (i : ℕ) → mem (suc i) (map cell_in (take N qs)) ≡ mem (suc i) (cell_owners es)
       member i = ap (mem (suc i)) (ap (λ (m : ℕ). map cell_in (take m qs)) e ∙ cells_are) ∙ shown_mem i es
@@ -135,10 +133,10 @@ module _ {ks : List Kept} {figures : List Estimate} (p : Walkable ks figures) {t
             let l = a.laid wrap (all_cells t wrap f) in
             let vs : take N wide ≡ map width_in (places_in (columns_of (table_rows ks t)) (boxes_at wrap ks t) raw v) =
             ap (λ (m : ℕ). take m wide) (e ∙ a.made.entries_are) ∙ l.wides_are in
-            ap (λ (y : List Place). get_or y i no_place) w
+            ap (λ (y : List (Option ℕ)). get_or y i None) w
             ∙ place_cell (map cell_in (take N qs)) (take N wide) ps₀ i counts_same (member i ∙ is_cell i c.1) (omega (arith, c.1.within))
-            ∙ (λ j. width_place (printed_in ((ap (λ (m : ℕ). map cell_in (take m qs)) e ∙ cells_are) j) (vs j) (sym (add-one i) j)));
-        other = λ i c. ap (λ (y : List Place). get_or y i no_place) w ∙ place_other (map cell_in (take N qs)) (take N wide) ps₀ i (member i ∙ no_cell i (λ o. c (kind, o)));
+            ∙ (λ j. printed_in ((ap (λ (m : ℕ). map cell_in (take m qs)) e ∙ cells_are) j) (vs j) (sym (add-one i) j));
+        other = λ i c. ap (λ (y : List (Option ℕ)). get_or y i None) w ∙ place_other (map cell_in (take N qs)) (take N wide) ps₀ i (member i ∙ no_cell i (λ o. c (kind, o)));
       }
         where
           counts_same : length (take N wide) ≡ length (map cell_in (take N qs))
@@ -152,16 +150,16 @@ pub small_here : {ks : List Kept} {t : ℕ} {w : Option ℕ} {v : ℕ} → w ≡
 unfolding AtMost
 small_here e r = rw e at r.small
 
-pub handed_at : {ks : List Kept} {t : ℕ} {figures : List Estimate} {raw : ℕ} {w : Option ℕ} {v : ℕ} {ps₀ ps : List Place} → w ≡ Some v
+pub handed_at : {ks : List Kept} {t : ℕ} {figures : List Estimate} {raw : ℕ} {w : Option ℕ} {v : ℕ} {ps₀ ps : List (Option ℕ)} → w ≡ Some v
     → HandedOut ks t figures raw (Some v) ps₀ ps → HandedOut ks t figures raw w ps₀ ps
 handed_at e h = rw e h
 
 -- ---- nothing is given
 
-pub handed_other : {ks : List Kept} {t : ℕ} {figures : List Estimate} {raw : ℕ} {w : Option ℕ} {ps : List Place} (k : Kept) → k ≡ get_or ks t no_kept → (k.kind ≡ table_kind → ⊥)
+pub handed_other : {ks : List Kept} {t : ℕ} {figures : List Estimate} {raw : ℕ} {w : Option ℕ} {ps : List (Option ℕ)} (k : Kept) → k ≡ get_or ks t no_kept → (k.kind ≡ table_kind → ⊥)
     → HandedOut ks t figures raw w ps ps
 handed_other k q n = record { cell = λ wrap f i c. absurd (n (ap (λ (x : Kept). x.kind) q ∙ c.0)); other = λ i c. refl }
 
-pub handed_none : {ks : List Kept} {t : ℕ} {figures : List Estimate} {raw : ℕ} {w : Option ℕ} {ps : List Place} → w ≡ None → HandedOut ks t figures raw w ps ps
-unfolding cell_width given_number width_number
-handed_none {ks} {t} {raw = raw} e = record { cell = λ wrap f i c z. z ∙ sym (ap (λ (x : Option ℕ). width_place (cell_width wrap raw ks t x i)) e); other = λ i c. refl }
+pub handed_none : {ks : List Kept} {t : ℕ} {figures : List Estimate} {raw : ℕ} {w : Option ℕ} {ps : List (Option ℕ)} → w ≡ None → HandedOut ks t figures raw w ps ps
+unfolding cell_width
+handed_none {ks} {t} {raw = raw} e = record { cell = λ wrap f i c z. z ∙ sym (ap (λ (x : Option ℕ). (cell_width wrap raw ks t x i)) e); other = λ i c. refl }

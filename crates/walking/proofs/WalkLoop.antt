@@ -10,7 +10,7 @@ use native.Mathlib.Numerals.{add-one}
 use native.Mathlib.Decide.{ℕ_discrete}
 use native.Mathlib.Omega.{arith}
 use lib.Dec.{eqb}
-use lib.ListN.{length, get_or, take, drop, set, length-map, get_or-map}
+use lib.ListN.{length, get_or, take, drop, set, get_or-map}
 use lib.Seq.{get_or-take, length-take-le, get_or-set_same, get_or-set_other, ext_get_or}
 use borrow.Author.Tests.{eq-eqb, ne_eqb, eqb-true}
 use Rattle.lists.specs.Limits.{max_size, depths}
@@ -18,9 +18,8 @@ use Rattle.lists.specs.Lists.{All}
 use Rattle.lists.specs.Refusals.{Check, first_answer, verdict_of, refusal}
 use Rattle.text.specs.declared.Estimate.{Estimate}
 use Rattle.kinds.specs.Kinds.{table_kind, cell_kind}
-use Rattle.records.specs.Kept.{no_kept, no_place}
+use Rattle.records.specs.Kept.{no_kept}
 use Rattle.records.specs.declared.Kept.{Kept}
-use Rattle.records.specs.declared.Place.{Place}
 use Rattle.cells.specs.Listed.{table_rows}
 use Rattle.grid.specs.Grid.{shown_line, entries_of, grid_of, columns_of}
 use Rattle.grid.proofs.GridFacts.{held_spanned, grid_tiles}
@@ -31,18 +30,10 @@ use Rattle.table.specs.inner.Grids.{Fits}
 use Rattle.table.specs.Laying.{places_in}
 use Rattle.table.specs.Arranging.{boxes_at}
 use Rattle.table.proofs.Boxes.{tiles_of_grid}
-use Rattle.passing.specs.Walk.{passed_on, too_narrow, width_in, cell_width, from_nearest, passed_by, line_width, walk_to, walk, narrow_at, narrow_from, narrow_checks, given_number, width_number}
-use Rattle.passing.specs.inner.Places.{width_place, width_by}
+use Rattle.passing.specs.Walk.{passed_on, too_narrow, width_in, cell_width, from_nearest, passed_by, line_width, walk_to, walk, narrow_at, narrow_from, narrow_checks}
 use Rattle.walking.specs.inner.Steps.{Walkable, AtMost, CellIn, HandedOut, own_width, Stepped, Cleared}
 use Rattle.walking.proofs.Lines.{length_walk, walk_past, walk_last, walk_at, walk_stays, nearest_same, one_table, cell_table, cell_nearest}
 use Rattle.walking.proofs.Smaller.{most_passed, most_nearest, most_weaker, most_printed, table_low}
-
--- ---- numbers
-
-pub width_back : (w : Option ℕ) → width_by (width_place w) ≡ w
-unfolding width_by given_number width_number
-width_back None = refl
-width_back (Some w) = refl
 
 -- ---- a table of the sheet
 
@@ -82,20 +73,20 @@ module _ {ks : List Kept} {figures : List Estimate} (p : Walkable ks figures) (w
 
   -- ---- the loop
 
-  pub record Sofar (raw root overflow : ℕ) (ps qs : List Place) (i : ℕ) : Type 0 where
+  pub record Sofar (raw root overflow : ℕ) (ps qs : List (Option ℕ)) (i : ℕ) : Type 0 where
     pub at : i ≤ length ks
-    pub front : (k : ℕ) → k < i → get_or ps k no_place ≡ width_place (get_or (walk_to wrap raw root ks i) k None)
-    pub ahead : (t j : ℕ) → CellIn ks t j → i ≤ j → get_or ps j no_place ≡ width_place (cell_width wrap raw ks t (get_or (walk_to wrap raw root ks i) t None) j)
-    pub passes : (d : ℕ) → d < depths → get_or qs d no_place ≡ width_place (from_nearest (passed_by wrap ks (walk_to wrap raw root ks i)) ks d i)
+    pub front : (k : ℕ) → k < i → get_or ps k None ≡ get_or (walk_to wrap raw root ks i) k None
+    pub ahead : (t j : ℕ) → CellIn ks t j → i ≤ j → get_or ps j None ≡ cell_width wrap raw ks t (get_or (walk_to wrap raw root ks i) t None) j
+    pub passes : (d : ℕ) → d < depths → get_or qs d None ≡ from_nearest (passed_by wrap ks (walk_to wrap raw root ks i)) ks d i
     pub small : (k : ℕ) → AtMost max_size (get_or (walk_to wrap raw root ks i) k None)
     pub narrow : verdict_of (narrow_from wrap raw root overflow ks (length ks - i) i) ≡ verdict_of (narrow_checks wrap raw root overflow ks)
 
-  none_yet : (raw t j : ℕ) → no_place ≡ width_place (cell_width wrap raw ks t None j)
-  unfolding cell_width given_number width_number
+  none_yet : (raw t j : ℕ) → None ≡ cell_width wrap raw ks t None j
+  unfolding cell_width
   none_yet raw t j = refl
 
-  pub start : (raw root overflow : ℕ) {ps qs : List Place} → Cleared (length ks) ps → ((d : ℕ) → get_or qs d no_place ≡ no_place) → Sofar raw root overflow ps qs 0
-  unfolding walk_to from_nearest given_number width_number AtMost
+  pub start : (raw root overflow : ℕ) {ps qs : List (Option ℕ)} → Cleared (length ks) ps → ((d : ℕ) → get_or qs d None ≡ None) → Sofar raw root overflow ps qs 0
+  unfolding walk_to from_nearest AtMost
   start raw root overflow c none_passed = record {
     at = omega arith;
     front = λ k h. absurd (omega arith);
@@ -105,7 +96,7 @@ module _ {ks : List Kept} {figures : List Estimate} (p : Walkable ks figures) (w
     narrow = let o : length ks - 0 ≡ length ks = omega arith in ap (λ (n : ℕ). verdict_of (narrow_from wrap raw root overflow ks n 0)) o;
   }
 
-  module _ {raw root overflow : ℕ} (root-small : root ≤ max_size) {ps qs : List Place} {i : ℕ} (z : Sofar raw root overflow ps qs i) where
+  module _ {raw root overflow : ℕ} (root-small : root ≤ max_size) {ps qs : List (Option ℕ)} {i : ℕ} (z : Sofar raw root overflow ps qs i) where
     abbrev W : ℕ → List (Option ℕ)
     W n = walk_to wrap raw root ks n
 
@@ -113,45 +104,41 @@ module _ {ks : List Kept} {figures : List Estimate} (p : Walkable ks figures) (w
     own = line_width wrap raw root ks (W i) i
 
     -- every line is passed
-    pub stop : length ks ≤ i → length ks ≤ length ps → ((Ok tt) ≡ verdict_of (narrow_checks wrap raw root overflow ks)) × (take (length ks) ps ≡ map width_place (walk wrap raw root ks))
+    pub stop : length ks ≤ i → length ks ≤ length ps → ((Ok tt) ≡ verdict_of (narrow_checks wrap raw root overflow ks)) × (take (length ks) ps ≡ (walk wrap raw root ks))
         × ((k : ℕ) → AtMost max_size (get_or (walk wrap raw root ks) k None))
-    unfolding narrow_from verdict_of first_answer given_number width_number
+    unfolding narrow_from verdict_of first_answer
     stop h r =
         let e : i ≡ length ks = omega (arith, z.at) in
         let o : length ks - i ≡ 0 = omega arith in (
           rw o at z.narrow,
-          ext_get_or no_place (take (length ks) ps) (map width_place (walk wrap raw root ks))
-              (length-take-le (length ks) ps r ∙ sym (length-map (walk wrap raw root ks) width_place ∙ length_walk wrap raw root ks (length ks)))
+          ext_get_or None (take (length ks) ps) (walk wrap raw root ks)
+              (length-take-le (length ks) ps r ∙ sym (length_walk wrap raw root ks (length ks)))
               (λ k l.
               let b : k < length ks = omega (arith, length-take-le (length ks) ps r) in
-              get_or-take (length ks) ps k no_place b ∙ z.front k (omega arith) ∙ ap (λ (n : ℕ). width_place (get_or (W n) k None)) e
-              ∙ sym (placed (walk wrap raw root ks) k)),
+              get_or-take (length ks) ps k None b ∙ z.front k (omega arith) ∙ ap (λ (n : ℕ). get_or (W n) k None) e),
           λ k. rw e at (z.small k),
         )
-      where
-        placed : (ws : List (Option ℕ)) (k : ℕ) → get_or (map width_place ws) k no_place ≡ width_place (get_or ws k None)
-        placed ws k = get_or-map width_place ws k None
 
     module _ (h : i < length ks) where
       abbrev here : Kept
       here = get_or ks i no_kept
 
       -- the line's own width
-      cell_own : here.kind ≡ cell_kind → get_or ps i no_place ≡ width_place (from_nearest (λ t. cell_width wrap raw ks t (get_or (W i) t None) i) ks (here.depth - 3) i)
+      cell_own : here.kind ≡ cell_kind → get_or ps i None ≡ (from_nearest (λ t. cell_width wrap raw ks t (get_or (W i) t None) i) ks (here.depth - 3) i)
       cell_own e =
           let c = cell_table p.sheet i h e in
-          z.ahead c.table i c.cell (omega arith) ∙ ap width_place (sym (cell_nearest p.sheet (λ t. cell_width wrap raw ks t (get_or (W i) t None) i) i c))
+          z.ahead c.table i c.cell (omega arith) ∙ (sym (cell_nearest p.sheet (λ t. cell_width wrap raw ks t (get_or (W i) t None) i) i c))
 
       pub own_is : own_width root i (get_or ks i no_kept) ps qs ≡ line_width wrap raw root ks (walk_to wrap raw root ks i) i
       unfolding line_width
       own_is = go (eqb i 0) (eqb here.kind cell_kind) refl
         where
           go : (a b : Bool) → eqb here.kind cell_kind ≡ b
-              → cond a (Some root) (cond b (width_by (get_or ps i no_place)) (width_by (get_or qs (here.depth - 1) no_place)))
+              → cond a (Some root) (cond b (get_or ps i None) (get_or qs (here.depth - 1) None))
               ≡ cond a (Some root) (cond b (from_nearest (λ t. cell_width wrap raw ks t (get_or (W i) t None) i) ks (here.depth - 3) i) (from_nearest (passed_by wrap ks (W i)) ks (here.depth - 1) i))
           go true b e = refl
-          go false true e = ap width_by (cell_own (eqb-true here.kind cell_kind e)) ∙ width_back _
-          go false false e = ap width_by (z.passes (here.depth - 1) (omega (arith, p.lined.shallow i))) ∙ width_back _
+          go false true e = cell_own (eqb-true here.kind cell_kind e)
+          go false false e = z.passes (here.depth - 1) (omega (arith, p.lined.shallow i))
 
       pub own_small : AtMost max_size (line_width wrap raw root ks (walk_to wrap raw root ks i) i)
       unfolding line_width AtMost
@@ -189,7 +176,7 @@ module _ {ks : List Kept} {figures : List Estimate} (p : Walkable ks figures) (w
           ∙ ap (λ (c : Bool). cond (eqb overflow 0 && c) (Err (refusal TooNarrow (i + 1))) (verdict_of rest)) (here_narrow w e)
           ∙ ap (λ (c : Bool). cond c (Err (refusal TooNarrow (i + 1))) (verdict_of rest)) (sym f)
 
-      module _ {w : Option ℕ} {ps₁ qs₁ : List Place} (s : Stepped ks figures root i w ps qs ps₁ qs₁) where
+      module _ {w : Option ℕ} {ps₁ qs₁ : List (Option ℕ)} (s : Stepped ks figures root i w ps qs ps₁ qs₁) where
         w_is : w ≡ own
         w_is = s.width_is ∙ own_is
 
@@ -200,51 +187,51 @@ module _ {ks : List Kept} {figures : List Estimate} (p : Walkable ks figures) (w
             → Err (refusal TooNarrow (i + 1)) ≡ verdict_of (narrow_checks wrap raw root overflow ks)
         turn_refused b f t = sym (verdict_here w w_is b f ∙ rw t)
 
-        module _ {ps₂ : List Place} (g : HandedOut ks i figures raw w ps₁ ps₂) (line_room : length ks ≤ length ps) (depth-room : depths ≤ length qs) where
+        module _ {ps₂ : List (Option ℕ)} (g : HandedOut ks i figures raw w ps₁ ps₂) (line_room : length ks ≤ length ps) (depth-room : depths ≤ length qs) where
           now_own : get_or (W (suc i)) i None ≡ w
           now_own = walk_last wrap raw root ks i ∙ sym w_is
 
-          off : (k : ℕ) → (k ≡ i → ⊥) → get_or ps₁ k no_place ≡ get_or ps k no_place
-          off k n = ap (λ (l : List Place). get_or l k no_place) s.written ∙ get_or-set_other ps i k (width_place w) no_place n
+          off : (k : ℕ) → (k ≡ i → ⊥) → get_or ps₁ k None ≡ get_or ps k None
+          off k n = ap (λ (l : List (Option ℕ)). get_or l k None) s.written ∙ get_or-set_other ps i k w None n
 
-          front_next : (k : ℕ) → k < suc i → Dec (k ≡ i) → get_or ps₂ k no_place ≡ width_place (get_or (W (suc i)) k None)
+          front_next : (k : ℕ) → k < suc i → Dec (k ≡ i) → get_or ps₂ k None ≡ get_or (W (suc i)) k None
           front_next k l (yes e) =
               g.other k (λ c. omega (arith, c.1.before))
-              ∙ ap (λ (x : ℕ). get_or ps₁ x no_place) e
-              ∙ ap (λ (y : List Place). get_or y i no_place) s.written
-              ∙ get_or-set_same ps i (width_place w) no_place (omega arith)
-              ∙ ap width_place (sym now_own)
-              ∙ ap (λ (x : ℕ). width_place (get_or (W (suc i)) x None)) (sym e)
+              ∙ ap (λ (x : ℕ). get_or ps₁ x None) e
+              ∙ ap (λ (y : List (Option ℕ)). get_or y i None) s.written
+              ∙ get_or-set_same ps i w None (omega arith)
+              ∙ sym now_own
+              ∙ ap (λ (x : ℕ). get_or (W (suc i)) x None) (sym e)
           front_next k l (no e) =
               g.other k (λ c. omega (arith, c.1.before))
-              ∙ off k e ∙ z.front k (omega arith) ∙ ap width_place (sym (walk_at wrap raw root ks i k e))
+              ∙ off k e ∙ z.front k (omega arith) ∙ sym (walk_at wrap raw root ks i k e)
 
-          ahead_next : (t j : ℕ) → CellIn ks t j → suc i ≤ j → Dec (t ≡ i) → get_or ps₂ j no_place ≡ width_place (cell_width wrap raw ks t (get_or (W (suc i)) t None) j)
+          ahead_next : (t j : ℕ) → CellIn ks t j → suc i ≤ j → Dec (t ≡ i) → get_or ps₂ j None ≡ (cell_width wrap raw ks t (get_or (W (suc i)) t None) j)
           ahead_next t j c l (yes e) =
               let c' : CellIn ks i j = rw e at c in
-              let past = ap (λ (v : Option ℕ). width_place (cell_width wrap raw ks i v j)) (walk_past wrap raw root ks i i (omega arith)) in
+              let past = ap (λ (v : Option ℕ). cell_width wrap raw ks i v j) (walk_past wrap raw root ks i i (omega arith)) in
               g.cell wrap same j c' (off j (λ q. omega arith) ∙ z.ahead i j c' (omega arith) ∙ past ∙ sym (none_yet raw i j))
-              ∙ (λ n. width_place (cell_width wrap raw ks i (sym now_own n) j))
-              ∙ ap (λ (x : ℕ). width_place (cell_width wrap raw ks x (get_or (W (suc i)) x None) j)) (sym e)
+              ∙ (λ n. cell_width wrap raw ks i (sym now_own n) j)
+              ∙ ap (λ (x : ℕ). (cell_width wrap raw ks x (get_or (W (suc i)) x None) j)) (sym e)
           ahead_next t j c l (no e) =
               g.other j (λ d. e (one_table t i j c.1 d.1))
               ∙ off j (λ q. omega arith) ∙ z.ahead t j c (omega arith)
-              ∙ ap (λ (v : Option ℕ). width_place (cell_width wrap raw ks t v j)) (sym (walk_at wrap raw root ks i t e))
+              ∙ ap (λ (v : Option ℕ). cell_width wrap raw ks t v j) (sym (walk_at wrap raw root ks i t e))
 
-          passes_next : (d : ℕ) → d < depths → Dec (here.depth ≡ d) → get_or qs₁ d no_place ≡ width_place (from_nearest (passed_by wrap ks (W (suc i))) ks d (suc i))
+          passes_next : (d : ℕ) → d < depths → Dec (here.depth ≡ d) → get_or qs₁ d None ≡ (from_nearest (passed_by wrap ks (W (suc i))) ks d (suc i))
           unfolding from_nearest
           passes_next d l (yes e) =
               rw (eq-eqb here.depth d e)
-              (ap (λ (y : List Place). get_or y d no_place) s.passes
-              ∙ ap (λ (x : ℕ). get_or (set qs here.depth (width_place (passed_on here.kind (get_or figures i none) w))) x no_place) (sym e)
-              ∙ get_or-set_same qs here.depth (width_place (passed_on here.kind (get_or figures i none) w)) no_place (omega arith)
-              ∙ (λ n. width_place (passed_on here.kind (figure_at_lem i h n) (sym now_own n))))
+              (ap (λ (y : List (Option ℕ)). get_or y d None) s.passes
+              ∙ ap (λ (x : ℕ). get_or (set qs here.depth (passed_on here.kind (get_or figures i none) w)) x None) (sym e)
+              ∙ get_or-set_same qs here.depth (passed_on here.kind (get_or figures i none) w) None (omega arith)
+              ∙ (λ n. passed_on here.kind (figure_at_lem i h n) (sym now_own n)))
           passes_next d l (no e) =
               rw (ne_eqb here.depth d e)
-              (ap (λ (y : List Place). get_or y d no_place) s.passes
-              ∙ get_or-set_other qs here.depth d (width_place (passed_on here.kind (get_or figures i none) w)) no_place (λ q. e (sym q))
+              (ap (λ (y : List (Option ℕ)). get_or y d None) s.passes
+              ∙ get_or-set_other qs here.depth d (passed_on here.kind (get_or figures i none) w) None (λ q. e (sym q))
               ∙ z.passes d l
-              ∙ ap width_place (nearest_same (passed_by wrap ks (W i)) (passed_by wrap ks (W (suc i))) ks d i
+              ∙ (nearest_same (passed_by wrap ks (W i)) (passed_by wrap ks (W (suc i))) ks d i
               (λ k m. ap (λ (v : Option ℕ). passed_on (get_or ks k no_kept).kind (get_or (estimates wrap ks) k none) v) (sym (walk_at wrap raw root ks i k (λ q. omega arith))))))
 
           small_next : (k : ℕ) → Dec (k ≡ i) → AtMost max_size (get_or (W (suc i)) k None)

@@ -1,19 +1,19 @@
 // What a table gives its cells: each printed one has its own width, and a missing one none.
 ghost use Rattle.std.specs.Prelude.{◌≡◌, map, ◌≤◌, length, take};
-ghost use Rattle.records.specs.Kept.{kepts_of, entries_of, places_of};
+ghost use Rattle.records.specs.Kept.{kepts_of, entries_of};
 ghost use Rattle.estimates.specs.inner.Figures.{figures_of};
 ghost use Rattle.walking.specs.inner.Steps.{Walkable, Rooms, CellsFit, cell_in, printed_by, HandReady, HandedOut};
 
 // Writes the width of each of the first n entries to the place of its cell's line; a filler has none.
-fn print_cells(entries: &[u32], wide: &[u32], n: usize, walk: &mut [u32])
-    requires { CellsFit n (entries_of entries.now) wide.now (places_of walk.old) }
-    ensures { places_of walk.new ≡ printed_by (map cell_in (take n (entries_of entries.now))) (take n wide.now) (places_of walk.old) }
+fn print_cells(entries: &[u32], wide: &[u32], n: usize, walk: &mut [Option<u32>])
+    requires { CellsFit n (entries_of entries.now) wide.now walk.old }
+    ensures { walk.new ≡ printed_by (map cell_in (take n (entries_of entries.now))) (take n wide.now) walk.old }
 {
     for k in (0..n).rev() {
         let e = records::entry_at(entries, k);
         if e.cell != 0 {
             let at = (e.cell - 1) as usize;
-            records::put_place(walk, at, passing::printed(wide[k]));
+            walk[at] = passing::printed(wide[k]);
         }
     }
 }
@@ -25,7 +25,7 @@ pub fn hand_out(
     at: usize,
     raw: u32,
     width: Option<u32>,
-    walk: &mut [u32],
+    walk: &mut [Option<u32>],
     entries: &mut [u32],
     rows: &mut [u32],
     column: &mut [u32],
@@ -34,9 +34,9 @@ pub fn hand_out(
 )
     requires walkable { Walkable (kepts_of lines.now) (figures_of figures.now) }
     requires hand_ready { HandReady (kepts_of lines.now) at width }
-    requires lines_in_bounds { length (kepts_of lines.now) ≤ length (places_of walk.old) }
+    requires lines_in_bounds { length (kepts_of lines.now) ≤ length walk.old }
     requires rooms { Rooms entries.old rows.old column.old x.old wide.old }
-    ensures { HandedOut (kepts_of lines.now) at (figures_of figures.now) raw width (places_of walk.old) (places_of walk.new) }
+    ensures { HandedOut (kepts_of lines.now) at (figures_of figures.now) raw width walk.old walk.new }
 {
     let here = records::kept_at(lines, at);
     if here.kind != kinds::TABLE {

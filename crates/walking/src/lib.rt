@@ -6,21 +6,21 @@ mod steps; // the lines one after the other
 
 ghost use Rattle.std.specs.Prelude.{◌≤◌, length};
 ghost use Rattle.lists.specs.Limits.{max_size};
-ghost use Rattle.records.specs.Kept.{kepts_of, places_of};
+ghost use Rattle.records.specs.Kept.{kepts_of};
 ghost use Rattle.estimates.specs.inner.Figures.{figures_of};
 ghost use Rattle.walking.specs.inner.Steps.{Walkable, Rooms, Walked};
 
 use lists::Refusal;
 
-// Walks a measured sheet from its first line, which has the width `width`. Two numbers of `walk` for each line are whether it has a width, and
-// which; the other slices are the room in which each table is laid out.
+// Walks a measured sheet from its first line, which has the width `width`. `walk` gets the width of each line, if it has
+// one; the other slices are the room in which each table is laid out.
 pub fn walk(
     lines: &[u32],
     figures: &[u32],
     raw: u32,
     width: u32,
     overflow: u32,
-    walk: &mut [u32],
+    walk: &mut [Option<u32>],
     entries: &mut [u32],
     rows: &mut [u32],
     column: &mut [u32],
@@ -29,11 +29,11 @@ pub fn walk(
 ) -> Result<(), Refusal>
     requires walkable { Walkable (kepts_of lines.now) (figures_of figures.now) }
     requires raw_bound { (raw ≤ 1) × (width ≤ max_size) }
-    requires lines_in_bounds { length (kepts_of lines.now) ≤ length (places_of walk.old) }
+    requires lines_in_bounds { length (kepts_of lines.now) ≤ length walk.old }
     requires rooms { Rooms entries.old rows.old column.old x.old wide.old }
-    ensures { Walked (kepts_of lines.now) (figures_of figures.now) raw width overflow result (places_of walk.new) }
+    ensures { Walked (kepts_of lines.now) (figures_of figures.now) raw width overflow result walk.new }
 {
-    lists::keep_front(walk, 0);
+    walk.fill(None);
     steps::walk_lines(
         lines, figures, raw, width, overflow, walk, entries, rows, column, x, wide,
     )

@@ -1,7 +1,7 @@
 // The lines one after the other.
 ghost use Rattle.std.specs.Prelude.{◌≡◌, ◌&&◌, ◌≤◌, ◌<◌, ◌/◌, eqb, length, get_or};
 ghost use Rattle.lists.specs.Limits.{max_size};
-ghost use Rattle.records.specs.Kept.{no_kept, kept_count, kepts_of, places_of};
+ghost use Rattle.records.specs.Kept.{no_kept, kept_count, kepts_of};
 ghost use Rattle.estimates.specs.Estimates.{none};
 ghost use Rattle.estimates.specs.inner.Figures.{figures_of};
 ghost use Rattle.passing.specs.Walk.{too_narrow};
@@ -11,19 +11,24 @@ use lists::{DEPTHS, Reason, Refusal};
 
 // The width of the line at the place i: the first line has the page's; what a cell has, its table wrote there; any other line has what its parent
 // passes on, the nearest line one less deep.
-fn own_width(k: records::Kept, i: usize, width: u32, walk: &[u32], passed: &[u32]) -> Option<u32>
-    requires i_in_bounds { i < length walk.now / 2 }
-    requires depth_in_bounds { k.depth < length passed.now / 2 }
-    ensures { result ≡ own_width width i k (places_of walk.now) (places_of passed.now) }
+fn own_width(
+    k: records::Kept,
+    i: usize,
+    width: u32,
+    walk: &[Option<u32>],
+    passed: &[Option<u32>],
+) -> Option<u32>
+    requires i_in_bounds { i < length walk.now }
+    requires depth_in_bounds { k.depth < length passed.now }
+    ensures { result ≡ own_width width i k walk.now passed.now }
 {
     if i == 0 {
         return Some(width);
     }
     if k.kind == kinds::CELL {
-        return passing::width_of(records::place_at(walk, i));
+        return walk[i];
     }
-    let above = k.depth.saturating_sub(1) as usize;
-    passing::width_of(records::place_at(passed, above))
+    passed[k.depth.saturating_sub(1) as usize]
 }
 
 // Line i: its width, which is written to its place, and what it passes on, which is written to the place of its depth.
@@ -32,23 +37,18 @@ fn step(
     figures: &[u32],
     i: usize,
     width: u32,
-    walk: &mut [u32],
-    passed: &mut [u32],
+    walk: &mut [Option<u32>],
+    passed: &mut [Option<u32>],
 ) -> Option<u32>
     requires { LineHere lines.now figures.now walk.old passed.old i }
     ensures { Stepped (kepts_of lines.now) (figures_of figures.now) width i result
-        (places_of walk.old) (places_of passed.old) (places_of walk.new) (places_of passed.new) }
+        walk.old passed.old walk.new passed.new }
 {
     let here = records::kept_at(lines, i);
     let own = own_width(here, i, width, walk, passed);
     let e = estimates::packed::estimate_at(figures, i);
-    let depth = here.depth as usize;
-    records::put_place(walk, i, passing::place_of(own));
-    records::put_place(
-        passed,
-        depth,
-        passing::place_of(passing::passed_on(here.kind, e, own)),
-    );
+    walk[i] = own;
+    passed[here.depth as usize] = passing::passed_on(here.kind, e, own);
     own
 }
 
@@ -72,7 +72,7 @@ pub fn walk_lines(
     raw: u32,
     width: u32,
     overflow: u32,
-    walk: &mut [u32],
+    walk: &mut [Option<u32>],
     entries: &mut [u32],
     rows: &mut [u32],
     column: &mut [u32],
@@ -81,11 +81,11 @@ pub fn walk_lines(
 ) -> Result<(), Refusal>
     requires walkable { Walkable (kepts_of lines.now) (figures_of figures.now) }
     requires raw_bound { (raw ≤ 1) × (width ≤ max_size) }
-    requires cleared { Cleared (length (kepts_of lines.now)) (places_of walk.old) }
+    requires cleared { Cleared (length (kepts_of lines.now)) walk.old }
     requires rooms { Rooms entries.old rows.old column.old x.old wide.old }
-    ensures { Walked (kepts_of lines.now) (figures_of figures.now) raw width overflow result (places_of walk.new) }
+    ensures { Walked (kepts_of lines.now) (figures_of figures.now) raw width overflow result walk.new }
 {
-    let mut passed = [0u32; 2 * DEPTHS];
+    let mut passed = [None; DEPTHS];
     let n = records::count(lines);
     for i in 0..n {
         let own = step(lines, figures, i, width, walk, &mut passed);

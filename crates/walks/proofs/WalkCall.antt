@@ -1,21 +1,22 @@
 -- The call `walk`: what is found in the sheet is what it answers and leaves. Assumes nothing.
 use Rattle.lists.specs.declared.Refusal.{Refusal}
-use Rattle.std.specs.Prelude.{Err, Ok, Result, Option, None}
+use Rattle.std.specs.Prelude.{Err, Ok, Result, Option, None, Some}
+use Rattle.std.specs.Option.{is_some, unwrap_or}
+use mir.Val.{bool_byte}
 use mathlib.Core.Path.{◌≡◌, refl, sym, ap, ◌∙◌}
 use mathlib.Core.Bool.{Bool, true, false, ◌||◌}
-use mathlib.Core.List.{List, [], ◌∷◌, map}
-use Prim.Native.Nat.{ℕ, ◌/◌, ◌≤◌}
+use mathlib.Core.List.{List, [], ◌∷◌, map, map-append}
+use Prim.Native.Nat.{ℕ, ◌+◌, ◌≤◌, ◌<◌}
+use native.Mathlib.Numerals.{add-one}
 use native.Mathlib.Omega.{arith}
 use lib.Dec.{ltb}
-use lib.ListN.{length, take}
+use lib.ListN.{length, get_or, set, take, length-map}
+use lib.Seq.{take-suc, length-take-le}
 use borrow.Author.Tests.{ltb-false}
 use Rattle.lists.specs.Lists.{padded, over}
 use Rattle.lists.specs.Limits.{max_lines, max_wrap, max_width, max_size}
 use Rattle.lists.specs.Refusals.{Check, first_answer, verdict_of, passes, if_passes}
 use Rattle.text.specs.declared.Estimate.{Estimate}
-use Rattle.records.specs.Records.{numbers_of}
-use Rattle.records.specs.Kept.{place_by, places_of}
-use Rattle.records.specs.declared.Place.{Place}
 use Rattle.sheet.specs.Sheet.{sheet_lines}
 use Rattle.sheet.specs.Steps.{room_for}
 use Rattle.sheet.proofs.First.{neither, first_passes, first_accepts, figures_fail, front_pass}
@@ -23,24 +24,46 @@ use Rattle.opening.specs.Opening.{after_reading}
 use Rattle.arguments.specs.Arguments.{walk_arguments}
 use Rattle.arguments.proofs.Shorter.{two_fit}
 use Rattle.sheet_figures.specs.inner.Opened.{lines_in}
-use Rattle.table.proofs.Rooms.{unpacked}
+use Rattle.lists.proofs.Over.{over_push, over_front}
 use Rattle.sheet_figures.specs.inner.Early.{early}
 use Rattle.sheet_figures.proofs.Early.{early_nines, none_nines, fits, leaving}
 use Rattle.passing.specs.Walk.{given_number, width_number}
-use Rattle.passing.specs.inner.Places.{width_place}
 use Rattle.pacing.specs.Sheets.{walk_of}
 use Rattle.walks.specs.Walks.{walk_checks, walked_of, for_walk, WalkAnswer}
 use Rattle.pacing.specs.inner.Found.{walked_checks, SheetWalked}
-use Rattle.walks.specs.inner.Found.{TellRoom, first_in, span_in, WalkTold, WalkRoom, WalkFound}
+use Rattle.walks.specs.inner.Found.{TellRoom, WalkTold, WalkRoom, WalkFound}
 use Rattle.pacing.proofs.Opening.{opened_passed}
 
 -- ---- what is told
 
-pub told_walk : (n : ℕ) (walk given₀ wide₀ : List ℕ) {given wide : List ℕ} → n ≤ length walk / 2
-    → given ≡ over (numbers_of 2 0 n walk) given₀ → wide ≡ over (numbers_of 2 1 n walk) wide₀ → WalkTold n (places_of walk) given wide
-told_walk n walk p q h a b = record { givens = unpacked 2 0 n walk p place_by first_in (λ r. refl) h a; wides = unpacked 2 1 n walk q place_by span_in (λ r. refl) h b }
+-- whether a line has a width, and which, as the functions of `Option` say it
+pub given_is : (w : Option ℕ) → bool_byte (is_some w) ≡ given_number w
+unfolding given_number
+given_is None = refl
+given_is (Some v) = refl
 
-module _ {asked : Option ℕ} {s : List ℕ} {wrap raw width overflow : ℕ} {r : Result ℕ Refusal} {lines : List ℕ} {figures : List Estimate} {ps : List Place}
+pub width_is : (w : Option ℕ) → unwrap_or w 0 ≡ width_number w
+unfolding width_number
+width_is None = refl
+width_is (Some v) = refl
+
+-- one number more
+pub told_step : (f : Option ℕ → ℕ) (ws : List (Option ℕ)) (o b : List ℕ) (i v : ℕ) → i < length ws → i < length o → b ≡ over (map f (take i ws)) o
+    → v ≡ f (get_or ws i None) → set b i v ≡ over (map f (take (i + 1) ws)) o
+told_step f ws o b i v h g e q =
+    let n : length (map f (take i ws)) ≡ i = length-map (take i ws) f ∙ length-take-le i ws (omega arith) in
+    (λ j. set (e j) (sym n j) (q j))
+    ∙ sym (over_push (map f (take i ws)) o (f (get_or ws i None)) (omega arith))
+    ∙ ap (λ (l : List ℕ). over l o)
+    (sym (ap (λ (k : ℕ). map f (take k ws)) (add-one i) ∙ ap (map f) (take-suc ws i None h) ∙ map-append f (take i ws) (get_or ws i None ∷ [])))
+
+-- all
+pub told_all : (f : Option ℕ → ℕ) (ws : List (Option ℕ)) (o b : List ℕ) (i : ℕ) → i ≤ length ws → b ≡ over (map f (take i ws)) o → take i b ≡ map f (take i ws)
+told_all f ws o b i h e =
+    let n : length (map f (take i ws)) ≡ i = length-map (take i ws) f ∙ length-take-le i ws h in
+    (λ j. take (sym n j) (e j)) ∙ over_front (map f (take i ws)) o
+
+module _ {asked : Option ℕ} {s : List ℕ} {wrap raw width overflow : ℕ} {r : Result ℕ Refusal} {lines : List ℕ} {figures : List Estimate} {ps : List (Option ℕ)}
     (w : SheetWalked asked s wrap raw width overflow r lines figures ps) where
   -- there are no more lines than there is room for
   pub lines_few : (lines_in r ≤ room_for s) × (lines_in r ≤ max_lines)
@@ -55,20 +78,16 @@ module _ {asked : Option ℕ} {s : List ℕ} {wrap raw width overflow : ℕ} {r 
   cs = walked_checks asked s wrap raw width overflow
 
   -- one figure of all lines, where the sheet is accepted
-  front : (figure : Place → ℕ) (number : Option ℕ → ℕ) → ((v : Option ℕ) → figure (width_place v) ≡ number v) → (n : ℕ) → n ≡ lines_in r → (slice : List ℕ) → take n slice ≡ map figure (take n ps)
+  front : (number : Option ℕ → ℕ) (n : ℕ) → n ≡ lines_in r → (slice : List ℕ) → take n slice ≡ map number (take n ps)
       → take (lines_in r) slice ≡ if_passes cs (map number (walk_of s wrap raw width))
   unfolding lines_in
-  front figure number same n e slice q = at r refl
+  front number n e slice q = at r refl
     where
-      renamed : (ws : List (Option ℕ)) → map figure (map width_place ws) ≡ map number ws
-      renamed [] = refl
-      renamed (v ∷ ws) = (λ i. same v i ∷ renamed ws i)
-
       at : (x : Result ℕ Refusal) → r ≡ x → take (lines_in r) slice ≡ if_passes cs (map number (walk_of s wrap raw width))
       at (Ok k) f =
           let p = (first_accepts Err (Ok (length (sheet_lines s))) (Ok k) cs (λ why d. let z : ◌≡◌ {A = ℕ} 0 1 = cc in omega arith) (sym w.answer ∙ f)).0 in
           let i : n ≡ k = e ∙ ap lines_in f in
-          front_pass slice cs p (sym e) (q ∙ ap (λ (t : ℕ). map figure (take t ps)) i ∙ ap (map figure) (w.widths k f) ∙ renamed (walk_of s wrap raw width))
+          front_pass slice cs p (sym e) (q ∙ ap (λ (t : ℕ). map number (take t ps)) i ∙ ap (map number) (w.widths k f))
       at (Err why) f = rw f (sym (figures_fail cs _ (refuse (passes cs) refl)))
         where
           refuse : (t : Bool) → passes cs ≡ t → t ≡ false
@@ -76,16 +95,15 @@ module _ {asked : Option ℕ} {s : List ℕ} {wrap raw width overflow : ℕ} {r 
           refuse false p = refl
 
   pub walk_found : (n : ℕ) → n ≡ lines_in r → {given wide : List ℕ} → WalkTold n ps given wide → WalkFound cs s wrap raw width r given wide
-  unfolding given_number width_number
   walk_found n e {given} {wide} t = record {
     answer = w.answer;
     few = lines_few.1;
-    givens = front first_in given_number (λ v. refl) n e given t.givens;
-    wides = front span_in width_number (λ v. refl) n e wide t.wides;
+    givens = front given_number n e given t.givens;
+    wides = front width_number n e wide t.wides;
   }
 
 -- places for all figures
-pub tell_room : {n : ℕ} (r : Result ℕ Refusal) (s : List ℕ) (walk : List ℕ) {given wide : List ℕ} → n ≡ lines_in r → (lines_in r ≤ room_for s) × (lines_in r ≤ max_lines) → room_for s ≤ length walk / 2
+pub tell_room : {n : ℕ} (r : Result ℕ Refusal) (s : List ℕ) (walk : List (Option ℕ)) {given wide : List ℕ} → n ≡ lines_in r → (lines_in r ≤ room_for s) × (lines_in r ≤ max_lines) → room_for s ≤ length walk
     → max_lines ≤ length given → max_lines ≤ length wide → TellRoom n walk given wide
 tell_room r s walk e l h a b = record { walk_in = omega (arith, e, l.0, h); given_in = omega (arith, e, l.1); wide_in = omega (arith, e, l.1) }
 

@@ -1,7 +1,6 @@
 // The walk of a sheet, written to the lent buffers.
 ghost use Rattle.std.specs.Prelude.{◌≡◌, ◌∷◌, ◌≤◌, None};
 ghost use Rattle.lists.specs.Limits.{max_size};
-ghost use Rattle.records.specs.Kept.{places_of};
 ghost use Rattle.sheet_figures.specs.inner.Early.{early};
 ghost use Rattle.pacing.specs.inner.Found.{walked_checks};
 ghost use Rattle.walks.specs.inner.Found.{TellRoom, WalkTold, WalkRoom, WalkFound};
@@ -10,12 +9,14 @@ use arguments::Settings;
 use lists::{MAX_LINES, Refusal};
 
 // Whether each of the first n lines has a width, and which, each to its buffer.
-fn tell(n: usize, walk: &[u32], given: &mut [u32], wide: &mut [u32])
+fn tell(n: usize, walk: &[Option<u32>], given: &mut [u32], wide: &mut [u32])
     requires { TellRoom n walk.now given.old wide.old }
-    ensures { WalkTold n (places_of walk.now) given.new wide.new }
+    ensures { WalkTold n walk.now given.new wide.new }
 {
-    records::unpack(walk, 2, 0, n, given);
-    records::unpack(walk, 2, 1, n, wide);
+    for i in 0..n {
+        given[i] = u32::from(walk[i].is_some());
+        wide[i] = walk[i].unwrap_or(0);
+    }
 }
 
 // The walk of a sheet. The first buffer is written last, and until then it is room to work in.
@@ -31,7 +32,7 @@ fn walk_out(
 {
     let mut lines = [0u32; records::WIDTH * MAX_LINES];
     let mut figures = [0u32; 3 * MAX_LINES];
-    let mut walk = [0u32; 2 * MAX_LINES];
+    let mut walk = [None; MAX_LINES];
     let read = pacing::walk_sheet(
         sheet,
         None,

@@ -3,27 +3,24 @@ use Rattle.answers.specs.Answers.{nested_with}
 use Rattle.answers.specs.declared.Layout.{Layout}
 use Rattle.answers.specs.declared.Nested.{Nested}
 use Rattle.lists.specs.declared.Refusal.{Refusal}
-use Rattle.std.specs.Prelude.{◌≡◌, true, List, ℕ, ◌-◌, ◌/◌, ◌≤◌, ◌<◌, length, get_or, take, Err, Ok, Option, Result, None, Some}
+use Rattle.std.specs.Prelude.{◌≡◌, true, List, ℕ, ◌-◌, ◌≤◌, ◌<◌, length, get_or, take, Err, Ok, Option, Result, None, Some}
 use Rattle.lists.specs.Limits.{max_lines, max_entries}
 use Rattle.lists.specs.Refusals.{Check, first_answer, passes, if_passes}
 use Rattle.text.specs.declared.Estimate.{Estimate}
-use Rattle.records.specs.Kept.{no_place}
-use Rattle.records.specs.declared.Place.{Place}
-use Rattle.passing.specs.inner.Places.{width_by}
 use Rattle.placing.specs.Promise.{Promised}
 use Rattle.sheet_figures.specs.Figures.{columns_at, boxes_at, way_at, widths_at}
 use Rattle.call_layout.specs.inner.Read.{LayoutRead}
 use Rattle.nested.specs.Nested.{width_to, told_at, columns_for, xs_for, wides_for}
 
 -- the width at a line's place, if the sheet was read
-unfoldable pub width_for : Result ℕ Refusal → ℕ → List Place → Option ℕ
-width_for (Ok n) line ps = width_by (get_or ps (line - 1) no_place)
+unfoldable pub width_for : Result ℕ Refusal → ℕ → List (Option ℕ) → Option ℕ
+width_for (Ok n) line ps = get_or ps (line - 1) None
 width_for (Err why) line ps = None
 
 -- the line has a place
-pub record PlaceIn (read : Result ℕ Refusal) (line : ℕ) (walk : List ℕ) : Type 0 where
+pub record PlaceIn (read : Result ℕ Refusal) (line : ℕ) (walk : List (Option ℕ)) : Type 0 where
   pub from_one : (n : ℕ) → read ≡ Ok n → 1 ≤ line
-  pub within : (n : ℕ) → read ≡ Ok n → line - 1 < length walk / 2
+  pub within : (n : ℕ) → read ≡ Ok n → line - 1 < length walk
 
 -- a table laid out at the width at, or none
 unfoldable pub nest_in : ℕ → Result Layout Refusal → Result (Option Nested) Refusal

@@ -11,7 +11,7 @@ use Rattle.records.specs.Kept.{entry_by, entries_of}
 use Rattle.records.proofs.Records.{length_of}
 use Rattle.placing.proofs.RowLoop.{side_start, side_columns, side_sum, side_room, side_turn, side_stop, part_sum}
 use Rattle.placing.proofs.place_side_row.Goals as goal
-use Rattle.placing.proofs.place_side_row.Goals.{After-entry_at-e, After-spread_of-total, In-loop-i}
+use Rattle.placing.proofs.place_side_row.Goals.{After-entry_at-e, After-total-total, In-loop-i}
 
 -- there is one more entry
 less : (c : In-loop-i) → c.loop-i.i < length (entries_of c.args.entries.now)
@@ -21,13 +21,13 @@ less c = omega (arith, c.loop-i-test.true, c.requires.xs_length)
 inside : (c : After-entry_at-e) → c.entry_at-e.result.first + c.entry_at-e.result.span ≤ length c.args.ws.now
 inside c = side_columns _ _ _ _ c.requires _ c.entry_at-e.result c.entry_at-e.ensures (omega (arith, c.loop-i-test.true, c.requires.xs_length))
 
--- what `spread_of` answers is their sum
-sum_is : (c : After-spread_of-total) → let e = c.entry_at-e.result in
-    c.spread_of-total.result ≡ sum (take e.span (drop e.first c.args.ws.now))
-sum_is c = part_sum _ _ c.entry_at-e.result.first c.entry_at-e.result.span _ _ c.spread_of-total.ensures refl refl
+-- what `total` answers is their sum
+sum_is : (c : After-total-total) → let e = c.entry_at-e.result in
+    c.total-total.result ≡ sum (take e.span (drop e.first c.args.ws.now))
+sum_is c = part_sum _ _ c.entry_at-e.result.first c.entry_at-e.result.span _ _ c.total-total.ensures refl refl
 
 -- the entry does not reach too far
-room : (c : After-spread_of-total) → c.loop-i.start + (c.spread_of-total.result + c.entry_at-e.result.span) ≤ max_size + 1
+room : (c : After-total-total) → c.loop-i.start + (c.total-total.result + c.entry_at-e.result.span) ≤ max_size + 1
 room c =
     let l = c.loop-i in
     rw (sum_is c)
@@ -45,28 +45,29 @@ overflow_add-to c = omega (arith, inside (goal.at.overflow_add-to c).After-entry
 pub offset_bounds-ws-from : goal.offset_bounds-ws-from
 offset_bounds-ws-from c = omega (arith, inside (goal.at.offset_bounds-ws-from c).After-entry_at-e)
 
-pub slice_bounds-spread_of-end : goal.slice_bounds-spread_of-end
-slice_bounds-spread_of-end c = omega (arith, inside (goal.at.slice_bounds-spread_of-end c).After-entry_at-e)
+pub slice_bounds-total-end : goal.slice_bounds-total-end
+slice_bounds-total-end c = omega (arith, inside (goal.at.slice_bounds-total-end c).After-entry_at-e)
 
-pub spread_of-total-requires : goal.spread_of-total-requires
-spread_of-total-requires c =
+pub total-total-requires : goal.total-total-requires
+total-total-requires c =
     let e = c.entry_at-e.result in
-    side_sum _ _ _ _ c.requires e.first (e.first + e.span - e.first)
+    let s = side_sum _ _ _ _ c.requires e.first (e.first + e.span - e.first) in
+    omega (arith, s)
 
 pub own_width-requires : goal.own_width-requires
-own_width-requires c = omega (arith, room (goal.at.own_width-requires c).After-spread_of-total)
+own_width-requires c = omega (arith, room (goal.at.own_width-requires c).After-total-total)
 
 pub bounds-wide-i : goal.bounds-wide-i
 bounds-wide-i c = omega (arith, less (goal.at.bounds-wide-i c).In-loop-i, c.loop-i.invariant.wides_length, c.requires.wides_length)
 
 pub next_start-start-requires : goal.next_start-start-requires
-next_start-start-requires c = room (goal.at.next_start-start-requires c).After-spread_of-total
+next_start-start-requires c = room (goal.at.next_start-start-requires c).After-total-total
 
 pub loop-i-preserved : goal.loop-i-preserved
 loop-i-preserved c =
     let l = c.loop-i in
     side_turn _ _ _ _ c.requires l.i c.entry_at-e.result c.entry_at-e.ensures l.x l.wide l.start l.invariant (less (goal.at.loop-i-preserved c).In-loop-i) _ _ _
-    (sum_is (goal.at.loop-i-preserved c).After-spread_of-total) c.own_width.ensures c.next_start-start.ensures
+    (sum_is (goal.at.loop-i-preserved c).After-total-total) c.own_width.ensures c.next_start-start.ensures
 
 pub returns : goal.returns
 returns c =

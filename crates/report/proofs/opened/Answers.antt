@@ -1,7 +1,7 @@
 -- `report::opened` meets its contract: the local arrays have room for every sheet, and a sheet that was walked can be listed (`read_listable`).
 -- Assumes nothing.
 use native.Mathlib.Omega.{arith}
-use Rattle.opening.proofs.Passing.{places_room, figures_room}
+use Rattle.opening.proofs.Passing.{figures_room}
 use Rattle.report.proofs.Ready.{read_listable}
 use Rattle.report.proofs.opened.Goals as goal
 
@@ -10,7 +10,7 @@ walk_sheet-read-requires c =
     record {
       sheet_bound = omega arith;
       figures_in_bounds = figures_room _ _ (omega arith);
-      places_in_bounds = places_room _ _ (omega arith);
+      places_in_bounds = omega arith;
       max_position_in_bounds = omega arith;
       raw_bound = c.requires;
     }

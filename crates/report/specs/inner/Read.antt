@@ -1,16 +1,15 @@
 -- The records that a sheet was read into, the widths of its lines, and its tables. These are definitions; nothing is assumed.
 use Rattle.lists.specs.declared.Refusal.{Refusal}
-use Rattle.std.specs.Prelude.{◌≡◌, List, ℕ, ◌/◌, ◌≤◌, ◌<◌, length, get_or, take, Ok, Result}
+use Rattle.std.specs.Prelude.{◌≡◌, List, ℕ, ◌≤◌, ◌<◌, length, get_or, take, Ok, Result, Option, None}
 use Rattle.lists.specs.Limits.{max_lines, max_size}
 use Rattle.kinds.specs.Kinds.{table_kind}
 use Rattle.text.specs.declared.Estimate.{Estimate}
-use Rattle.records.specs.Kept.{no_kept, no_place, kept_count, kepts_of, places_of}
+use Rattle.records.specs.Kept.{no_kept, kept_count, kepts_of}
 use Rattle.records.specs.declared.Kept.{Kept}
 use Rattle.cells.specs.Listed.{table_rows}
 use Rattle.grid.specs.Facts.{Sound}
 use Rattle.grid.specs.Judging.{Lined}
 use Rattle.table.specs.Arranging.{AllMeasured}
-use Rattle.passing.specs.inner.Places.{width_by}
 use Rattle.walking.specs.inner.Steps.{AtMost}
 
 -- a measured sheet, none of whose tables is refused, and a width at which they can be laid out
@@ -31,12 +30,12 @@ pub record RowsFew (n : ℕ) (rows : List ℕ) : Type 0 where
   pub room : 1 ≤ length rows
 
 -- the widths of so many lines, at which tables can be laid out
-pub record WalkNarrow (n : ℕ) (walk : List ℕ) : Type 0 where
-  pub room : n ≤ length walk / 2
-  pub small : (k : ℕ) → k < n → AtMost max_size (width_by (get_or (places_of walk) k no_place))
+pub record WalkNarrow (n : ℕ) (walk : List (Option ℕ)) : Type 0 where
+  pub room : n ≤ length walk
+  pub small : (k : ℕ) → k < n → AtMost max_size (get_or walk k None)
 
 -- if the sheet is accepted, its lines are the first records, and they can be listed
-pub record ReadListable (read : Result ℕ Refusal) (lines : List ℕ) (figures : List Estimate) (width : ℕ) (walk : List ℕ) : Type 0 where
+pub record ReadListable (read : Result ℕ Refusal) (lines : List ℕ) (figures : List Estimate) (width : ℕ) (walk : List (Option ℕ)) : Type 0 where
   pub front : (n : ℕ) → read ≡ Ok n → n ≤ kept_count lines
   pub few : (n : ℕ) → read ≡ Ok n → n ≤ max_lines
   pub listable : (n : ℕ) → read ≡ Ok n → Listable (take n (kepts_of lines)) figures width

@@ -1,4 +1,5 @@
 -- `walking::walk` meets its contract: the slice that is cleared holds no width, and the rest is `walk_lines`. Assumes nothing.
+use native.Mathlib.Omega.{arith}
 use Rattle.walking.proofs.Clear.{cleared}
 use Rattle.walking.proofs.walk.Goals as goal
 
@@ -7,6 +8,6 @@ walk_lines-requires c =
     record {
       walkable = c.requires.walkable;
       raw_bound = c.requires.raw_bound;
-      cleared = cleared _ c.args.walk.now c.keep_front.new.buffer c.requires.lines_in_bounds c.keep_front.ensures;
+      cleared = cleared _ c.args.walk.now c.fill.new.self c.requires.lines_in_bounds (c.fill.ensures.after (λ y h. grind (arith, h)));
       rooms = c.requires.rooms;
     }

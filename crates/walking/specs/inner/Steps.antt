@@ -1,15 +1,14 @@
 -- A step of the walk, and what is asked for and left in slices. These are definitions; nothing is assumed.
 use Rattle.lists.specs.declared.Refusal.{Refusal}
-use Rattle.std.specs.Prelude.{◌≡◌, cond, List, [], ◌∷◌, map, ℕ, ◌-◌, ◌/◌, ◌≤◌, ◌<◌, eqb, length, get_or, set, take, Ok, Result, None, Option, Some}
+use Rattle.std.specs.Prelude.{◌≡◌, cond, List, [], ◌∷◌, ℕ, ◌-◌, ◌/◌, ◌≤◌, ◌<◌, eqb, length, get_or, set, take, Ok, Result, None, Option, Some}
 use Prim.{Unit}
 use Rattle.lists.specs.Limits.{max_lines, max_entries, max_position, max_size}
 use Rattle.lists.specs.Refusals.{verdict_of}
 use Rattle.text.specs.declared.Estimate.{Estimate}
 use Rattle.kinds.specs.Kinds.{table_kind, cell_kind}
-use Rattle.records.specs.Kept.{no_kept, no_entry, no_place, kept_count, kepts_of}
+use Rattle.records.specs.Kept.{no_kept, no_entry, kept_count, kepts_of}
 use Rattle.records.specs.declared.Kept.{Kept}
 use Rattle.records.specs.declared.Entry.{Entry}
-use Rattle.records.specs.declared.Place.{Place}
 use Rattle.cells.specs.Listed.{table_rows}
 use Rattle.grid.specs.Facts.{Sound, CellOf}
 use Rattle.grid.specs.Judging.{Lined}
@@ -17,7 +16,6 @@ use Rattle.estimates.specs.Estimates.{none, estimates}
 use Rattle.estimates.specs.Sheet.{Sheet}
 use Rattle.table.specs.Arranging.{AllMeasured}
 use Rattle.passing.specs.Walk.{passed_on, printed, cell_width, walk, narrow_checks}
-use Rattle.passing.specs.inner.Places.{width_place, width_by}
 
 -- ---- what is walked
 
@@ -53,14 +51,14 @@ abbrev pub cell_in : Entry → ℕ
 cell_in e = e.cell
 
 -- each entry's width at the place of its cell's line; an entry of line 0, a filler, has none
-unfoldable pub printed_by : List ℕ → List ℕ → List Place → List Place
+unfoldable pub printed_by : List ℕ → List ℕ → List (Option ℕ) → List (Option ℕ)
 printed_by [] vs ps = ps
 printed_by (c ∷ cs) [] ps = ps
 printed_by (c ∷ cs) (v ∷ vs) ps =
-    cond (eqb c 0) (printed_by cs vs ps) (set (printed_by cs vs ps) (c - 1) (width_place (printed v)))
+    cond (eqb c 0) (printed_by cs vs ps) (set (printed_by cs vs ps) (c - 1) (printed v))
 
 -- what storing the first n takes
-pub record CellsFit (n : ℕ) (es : List Entry) (wide : List ℕ) (ps : List Place) : Type 0 where
+pub record CellsFit (n : ℕ) (es : List Entry) (wide : List ℕ) (ps : List (Option ℕ)) : Type 0 where
   pub entries_in_fits : n ≤ length es
   pub wide_in : n ≤ length wide
   pub room : (k : ℕ) → k < n → (get_or es k no_entry).cell ≤ length ps
@@ -80,38 +78,38 @@ abbrev pub CellIn : List Kept → ℕ → ℕ → Type 0
 CellIn ks t i = ((get_or ks t no_kept).kind ≡ table_kind) × CellOf ks t i
 
 -- the table at place t that has this width gives its cells theirs, where they had none; what else was there stays
-pub record HandedOut (ks : List Kept) (t : ℕ) (figures : List Estimate) (raw : ℕ) (w : Option ℕ) (ps₀ ps : List Place) : Type 0 where
-  pub cell : (wrap : ℕ) → take (length ks) figures ≡ estimates wrap ks → (i : ℕ) → CellIn ks t i → get_or ps₀ i no_place ≡ no_place
-      → get_or ps i no_place ≡ width_place (cell_width wrap raw ks t w i)
-  pub other : (i : ℕ) → (CellIn ks t i → ⊥) → get_or ps i no_place ≡ get_or ps₀ i no_place
+pub record HandedOut (ks : List Kept) (t : ℕ) (figures : List Estimate) (raw : ℕ) (w : Option ℕ) (ps₀ ps : List (Option ℕ)) : Type 0 where
+  pub cell : (wrap : ℕ) → take (length ks) figures ≡ estimates wrap ks → (i : ℕ) → CellIn ks t i → get_or ps₀ i None ≡ None
+      → get_or ps i None ≡ cell_width wrap raw ks t w i
+  pub other : (i : ℕ) → (CellIn ks t i → ⊥) → get_or ps i None ≡ get_or ps₀ i None
 
 -- ---- one line
 
 -- its width, by what stands at its place and what the nearest line of each depth passes on
-abbrev pub own_width : ℕ → ℕ → Kept → List Place → List Place → Option ℕ
-own_width root i k ps qs = cond (eqb i 0) (Some root) (cond (eqb k.kind cell_kind) (width_by (get_or ps i no_place)) (width_by (get_or qs (k.depth - 1) no_place)))
+abbrev pub own_width : ℕ → ℕ → Kept → List (Option ℕ) → List (Option ℕ) → Option ℕ
+own_width root i k ps qs = cond (eqb i 0) (Some root) (cond (eqb k.kind cell_kind) (get_or ps i None) (get_or qs (k.depth - 1) None))
 
 -- the line at place i is one of the sheet's, and its depth has a place
-pub record LineHere (lines figures walk passed : List ℕ) (i : ℕ) : Type 0 where
+pub record LineHere (lines figures : List ℕ) (walk passed : List (Option ℕ)) (i : ℕ) : Type 0 where
   pub within : i < kept_count lines
   pub figure_in : i < length figures / 3
-  pub place_in : i < length walk / 2
-  pub depth_in : (get_or (kepts_of lines) i no_kept).depth < length passed / 2
+  pub place_in : i < length walk
+  pub depth_in : (get_or (kepts_of lines) i no_kept).depth < length passed
 
-pub record Stepped (ks : List Kept) (figures : List Estimate) (root i : ℕ) (w : Option ℕ) (ps₀ qs₀ ps qs : List Place) : Type 0 where
+pub record Stepped (ks : List Kept) (figures : List Estimate) (root i : ℕ) (w : Option ℕ) (ps₀ qs₀ ps qs : List (Option ℕ)) : Type 0 where
   pub width_is : w ≡ own_width root i (get_or ks i no_kept) ps₀ qs₀
-  pub written : ps ≡ set ps₀ i (width_place w)
-  pub passes : qs ≡ set qs₀ (get_or ks i no_kept).depth (width_place (passed_on (get_or ks i no_kept).kind (get_or figures i none) w))
+  pub written : ps ≡ set ps₀ i w
+  pub passes : qs ≡ set qs₀ (get_or ks i no_kept).depth (passed_on (get_or ks i no_kept).kind (get_or figures i none) w)
 
 -- ---- the walk
 
 -- places for the lines, without any width yet
-pub record Cleared (lines : ℕ) (ps : List Place) : Type 0 where
+pub record Cleared (lines : ℕ) (ps : List (Option ℕ)) : Type 0 where
   pub line_room : lines ≤ length ps
-  pub no_width : (i : ℕ) → get_or ps i no_place ≡ no_place
+  pub no_width : (i : ℕ) → get_or ps i None ≡ None
 
 -- the answer, and where it is accepted the width of each line, at which a table can be laid out
-pub record Walked (ks : List Kept) (figures : List Estimate) (raw root overflow : ℕ) (r : Result (Unit {0}) Refusal) (ps : List Place) : Type 0 where
+pub record Walked (ks : List Kept) (figures : List Estimate) (raw root overflow : ℕ) (r : Result (Unit {0}) Refusal) (ps : List (Option ℕ)) : Type 0 where
   pub answer : (wrap : ℕ) → take (length ks) figures ≡ estimates wrap ks → r ≡ verdict_of (narrow_checks wrap raw root overflow ks)
-  pub widths : (wrap : ℕ) → take (length ks) figures ≡ estimates wrap ks → r ≡ (Ok tt) → take (length ks) ps ≡ map width_place (walk wrap raw root ks)
+  pub widths : (wrap : ℕ) → take (length ks) figures ≡ estimates wrap ks → r ≡ (Ok tt) → take (length ks) ps ≡ walk wrap raw root ks
   pub small : (wrap : ℕ) → take (length ks) figures ≡ estimates wrap ks → r ≡ (Ok tt) → (k : ℕ) → AtMost max_size (get_or (walk wrap raw root ks) k None)

@@ -1,9 +1,8 @@
 -- What is found in a sheet that is walked, by its bytes. These are definitions; nothing is assumed.
 use Rattle.lists.specs.declared.Refusal.{Refusal}
-use Rattle.std.specs.Prelude.{◌≡◌, List, map, ℕ, ◌/◌, ◌≤◌, length, take, Err, Ok, Result}
+use Rattle.std.specs.Prelude.{◌≡◌, List, map, ℕ, ◌≤◌, length, take, Err, Ok, Result, Option}
 use Rattle.lists.specs.Limits.{max_lines}
 use Rattle.lists.specs.Refusals.{Check, first_answer, if_passes}
-use Rattle.records.specs.declared.Place.{Place}
 use Rattle.sheet.specs.Sheet.{sheet_lines}
 use Rattle.passing.specs.Walk.{given_number, width_number}
 use Rattle.sheet_figures.specs.inner.Opened.{lines_in}
@@ -15,20 +14,15 @@ pub record WalkRoom (given wide : List ℕ) : Type 0 where
   pub wide_room : max_lines ≤ length wide
 
 -- so many widths, and places for their figures
-pub record TellRoom (n : ℕ) (walk given wide : List ℕ) : Type 0 where
-  pub walk_in : n ≤ length walk / 2
+pub record TellRoom (n : ℕ) (walk : List (Option ℕ)) (given wide : List ℕ) : Type 0 where
+  pub walk_in : n ≤ length walk
   pub given_in : n ≤ length given
   pub wide_in : n ≤ length wide
 
-abbrev pub first_in : Place → ℕ
-first_in p = p.first
-
-abbrev pub span_in : Place → ℕ
-span_in p = p.span
-
-pub record WalkTold (n : ℕ) (ps : List Place) (given wide : List ℕ) : Type 0 where
-  pub givens : take n given ≡ map first_in (take n ps)
-  pub wides : take n wide ≡ map span_in (take n ps)
+-- each number of the first n of them, in its buffer
+pub record WalkTold (n : ℕ) (ps : List (Option ℕ)) (given wide : List ℕ) : Type 0 where
+  pub givens : take n given ≡ map given_number (take n ps)
+  pub wides : take n wide ≡ map width_number (take n ps)
 
 -- the walk found in the sheet, or the first refusal; the figures stand in the first places
 pub record WalkFound (cs : List Check) (s : List ℕ) (wrap raw width : ℕ) (r : Result ℕ Refusal) (given wide : List ℕ) : Type 0 where

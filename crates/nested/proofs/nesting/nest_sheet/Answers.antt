@@ -2,7 +2,7 @@
 -- Assumes nothing.
 use mathlib.Core.Path.{refl}
 use native.Mathlib.Omega.{arith}
-use Rattle.opening.proofs.Passing.{places_room, figures_room}
+use Rattle.opening.proofs.Passing.{figures_room}
 use Rattle.call_layout.proofs.Found.{out_still}
 use Rattle.nested.proofs.NestCall.{nest_asked, nest_measured, place_in, width_small, nest_found}
 use Rattle.nested.proofs.nesting.nest_sheet.Goals as goal
@@ -12,7 +12,7 @@ walk_sheet-read-requires c =
     record {
       sheet_bound = omega arith;
       figures_in_bounds = figures_room _ _ (omega arith);
-      places_in_bounds = places_room _ _ (omega arith);
+      places_in_bounds = omega arith;
       max_position_in_bounds = c.requires.out_room.column_room;
       raw_bound = c.requires.raw_bound;
     }

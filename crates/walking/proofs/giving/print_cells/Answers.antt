@@ -1,7 +1,8 @@
 -- `walking::giving::print_cells` meets its contract. The loop's invariant (`Sofar`): what stands in the slice is what the entries from place k on give.
 -- Assumes nothing.
+use mathlib.Core.Path.{refl}
 use native.Mathlib.Omega.{arith}
-use Rattle.records.specs.Kept.{entry_by, place_by}
+use Rattle.records.specs.Kept.{entry_by}
 use Rattle.records.proofs.Records.{length_of}
 use Rattle.walking.proofs.CellLoop.{start, stop, turn_cell, turn_filler, cell_place}
 use Rattle.walking.proofs.giving.print_cells.Goals as goal
@@ -12,17 +13,12 @@ loop-k-init c = start c.requires
 pub entry_at-e-requires : goal.entry_at-e-requires
 entry_at-e-requires c = omega (arith, c.loop-k.auto.k, c.loop-k-test.true, c.requires.entries_in_fits, length_of 3 entry_by c.args.entries.now)
 
-pub put_place-requires : goal.put_place-requires
-put_place-requires c =
-    omega (
-      arith,
-      cell_place c.requires c.loop-k.invariant c.loop-k-test.true _ c.entry_at-e.ensures c.if-e-ne0.true,
-      length_of 2 place_by c.args.walk.now,
-      c.loop-k.auto.walk,
-    )
+pub bounds-walk-at : goal.bounds-walk-at
+bounds-walk-at c =
+    omega (arith, cell_place c.requires c.loop-k.invariant c.loop-k-test.true _ c.entry_at-e.ensures c.if-e-ne0.true, c.loop-k.auto.walk)
 
 pub loop-k-preserved-then-e-ne0 : goal.loop-k-preserved-then-e-ne0
-loop-k-preserved-then-e-ne0 c = turn_cell c.requires c.loop-k.invariant c.loop-k-test.true _ c.entry_at-e.ensures c.if-e-ne0.true _ c.printed.ensures _ c.put_place.ensures
+loop-k-preserved-then-e-ne0 c = turn_cell c.requires c.loop-k.invariant c.loop-k-test.true _ c.entry_at-e.ensures c.if-e-ne0.true _ c.printed.ensures _ refl
 
 pub loop-k-preserved : goal.loop-k-preserved
 loop-k-preserved c = turn_filler c.requires c.loop-k.invariant c.loop-k-test.true _ c.entry_at-e.ensures c.if-e-ne0.false

@@ -1,11 +1,9 @@
 -- `walking::steps::step` meets its contract: what each call says, one after the other. Assumes nothing.
-use mathlib.Core.Path.{ap, ◌∙◌}
+use mathlib.Core.Path.{refl, ap, ◌∙◌}
 use native.Mathlib.Omega.{arith}
 use lib.ListN.{set}
-use Rattle.records.specs.Kept.{places_of}
 use Rattle.records.specs.declared.Kept.{Kept}
 use Rattle.passing.specs.Walk.{passed_on}
-use Rattle.passing.specs.inner.Places.{width_place}
 use Rattle.walking.specs.inner.Steps.{own_width}
 use Rattle.walking.proofs.steps.step.Goals as goal
 
@@ -16,19 +14,18 @@ own_width-own-requires c =
       depth_in_bounds = omega (arith, c.requires.depth_in, ap (λ (k : Kept). k.depth) c.kept_at-here.ensures);
     }
 
-pub put_place-requires-2 : goal.put_place-requires-2
-put_place-requires-2 c = omega (arith, c.requires.depth_in, ap (λ (k : Kept). k.depth) c.kept_at-here.ensures)
+pub bounds-passed-here : goal.bounds-passed-here
+bounds-passed-here c = omega (arith, c.requires.depth_in, ap (λ (k : Kept). k.depth) c.kept_at-here.ensures)
 
 pub returns : goal.returns
 returns c =
     let k = c.kept_at-here.ensures in
-    let ps = places_of c.args.walk.now in
-    let qs = places_of c.args.passed.now in
+    let ps = c.args.walk.now in
+    let qs = c.args.passed.now in
     record {
       width_is = c.own_width-own.ensures ∙ ap (λ (l : Kept). own_width c.args.width c.args.i l ps qs) k;
-      written = c.put_place.ensures ∙ ap (set ps c.args.i) c.place_of.ensures;
+      written = refl;
       passes =
-          c.put_place-2.ensures
-          ∙ ap (set qs c.kept_at-here.result.depth) (c.place_of-2.ensures ∙ ap width_place c.passed_on.ensures)
-          ∙ (λ j. set qs (k j).depth (width_place (passed_on (k j).kind (c.estimate_at-e.ensures j) c.own_width-own.result)));
+          ap (set qs c.kept_at-here.result.depth) c.passed_on.ensures
+          ∙ (λ j. set qs (k j).depth (passed_on (k j).kind (c.estimate_at-e.ensures j) c.own_width-own.result));
     }

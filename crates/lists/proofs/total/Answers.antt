@@ -1,4 +1,4 @@
--- `estimates::spread::total` meets its contract: std's sum of the figures is theirs here, and fits. Assumes nothing.
+-- `lists::total` meets its contract: std's sum of the figures is theirs here, and fits. Assumes nothing.
 use mathlib.Core.Path.{◌≡◌, refl}
 use Prim.Native.Nat.{◌<◌}
 use native.Mathlib.Omega.{arith}
@@ -6,7 +6,7 @@ use Rattle.std.proofs.Common.{rules}
 use Rattle.std.specs.List.{sum_by}
 use Rattle.std.proofs.lemmas.List.Recursion.{is_sum_by}
 use Rattle.lists.specs.Lists.{sum}
-use Rattle.estimates.proofs.spread.total.Goals as goal
+use Rattle.lists.proofs.total.Goals as goal
 
 pub sum-requires-clause-fits : goal.sum-requires-clause-fits
 unfolding sum

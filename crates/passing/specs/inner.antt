@@ -1,2 +1,0 @@
--- Widths as records.
-pub mod Places
