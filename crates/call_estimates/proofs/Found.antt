@@ -3,37 +3,24 @@ use Rattle.lists.specs.declared.Refusal.{Refusal}
 use Rattle.std.specs.Prelude.{Err, Ok, Result, None, Some}
 use mathlib.Core.Path.{◌≡◌, refl, sym, ap, ◌∙◌}
 use mathlib.Core.List.{List, map}
-use Prim.Native.Nat.{ℕ, ◌/◌, ◌≤◌}
+use Prim.Native.Nat.{ℕ, ◌≤◌}
 use native.Mathlib.Omega.{arith}
 use lib.ListN.{length, take, length-map}
-use Rattle.lists.specs.Lists.{over}
 use Rattle.lists.specs.Refusals.{Check, if_passes}
 use Rattle.text.specs.declared.Estimate.{Estimate}
-use Rattle.records.specs.Records.{numbers_of}
 use Rattle.sheet.specs.Sheet.{sheet_lines}
 use Rattle.sheet.proofs.First.{first_passes, figures_fail, front_pass}
 use Rattle.sheet.specs.Steps.{room_for}
 use Rattle.estimates.specs.Estimates.{estimates, measured, est_of}
 use Rattle.estimates.proofs.Laws.{length_all}
-use Rattle.estimates.specs.inner.Figures.{figure_by, figures_of}
 use Rattle.opening.specs.Opening.{kept_lines, open_checks, opened_of}
 use Rattle.opening.specs.inner.Measures.{SheetMeasured}
-use Rattle.table.proofs.Rooms.{unpacked}
 use Rattle.sheet_figures.specs.Figures.{line_size, line_least, line_prefix}
 use Rattle.sheet_figures.specs.inner.Opened.{lines_in}
 use Rattle.call_estimates.specs.inner.Found.{LinesRoom, FiguresFit, FiguresTold, EstimatesFound, EstimatesTried}
 use Rattle.std.specs.Prelude.{Some, None}
 use Rattle.opening.proofs.Passing.{passed}
 use Rattle.sheet_figures.proofs.Openings.{failed, lines_few}
-
-pub figures_told : (n : ℕ) (figures size₀ least₀ prefix₀ : List ℕ) {size least prefix : List ℕ} → n ≤ length figures / 3
-    → size ≡ over (numbers_of 3 0 n figures) size₀ → least ≡ over (numbers_of 3 1 n figures) least₀ → prefix ≡ over (numbers_of 3 2 n figures) prefix₀
-    → FiguresTold n (figures_of figures) size least prefix
-figures_told n xs p q r h a b c = record {
-  sizes = unpacked 3 0 n xs p figure_by line_size (λ r. refl) h a;
-  leasts = unpacked 3 1 n xs q figure_by line_least (λ r. refl) h b;
-  prefixes = unpacked 3 2 n xs r figure_by line_prefix (λ r. refl) h c;
-}
 
 -- buffers that are as long as they were have the same room
 pub lines_still : {size size' least least' prefix prefix' : List ℕ} → length size' ≡ length size → length least' ≡ length least → length prefix' ≡ length prefix
@@ -42,7 +29,7 @@ lines_still a b c l = record { size_room = omega (arith, l.size_room); least_roo
 
 module _ {s : List ℕ} {wrap : ℕ} {r : Result ℕ Refusal} {lines : List ℕ} {fs : List Estimate} (m : SheetMeasured None s wrap r lines fs) {n : ℕ} (e : n ≡ lines_in r) where
   -- the figures of all lines are there, and places for them
-  pub figures_fit : {figures size least prefix : List ℕ} → LinesRoom size least prefix → room_for s ≤ length figures / 3 → FiguresFit n figures size least prefix
+  pub figures_fit : {figures : List Estimate} {size least prefix : List ℕ} → LinesRoom size least prefix → room_for s ≤ length figures → FiguresFit n figures size least prefix
   figures_fit l h =
       let f = lines_few None s r m.opened.answer in
       record {

@@ -2,12 +2,12 @@
 ghost use Rattle.std.specs.Prelude.{◌*◌, ◌≡◌, false, ◌≤◌, None, ◌/◌, IsSome, Some};
 ghost use Rattle.lists.specs.Limits.{max_entries, max_lines};
 ghost use Rattle.sheet.specs.Steps.{room_for};
-ghost use Rattle.estimates.specs.inner.Figures.{figures_of};
 ghost use Rattle.opening.specs.Opening.{open_checks, opened_of};
 ghost use Rattle.call_estimates.specs.inner.Found.{LinesRoom, FiguresFit, FiguresTold, EstimatesFound, EstimatesTried};
 
 use lists::{MAX_LINES, Refusal, SMALL_LINES};
 use opening::{ENTRIES, FIGURES, KEPT, ROWS, SMALL_ENTRIES, SMALL_FIGURES, SMALL_KEPT, SMALL_ROWS};
+use text::Estimate;
 
 // What reading a sheet and checking its tables answers, in arrays of L numbers for its lines and N for the scratch. It is never taken into its caller's
 // frame: so a small sheet does not pay for the room of a large one.
@@ -34,13 +34,21 @@ pub fn check_within(sheet: &[u8]) -> Result<usize, Refusal>
 }
 
 // The three figures of each of the first n lines, each to its buffer.
-fn write_figures(n: usize, figures: &[u32], size: &mut [u32], least: &mut [u32], prefix: &mut [u32])
+fn write_figures(
+    n: usize,
+    figures: &[Estimate],
+    size: &mut [u32],
+    least: &mut [u32],
+    prefix: &mut [u32],
+)
     requires { FiguresFit n figures.now size.old least.old prefix.old }
-    ensures { FiguresTold n (figures_of figures.now) size.new least.new prefix.new }
+    ensures { FiguresTold n figures.now size.new least.new prefix.new }
 {
-    records::unpack(figures, 3, 0, n, size);
-    records::unpack(figures, 3, 1, n, least);
-    records::unpack(figures, 3, 2, n, prefix);
+    for i in 0..n {
+        size[i] = figures[i].size;
+        least[i] = figures[i].least;
+        prefix[i] = figures[i].prefix;
+    }
 }
 
 // The estimates of a sheet, in arrays of L numbers for its lines, F for their estimates, E for the entries and R for the rows of a grid; none, if they do
@@ -53,14 +61,14 @@ fn estimates_in<const L: usize, const F: usize, const E: usize, const R: usize>(
     least: &mut [u32],
     prefix: &mut [u32],
 ) -> Option<Result<usize, Refusal>>
-    requires room { (room_for sheet.now ≤ L / 2) × (room_for sheet.now ≤ F / 3) }
-    requires sizes { (L ≤ 2 * max_lines) × (F ≤ 3 * max_lines) × (E ≤ 3 * max_entries) × (R ≤ 2 * max_lines) }
+    requires room { (room_for sheet.now ≤ L / 2) × (room_for sheet.now ≤ F) }
+    requires sizes { (L ≤ 2 * max_lines) × (F ≤ max_lines) × (E ≤ 3 * max_entries) × (R ≤ 2 * max_lines) }
     requires lines_room { LinesRoom size.old least.old prefix.old }
     ensures tried { EstimatesTried (open_checks None sheet.now) sheet.now wrap result size.new least.new prefix.new }
     ensures any { max_entries ≤ E / 3 → max_lines ≤ R / 2 → IsSome result }
 {
     let mut lines = [0u32; L];
-    let mut figures = [0u32; F];
+    let mut figures = [estimates::NONE; F];
     let mut entries = [0u32; E];
     let mut rows = [0u32; R];
     let read = opening::open_sheet(sheet, None, &mut lines, size);

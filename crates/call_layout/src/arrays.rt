@@ -23,15 +23,15 @@ fn layout_in<const L: usize, const F: usize, const E: usize, const R: usize>(
     x: &mut [u32],
     wide: &mut [u32],
 ) -> Option<Result<Layout, Refusal>>
-    requires lines_room { (room_for sheet.now ≤ L / 2) × (room_for sheet.now ≤ F / 3) }
-    requires sizes { (L ≤ 2 * max_lines) × (F ≤ 3 * max_lines) × (E ≤ 3 * max_entries) × (R ≤ 2 * max_lines) }
+    requires lines_room { (room_for sheet.now ≤ L / 2) × (room_for sheet.now ≤ F) }
+    requires sizes { (L ≤ 2 * max_lines) × (F ≤ max_lines) × (E ≤ 3 * max_entries) × (R ≤ 2 * max_lines) }
     requires in_range { InRange settings × OutRoom column.old x.old wide.old }
     ensures tried { LayoutTried (open_checks (Some line) sheet.now) sheet.now line settings result
         column.new x.new wide.new }
     ensures any { max_entries ≤ E / 3 → max_lines ≤ R / 2 → IsSome result }
 {
     let mut lines = [0u32; L];
-    let mut figures = [0u32; F];
+    let mut figures = [estimates::NONE; F];
     let mut entries = [0u32; E];
     let mut rows = [0u32; R];
     let read = opening::open_sheet(sheet, Some(line), &mut lines, column);

@@ -1,13 +1,13 @@
 // The layout of the table in a line of a sheet that was read, whose cells are measured.
 ghost use Rattle.std.specs.Prelude.{◌≡◌, ◌≤◌, ◌/◌, length};
 ghost use Rattle.lists.specs.Limits.{max_entries, max_position, max_size};
-ghost use Rattle.estimates.specs.inner.Figures.{figures_of};
 ghost use Rattle.table.specs.inner.Asked.{OutRoom};
 ghost use Rattle.sheet_figures.specs.inner.Opened.{AskedIn, MostIn, MeasuredIn};
 ghost use Rattle.call_layout.specs.inner.Read.{answer_of, LayoutRead};
 
 use answers::Layout;
 use lists::Refusal;
+use text::Estimate;
 
 // An arrangement as the call answers it.
 fn answer_of(a: table::Arrangement) -> Layout
@@ -30,7 +30,7 @@ pub fn layout_read(
     read: Result<usize, Refusal>,
     line: u32,
     lines: &[u32],
-    figures: &[u32],
+    figures: &[Estimate],
     raw: u32,
     width: u32,
     entries: &mut [u32],
@@ -41,10 +41,10 @@ pub fn layout_read(
 ) -> Result<Layout, Refusal>
     requires asked_in { AskedIn read lines.now line }
     requires most_in { MostIn read lines.now line (length entries.old / 3) (length rows.old / 2) }
-    requires measured_in { MeasuredIn read lines.now line (figures_of figures.now) }
+    requires measured_in { MeasuredIn read lines.now line figures.now }
     requires width_le_max_size { width ≤ max_size }
     requires out_room { OutRoom column.old x.old wide.old }
-    ensures { LayoutRead read lines.now line (figures_of figures.now) raw width result
+    ensures { LayoutRead read lines.now line figures.now raw width result
         column.new x.new wide.new }
 {
     let n = read?;

@@ -6,11 +6,11 @@ pub mod fronts; // those of a table whose records stand in the front of slices
 ghost use Rattle.std.specs.Prelude.{◌≡◌, length};
 ghost use Rattle.records.specs.Kept.{entries_of};
 ghost use Rattle.columns.specs.Columns.{up_to};
-ghost use Rattle.estimates.specs.inner.Figures.{figures_of};
 ghost use Rattle.causes.specs.Causes.{cause_of, cause_number};
 ghost use Rattle.causes.specs.inner.Telling.{Tellable, Told, Causable, number_at};
 ghost use Rattle.causes.specs.inner.Hidden.{none_shown, Listable, Listed};
 
+use text::Estimate;
 use widths::Laid;
 
 // Shown is no cause: the column is not 0 wide. Of the others the first that holds is said: the page has width 0, the column is empty, its share is
@@ -55,7 +55,7 @@ pub fn cause_of(width: u32, size: u32, share: u32, wide: u32) -> Cause
 // The sizes, the leasts, the shares and the final widths of a table's columns. Laying them out overwrites no share.
 pub fn tell_columns(
     entries: &[u32],
-    figures: &[u32],
+    figures: &[Estimate],
     raw: u32,
     width: u32,
     sizes: &mut [u32],
@@ -63,8 +63,8 @@ pub fn tell_columns(
     shares: &mut [u32],
     column: &mut [u32],
 ) -> Laid
-    requires { Tellable (entries_of entries.now) (figures_of figures.now) sizes.old leasts.old shares.old column.old }
-    ensures { Told (entries_of entries.now) (figures_of figures.now) (length column.old) raw width
+    requires { Tellable (entries_of entries.now) figures.now sizes.old leasts.old shares.old column.old }
+    ensures { Told (entries_of entries.now) figures.now (length column.old) raw width
         sizes.new leasts.new shares.new column.new result }
 {
     sizing::raise_columns(entries, figures, sizes, leasts);

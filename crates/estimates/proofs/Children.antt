@@ -16,10 +16,8 @@ use Rattle.records.specs.declared.Kept.{Kept}
 use Rattle.records.proofs.Kepts.{length_kepts}
 use Rattle.estimates.specs.Estimates.{estimate, none, Children, gather, leaf_of, prefix_of, holder_of}
 use Rattle.estimates.specs.Sheet.{Sheet, line_at}
-use Rattle.estimates.specs.inner.Figures.{figures_of}
 use Rattle.estimates.specs.inner.Cycle.{NodeReady, Ends, Passed, Plain, Holder, Numbered, Fitting, NodeMeets, CellMeets, TableMeets, est_at, done_of, held_at, held_of, weight}
 use Rattle.estimates.specs.declared.Part.{Part}
-use Rattle.estimates.proofs.Packing.{length_figures}
 use Rattle.estimates.proofs.Laws.{gather_stop, gather_child}
 use Rattle.estimates.proofs.ByKind.{leaf_est, holder_est}
 use Rattle.estimates.proofs.Nesting.{may}
@@ -28,14 +26,14 @@ use Rattle.estimates.proofs.Weighing.{weight_more, fits}
 use Rattle.estimates.proofs.Passing.{step, stored, begin}
 
 -- slices as the walk takes them: each line has a result, and a call for another line finds them so again
-module _ {lines figures leasts entries rows : List ℕ} {at : ℕ} (r : NodeReady lines figures leasts entries rows at) where
+module _ {lines : List ℕ} {figures : List Estimate} {leasts entries rows : List ℕ} {at : ℕ} (r : NodeReady lines figures leasts entries rows at) where
   pub inside : {i : ℕ} → i < kept_count lines → i < length (kepts_of lines)
   inside h = omega (arith, length_kepts lines)
 
-  pub roomy : length (kepts_of lines) ≤ length (figures_of figures)
-  roomy = omega (arith, r.figures_fit, length_kepts lines, length_figures figures)
+  pub roomy : length (kepts_of lines) ≤ length figures
+  roomy = omega (arith, r.figures_fit, length_kepts lines)
 
-  pub again : {figures' leasts' entries' rows' : List ℕ} {i : ℕ} → length figures' ≡ length figures → length leasts' ≡ length leasts → length entries' ≡ length entries
+  pub again : {figures' : List Estimate} {leasts' entries' rows' : List ℕ} {i : ℕ} → length figures' ≡ length figures → length leasts' ≡ length leasts → length entries' ≡ length entries
       → length rows' ≡ length rows → i < kept_count lines → NodeReady lines figures' leasts' entries' rows' i
   again e f g h k = record {
     sheet = r.sheet;

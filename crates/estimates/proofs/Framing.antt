@@ -29,7 +29,6 @@ use Rattle.grid.proofs.GridCells.{IsCell, entries_cells, held_owners}
 use Rattle.estimates.specs.Estimates.{estimate, none, undone, est_of, estimates, Children}
 use Rattle.estimates.specs.Sheet.{Sheet, line_at}
 use Rattle.estimates.specs.Meets.{Bounded, CellsMeasured}
-use Rattle.estimates.specs.inner.Figures.{figures_of}
 use Rattle.estimates.specs.inner.Spread.{spread_cells, tabled_by, entry_boxes, records_at, FiguresReady, Tabulated}
 use Rattle.estimates.specs.inner.Cycle.{NodeReady, Ends, Passed, FilledAt, Holder, CellsPassed, CellMeets, TableMeets, est_at, done_of, held_at, weight, size_in, sizes_of, sizes_from}
 use Rattle.estimates.specs.declared.Part.{Part}
@@ -221,10 +220,10 @@ module _ {wrap : ℕ} {ls : List Kept} {b : List Estimate} {at : ℕ} (w : Sheet
           }
 
 -- what the table's figures take, in slices
-pub table_ready : {wrap : ℕ} {lines figures₀ leasts₀ entries₀ rows₀ : List ℕ} {b : List Estimate} {at i scratch : ℕ} (figures es rs : List ℕ)
-    → NodeReady lines figures₀ leasts₀ entries₀ rows₀ at → (line_at (kepts_of lines) at).kind ≡ table_kind → CellsPassed wrap (kepts_of lines) b (figures_of figures) at i
+pub table_ready : {wrap : ℕ} {lines : List ℕ} {figures₀ : List Estimate} {leasts₀ entries₀ rows₀ : List ℕ} {b : List Estimate} {at i scratch : ℕ} (figures : List Estimate) (es rs : List ℕ)
+    → NodeReady lines figures₀ leasts₀ entries₀ rows₀ at → (line_at (kepts_of lines) at).kind ≡ table_kind → CellsPassed wrap (kepts_of lines) b figures at i
     → scratch ≡ length leasts₀ → length es ≡ length entries₀ → length rs ≡ length rows₀
-    → FiguresReady (kepts_of lines) at (figures_of figures) scratch (length (entries_of es)) (length (rows_of rs))
+    → FiguresReady (kepts_of lines) at figures scratch (length (entries_of es)) (length (rows_of rs))
 table_ready {lines = lines} {entries₀ = entries₀} {rows₀ = rows₀} {at = at} figures es rs r t l f g h =
     let a : at < length (kepts_of lines) = omega (arith, length_kepts lines, r.within) in
     let x : length (entries_of es) ≡ length entries₀ / 3 = length_of 3 entry_by es ∙ ap (λ (k : ℕ). k / 3) g in

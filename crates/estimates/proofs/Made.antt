@@ -26,7 +26,6 @@ use Rattle.grid.proofs.GridCells.{IsCell, entries_cells}
 use Rattle.gridding.specs.declared.Counts.{Counts}
 use Rattle.gridding.specs.Packed.{TableMade}
 use Rattle.estimates.specs.Estimates.{Done, undone, none, estimate, box_rows, tabled}
-use Rattle.estimates.specs.inner.Figures.{figures_of}
 use Rattle.estimates.specs.inner.Spread.{entry_boxes, EntryFits, TabulateReady, Tabulated, records_at, FiguresReady}
 use Rattle.estimates.specs.declared.Part.{Part}
 use Rattle.estimates.proofs.Fillers.{Estimated, flat_boxes, tabled_records}
@@ -54,7 +53,7 @@ module _ {ks : List Kept} {at scratch m n : ℕ} {es : List Estimate} (r : Figur
   records_fit = all_map (λ e. EntryFits es (columns_of (table_rows ks at)) (shown e)) (EntryFits es (columns_of (table_rows ks at))) shown (λ e p. p) xs entries_fit
 
 -- what is read of the records, once the grid is made
-module _ {ks : List Kept} {at scratch m n : ℕ} (figures entries : List ℕ) (r : FiguresReady ks at (figures_of figures) scratch m n) {counts : Counts} {rs : List packed_row.Row}
+module _ {ks : List Kept} {at scratch m n : ℕ} (figures : List Estimate) (entries : List ℕ) (r : FiguresReady ks at figures scratch m n) {counts : Counts} {rs : List packed_row.Row}
     (made : TableMade (table_rows ks at) counts (kept.entries_of entries) rs) where
   pub taken : take counts.entries (kept.entries_of entries) ≡ records_at ks at
   taken = rw made.entries_are made.entries
@@ -65,13 +64,13 @@ module _ {ks : List Kept} {at scratch m n : ℕ} (figures entries : List ℕ) (r
   pub columns_few : counts.columns ≤ max_position
   columns_few = omega (arith, made.columns_are, grid_columns (table_rows ks at) r.sound)
 
-  fit_at : (k : ℕ) → k < counts.entries → EntryFits (figures_of figures) counts.columns (get_or (kept.entries_of entries) k no_entry)
+  fit_at : (k : ℕ) → k < counts.entries → EntryFits figures counts.columns (get_or (kept.entries_of entries) k no_entry)
   fit_at k h =
       let e : get_or (records_at ks at) k no_entry ≡ get_or (kept.entries_of entries) k no_entry
       = ap (λ (l : List packed.Entry). get_or l k no_entry) (sym taken) ∙ get_or-take counts.entries (kept.entries_of entries) k no_entry h in
       rw made.columns_are
-      (subst (EntryFits (figures_of figures) (columns_of (table_rows ks at))) e
-      (at_all (EntryFits (figures_of figures) (columns_of (table_rows ks at))) no_entry (records_at ks at) k (records_fit r) (omega (arith, long))))
+      (subst (EntryFits figures (columns_of (table_rows ks at))) e
+      (at_all (EntryFits figures (columns_of (table_rows ks at))) no_entry (records_at ks at) k (records_fit r) (omega (arith, long))))
 
   pub tabulate_ready : TabulateReady entries counts.entries counts.columns figures scratch
   tabulate_ready = record {

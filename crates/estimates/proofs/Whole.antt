@@ -14,19 +14,17 @@ use Rattle.records.proofs.Kepts.{length_kepts}
 use Rattle.estimates.specs.Estimates.{none, undone, est_of, estimates}
 use Rattle.estimates.specs.Sheet.{Sheet}
 use Rattle.estimates.specs.Meets.{Lent, Measured}
-use Rattle.estimates.specs.inner.Figures.{figures_of}
 use Rattle.estimates.specs.inner.Cycle.{NodeReady, NodeMeets, est_at, done_of}
-use Rattle.estimates.proofs.Packing.{length_figures}
 use Rattle.estimates.proofs.Laws.{length_all}
 
 -- what is lent, in slices
-pub ready : {lines figures leasts entries rows : List ℕ} {at : ℕ} → Lent (kepts_of lines) (figures_of figures) leasts (entries_of entries) (rows_of rows)
+pub ready : {lines : List ℕ} {figures : List Estimate} {leasts entries rows : List ℕ} {at : ℕ} → Lent (kepts_of lines) figures leasts (entries_of entries) (rows_of rows)
     → at < length (kepts_of lines) → NodeReady lines figures leasts entries rows at
 ready {lines} {figures} {entries = entries} {rows = rows} l h = record {
   sheet = l.sheet;
   lined = l.lined;
   tables = rw (length_of 3 entry_by entries) at l.tables;
-  figures_fit = omega (arith, l.results, length_kepts lines, length_figures figures);
+  figures_fit = omega (arith, l.results, length_kepts lines);
   scratch = l.scratch;
   row_room = omega (arith, l.row_room, length_kepts lines, length_of 2 row_by rows);
   within = omega (arith, length_kepts lines);

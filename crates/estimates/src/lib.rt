@@ -1,8 +1,7 @@
-// The estimates of a sheet's lines: node, table and cell in a cycle of calls. A line is a record of two numbers, and its estimate one of three.
+// The estimates of a sheet's lines: node, table and cell in a cycle of calls. A line is a record of two numbers.
 // A table's grid is made where its figures are, in records that every table uses in turn.
 #![tactic(auto)]
 
-pub mod packed;
 pub mod single;
 pub mod spread;
 
@@ -12,10 +11,10 @@ ghost use Rattle.records.specs.Kept.{kepts_of, kept_count, no_kept, entries_of, 
 ghost use Rattle.estimates.specs.Estimates.{estimate};
 ghost use Rattle.estimates.specs.Sheet.{line_at};
 ghost use Rattle.estimates.specs.Meets.{Lent, Measured, CellsMeasured};
-ghost use Rattle.estimates.specs.inner.Figures.{figures_of};
 ghost use Rattle.estimates.specs.inner.Cycle.{NodeReady, Plain, Holder, FilledAt, CellsPassed, NodeMeets, CellMeets, TableMeets};
 
 use kinds::is_leaf;
+use text::Estimate;
 
 // What the lines below a line come to: the line after them, size and least width, and how many children there are.
 #[derive(Clone, Copy)]
@@ -50,7 +49,7 @@ pub const NONE: text::Estimate = text::Estimate {
 #[cycle(cell_node_table)]
 fn node(
     lines: &[u32],
-    figures: &mut [u32],
+    figures: &mut [Estimate],
     leasts: &mut [u32],
     entries: &mut [u32],
     rows: &mut [u32],
@@ -59,21 +58,21 @@ fn node(
 ) -> usize
     requires node_ready { NodeReady lines.now figures.old leasts.old entries.old rows.old at }
     requires plain { Plain (line_at (kepts_of lines.now) at) }
-    ensures { NodeMeets wrap (kepts_of lines.now) (figures_of figures.old) (figures_of figures.new) at result }
+    ensures { NodeMeets wrap (kepts_of lines.now) figures.old figures.new at result }
 {
     let line = records::kept_at(lines, at);
     if is_leaf(line.kind) {
         let e = single::leaf(line, wrap);
-        packed::put_estimate(figures, at, e);
+        figures[at] = e;
         at + 1
     } else if line.kind == kinds::TABLE {
         let p = table(lines, figures, leasts, entries, rows, wrap, at);
-        packed::put_estimate(figures, at, p.estimate());
+        figures[at] = p.estimate();
         p.after
     } else {
         let p = cell(lines, figures, leasts, entries, rows, wrap, at);
         let e = single::holder(line, p);
-        packed::put_estimate(figures, at, e);
+        figures[at] = e;
         p.after
     }
 }
@@ -93,7 +92,7 @@ fn is_filled(lines: &[u32], i: usize) -> bool
 #[cycle(cell_node_table)]
 fn below_table(
     lines: &[u32],
-    figures: &mut [u32],
+    figures: &mut [Estimate],
     leasts: &mut [u32],
     entries: &mut [u32],
     rows: &mut [u32],
@@ -102,7 +101,7 @@ fn below_table(
 ) -> usize
     requires node_ready { NodeReady lines.now figures.old leasts.old entries.old rows.old at }
     requires at_table { (line_at (kepts_of lines.now) at).kind ≡ table_kind }
-    ensures { CellsPassed wrap (kepts_of lines.now) (figures_of figures.old) (figures_of figures.new) at result }
+    ensures { CellsPassed wrap (kepts_of lines.now) figures.old figures.new at result }
 {
     let top = records::kept_at(lines, at);
     let n = records::count(lines);
@@ -115,11 +114,11 @@ fn below_table(
         }
         if is_filled(lines, i) {
             let p = cell(lines, figures, leasts, entries, rows, wrap, i);
-            packed::put_estimate(figures, i, p.estimate());
+            figures[i] = p.estimate();
             i = p.after;
         } else {
             // a body, a row, or a cell that holds nothing, which needs no call
-            packed::put_estimate(figures, i, NONE);
+            figures[i] = NONE;
             i += 1;
         }
     }
@@ -131,7 +130,7 @@ fn below_table(
 #[cycle(cell_node_table)]
 fn table(
     lines: &[u32],
-    figures: &mut [u32],
+    figures: &mut [Estimate],
     leasts: &mut [u32],
     entries: &mut [u32],
     rows: &mut [u32],
@@ -140,7 +139,7 @@ fn table(
 ) -> Part
     requires node_ready { NodeReady lines.now figures.old leasts.old entries.old rows.old at }
     requires at_table { (line_at (kepts_of lines.now) at).kind ≡ table_kind }
-    ensures { TableMeets wrap (kepts_of lines.now) (figures_of figures.old) (figures_of figures.new) at result }
+    ensures { TableMeets wrap (kepts_of lines.now) figures.old figures.new at result }
 {
     let end = below_table(lines, figures, leasts, entries, rows, wrap, at);
     spread::table_figures(lines, at, end, figures, leasts, entries, rows)
@@ -151,7 +150,7 @@ fn table(
 #[cycle(cell_node_table)]
 fn cell(
     lines: &[u32],
-    figures: &mut [u32],
+    figures: &mut [Estimate],
     leasts: &mut [u32],
     entries: &mut [u32],
     rows: &mut [u32],
@@ -160,7 +159,7 @@ fn cell(
 ) -> Part
     requires node_ready { NodeReady lines.now figures.old leasts.old entries.old rows.old at }
     requires holder { Holder (line_at (kepts_of lines.now) at) }
-    ensures { CellMeets wrap (kepts_of lines.now) (figures_of figures.old) (figures_of figures.new) at result }
+    ensures { CellMeets wrap (kepts_of lines.now) figures.old figures.new at result }
 {
     let top = records::kept_at(lines, at);
     let n = records::count(lines);
@@ -177,14 +176,14 @@ fn cell(
         if is_leaf(line.kind) {
             // most children are texts, which need no call of `node`
             let e = single::leaf(line, wrap);
-            packed::put_estimate(figures, i, e);
+            figures[i] = e;
             sum += e.size;
             most = most.max(e.least);
             children += 1;
             i += 1;
         } else {
             let next = node(lines, figures, leasts, entries, rows, wrap, i);
-            let child = packed::estimate_at(figures, i);
+            let child = figures[i];
             sum += child.size;
             most = most.max(child.least);
             children += 1;
@@ -203,13 +202,13 @@ fn cell(
 pub fn measure(
     wrap: u32,
     lines: &[u32],
-    figures: &mut [u32],
+    figures: &mut [Estimate],
     leasts: &mut [u32],
     entries: &mut [u32],
     rows: &mut [u32],
 )
-    requires { Lent (kepts_of lines.now) (figures_of figures.old) leasts.old (entries_of entries.old) (rows_of rows.old) }
-    ensures { Measured wrap (kepts_of lines.now) (figures_of figures.old) (figures_of figures.new) }
+    requires { Lent (kepts_of lines.now) figures.old leasts.old (entries_of entries.old) (rows_of rows.old) }
+    ensures { Measured wrap (kepts_of lines.now) figures.old figures.new }
 {
     node(lines, figures, leasts, entries, rows, wrap, 0);
 }
@@ -219,15 +218,15 @@ pub fn measure_below(
     wrap: u32,
     lines: &[u32],
     at: usize,
-    figures: &mut [u32],
+    figures: &mut [Estimate],
     leasts: &mut [u32],
     entries: &mut [u32],
     rows: &mut [u32],
 )
-    requires lent { Lent (kepts_of lines.now) (figures_of figures.old) leasts.old (entries_of entries.old) (rows_of rows.old) }
+    requires lent { Lent (kepts_of lines.now) figures.old leasts.old (entries_of entries.old) (rows_of rows.old) }
     requires at_in_bounds { at < length (kepts_of lines.now) }
     requires at_table { (get_or (kepts_of lines.now) at no_kept).kind ≡ table_kind }
-    ensures { CellsMeasured wrap (kepts_of lines.now) at (figures_of figures.old) (figures_of figures.new) }
+    ensures { CellsMeasured wrap (kepts_of lines.now) at figures.old figures.new }
 {
     below_table(lines, figures, leasts, entries, rows, wrap, at);
 }

@@ -1,7 +1,6 @@
 // The missing entries and the causes of the table in a line of a sheet, written to the lent buffers.
 ghost use Rattle.std.specs.Prelude.{true, ◌/◌, ◌≤◌, length, Some};
 ghost use Rattle.lists.specs.Limits.{max_entries, max_lines, max_size};
-ghost use Rattle.estimates.specs.inner.Figures.{figures_of};
 ghost use Rattle.opening.specs.Opening.{open_checks};
 ghost use Rattle.sheet_figures.specs.inner.Opened.{AskedIn, MeasuredIn};
 ghost use Rattle.missing.specs.inner.Found.{ExplainRoom, MissingRead, MissingFound};
@@ -9,13 +8,14 @@ ghost use Rattle.missing.specs.inner.Found.{ExplainRoom, MissingRead, MissingFou
 use answers::Causes;
 use arguments::Settings;
 use lists::{MAX_ENTRIES, MAX_LINES, Refusal};
+use text::Estimate;
 
 // Those of the table in a line of a measured sheet, or the refusal. The sheet's lines are the first records.
 fn explain_read(
     read: Result<usize, Refusal>,
     line: u32,
     lines: &[u32],
-    figures: &[u32],
+    figures: &[Estimate],
     settings: Settings,
     entries: &mut [u32],
     rows: &mut [u32],
@@ -24,10 +24,10 @@ fn explain_read(
 ) -> Result<Causes, Refusal>
     requires asked_in { AskedIn read lines.now line }
     requires max_entries_in_bounds { (max_entries ≤ length entries.old / 3) × (max_lines ≤ length rows.old / 2) }
-    requires measured_in { MeasuredIn read lines.now line (figures_of figures.now) }
+    requires measured_in { MeasuredIn read lines.now line figures.now }
     requires width_le_max_size { settings.width ≤ max_size }
     requires explain_room { ExplainRoom entry.old cause.old }
-    ensures { MissingRead read lines.now line (figures_of figures.now) settings.raw settings.width result entry.new cause.new }
+    ensures { MissingRead read lines.now line figures.now settings.raw settings.width result entry.new cause.new }
 {
     let n = read?;
     let end = records::WIDTH * n;
@@ -57,7 +57,7 @@ pub fn explain_sheet(
     ensures { MissingFound (open_checks (Some line) sheet.now) sheet.now line settings.wrap settings.raw settings.width result entry.new cause.new }
 {
     let mut lines = [0u32; records::WIDTH * MAX_LINES];
-    let mut figures = [0u32; 3 * MAX_LINES];
+    let mut figures = [estimates::NONE; MAX_LINES];
     let mut entries = [0u32; 3 * MAX_ENTRIES];
     let mut rows = [0u32; 2 * MAX_LINES];
     let read = opening::measuring::measure_table(

@@ -1,7 +1,6 @@
 // One table of a sheet, laid out at the width that the walk gives it, written to the lent buffers.
 ghost use Rattle.std.specs.Prelude.{◌≡◌, ◌∷◌, ◌≤◌, Some};
 ghost use Rattle.lists.specs.Limits.{max_size};
-ghost use Rattle.estimates.specs.inner.Figures.{figures_of};
 ghost use Rattle.table.specs.inner.Asked.{OutRoom};
 ghost use Rattle.sheet_figures.specs.inner.Opened.{AskedIn, MeasuredIn};
 ghost use Rattle.sheet_figures.specs.inner.Early.{early};
@@ -12,6 +11,7 @@ ghost use Rattle.nested.specs.inner.Found.{width_for, PlaceIn, NestRead, columns
 use answers::Nested;
 use arguments::Settings;
 use lists::{MAX_ENTRIES, MAX_LINES, Refusal};
+use text::Estimate;
 
 // The width at a line's place, if the sheet was read and the walk gives it one.
 fn width_for(read: Result<usize, Refusal>, line: u32, walk: &[Option<u32>]) -> Option<u32>
@@ -30,17 +30,17 @@ fn nest_read(
     at: Option<u32>,
     line: u32,
     lines: &[u32],
-    figures: &[u32],
+    figures: &[Estimate],
     raw: u32,
     column: &mut [u32],
     x: &mut [u32],
     wide: &mut [u32],
 ) -> Result<Option<Nested>, Refusal>
     requires asked_in { AskedIn read lines.now line }
-    requires measured_in { MeasuredIn read lines.now line (figures_of figures.now) }
+    requires measured_in { MeasuredIn read lines.now line figures.now }
     requires raw_bound { (raw ≤ 1) × AtMost max_size at }
     requires out_room { OutRoom column.old x.old wide.old }
-    ensures { NestRead read at lines.now line (figures_of figures.now) raw result
+    ensures { NestRead read at lines.now line figures.now raw result
         column.new x.new wide.new }
 {
     let Some(at) = at else {
@@ -80,7 +80,7 @@ fn nest_sheet(
         column.new x.new wide.new }
 {
     let mut lines = [0u32; records::WIDTH * MAX_LINES];
-    let mut figures = [0u32; 3 * MAX_LINES];
+    let mut figures = [estimates::NONE; MAX_LINES];
     let mut walk = [None; MAX_LINES];
     let read = pacing::walk_sheet(
         sheet,

@@ -8,13 +8,11 @@ use native.Mathlib.Omega.{arith}
 use lib.ListN.{length}
 use Rattle.lists.specs.Limits.{max_lines}
 use Rattle.lists.specs.Refusals.{passes}
-use Rattle.records.proofs.Records.{length_of}
 use Rattle.sheet.specs.Sheet.{sheet_lines}
 use Rattle.sheet.specs.Steps.{room_for}
 use Rattle.sheet.specs.Reading.{reading_of}
 use Rattle.sheet.proofs.First.{first_accepts}
 use Rattle.sheet.proofs.Bounds.{accepted_lines, accepted_room}
-use Rattle.estimates.specs.inner.Figures.{figure_by, figures_of}
 use Rattle.opening.specs.Opening.{kept_lines, open_checks, opened_of}
 use Rattle.opening.proofs.Ready.{kept_count_lem}
 use Rattle.opening.proofs.Opens.{opened_reads}
@@ -43,5 +41,5 @@ module _ (asked : Option ℕ) (s : List ℕ) where
 -- ---- room
 
 -- slices that are long enough for so many records
-pub figures_room : (k : ℕ) (xs : List ℕ) → k ≤ length xs / 3 → k ≤ length (figures_of xs)
-figures_room k xs h = omega (arith, length_of 3 figure_by xs)
+pub figures_room : (k : ℕ) (xs : List ℕ) → k ≤ length xs / 3 → k ≤ length xs
+figures_room k xs h = omega arith

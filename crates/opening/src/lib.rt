@@ -13,11 +13,11 @@ ghost use Rattle.opening.specs.inner.Opened.{asks_amiss, TablesReady, TablesOpen
 
 use lists::{MAX_BYTES, MAX_ENTRIES, MAX_LINES, Reason, Refusal, SMALL_LINES};
 
-// How many numbers the arrays of a call have for its lines, their estimates, and the entries and rows of a grid: for a small sheet, and for any. They are
-// cleared with each call, and for a small sheet short ones do.
+// How many numbers the arrays of a call have for its lines and for the entries and rows of a grid, and how many estimates: for a small sheet, and for
+// any. They are cleared with each call, and for a small sheet short ones do.
 pub const SMALL_KEPT: usize = records::WIDTH * SMALL_LINES;
 
-pub const SMALL_FIGURES: usize = 3 * SMALL_LINES;
+pub const SMALL_FIGURES: usize = SMALL_LINES;
 
 pub const SMALL_ENTRIES: usize = 3 * SMALL_LINES;
 
@@ -25,7 +25,7 @@ pub const SMALL_ROWS: usize = 2 * SMALL_LINES;
 
 pub const KEPT: usize = records::WIDTH * MAX_LINES;
 
-pub const FIGURES: usize = 3 * MAX_LINES;
+pub const FIGURES: usize = MAX_LINES;
 
 pub const ENTRIES: usize = 3 * MAX_ENTRIES;
 

@@ -5,24 +5,24 @@ ghost use Rattle.lists.specs.Limits.{max_entries, max_lines};
 ghost use Rattle.records.specs.Kept.{kept_count, kepts_of, entries_of, rows_of};
 ghost use Rattle.sheet.specs.Steps.{room_for};
 ghost use Rattle.estimates.specs.Meets.{Lent};
-ghost use Rattle.estimates.specs.inner.Figures.{figures_of};
 ghost use Rattle.opening.specs.inner.Measures.{InScope, ScopeMeasured, LinesIn, EnoughIn, ScratchForAny, ReadLent, ReadMeasured, SheetMeasured, TableMeasured};
 
 use lists::{MAX_ENTRIES, MAX_LINES, Refusal};
+use text::Estimate;
 
 // Measures every line, or what lies below the table in a line, if one is given; the other slices are scratch.
 fn measure_in(
     below: Option<u32>,
     wrap: u32,
     lines: &[u32],
-    figures: &mut [u32],
+    figures: &mut [Estimate],
     leasts: &mut [u32],
     entries: &mut [u32],
     rows: &mut [u32],
 )
-    requires lent { Lent (kepts_of lines.now) (figures_of figures.old) leasts.old (entries_of entries.old) (rows_of rows.old) }
+    requires lent { Lent (kepts_of lines.now) figures.old leasts.old (entries_of entries.old) (rows_of rows.old) }
     requires in_scope { InScope below (kepts_of lines.now) }
-    ensures { ScopeMeasured below wrap (kepts_of lines.now) (figures_of figures.old) (figures_of figures.new) }
+    ensures { ScopeMeasured below wrap (kepts_of lines.now) figures.old figures.new }
 {
     match below {
         None => estimates::measure(wrap, lines, figures, leasts, entries, rows),
@@ -39,15 +39,15 @@ fn measure_front(
     below: Option<u32>,
     wrap: u32,
     lines: &[u32],
-    figures: &mut [u32],
+    figures: &mut [Estimate],
     leasts: &mut [u32],
     entries: &mut [u32],
     rows: &mut [u32],
 )
     requires n_bound { n ≤ kept_count lines.now }
-    requires lent { Lent (take n (kepts_of lines.now)) (figures_of figures.old) leasts.old (entries_of entries.old) (rows_of rows.old) }
+    requires lent { Lent (take n (kepts_of lines.now)) figures.old leasts.old (entries_of entries.old) (rows_of rows.old) }
     requires in_scope { InScope below (take n (kepts_of lines.now)) }
-    ensures { ScopeMeasured below wrap (take n (kepts_of lines.now)) (figures_of figures.old) (figures_of figures.new) }
+    ensures { ScopeMeasured below wrap (take n (kepts_of lines.now)) figures.old figures.new }
 {
     let end = records::WIDTH * n;
     measure_in(below, wrap, &lines[..end], figures, leasts, entries, rows);
@@ -77,13 +77,13 @@ pub fn measure_read(
     below: Option<u32>,
     wrap: u32,
     lines: &[u32],
-    figures: &mut [u32],
+    figures: &mut [Estimate],
     leasts: &mut [u32],
     entries: &mut [u32],
     rows: &mut [u32],
 )
-    requires { ReadLent read below lines.now (figures_of figures.old) leasts.old (entries_of entries.old) (rows_of rows.old) }
-    ensures { ReadMeasured read below wrap lines.now (figures_of figures.old) (figures_of figures.new) }
+    requires { ReadLent read below lines.now figures.old leasts.old (entries_of entries.old) (rows_of rows.old) }
+    ensures { ReadMeasured read below wrap lines.now figures.old figures.new }
 {
     if let Ok(n) = read {
         measure_front(n, below, wrap, lines, figures, leasts, entries, rows);
@@ -96,15 +96,15 @@ pub fn measure_sheet(
     asked: Option<u32>,
     wrap: u32,
     lines: &mut [u32],
-    figures: &mut [u32],
+    figures: &mut [Estimate],
     leasts: &mut [u32],
     entries: &mut [u32],
     rows: &mut [u32],
 ) -> Result<usize, Refusal>
     requires bytes_bound { room_for bytes.now ≤ kept_count lines.old }
-    requires bytes_in_bounds { room_for bytes.now ≤ length (figures_of figures.old) }
+    requires bytes_in_bounds { room_for bytes.now ≤ length figures.old }
     requires scratch_for_any { ScratchForAny leasts.old entries.old rows.old }
-    ensures { SheetMeasured asked bytes.now wrap result lines.new (figures_of figures.new) }
+    ensures { SheetMeasured asked bytes.now wrap result lines.new figures.new }
 {
     let read = super::open_sheet(bytes, asked, lines, leasts);
     measure_read(read, None, wrap, lines, figures, leasts, entries, rows);
@@ -117,15 +117,15 @@ pub fn measure_table(
     line: u32,
     wrap: u32,
     lines: &mut [u32],
-    figures: &mut [u32],
+    figures: &mut [Estimate],
     leasts: &mut [u32],
     entries: &mut [u32],
     rows: &mut [u32],
 ) -> Result<usize, Refusal>
     requires bytes_bound { room_for bytes.now ≤ kept_count lines.old }
-    requires bytes_in_bounds { room_for bytes.now ≤ length (figures_of figures.old) }
+    requires bytes_in_bounds { room_for bytes.now ≤ length figures.old }
     requires scratch_for_any { ScratchForAny leasts.old entries.old rows.old }
-    ensures { TableMeasured bytes.now line wrap result lines.new (figures_of figures.new) }
+    ensures { TableMeasured bytes.now line wrap result lines.new figures.new }
 {
     let read = super::open_sheet(bytes, Some(line), lines, leasts);
     measure_read(

@@ -5,13 +5,13 @@ ghost use Rattle.std.specs.Prelude.{◌≤◌, length};
 ghost use Rattle.lists.specs.Limits.{max_position, max_size};
 ghost use Rattle.records.specs.Kept.{kept_count, kepts_of};
 ghost use Rattle.sheet.specs.Steps.{room_for};
-ghost use Rattle.estimates.specs.inner.Figures.{figures_of};
 ghost use Rattle.walking.specs.inner.Steps as steps;
 ghost use Rattle.walking.specs.inner.Steps.{Walkable};
 ghost use Rattle.pacing.specs.inner.Found.{SheetOpened, ReadWalkable, WalkRead, SheetWalked};
 
 use arguments::Settings;
 use lists::{MAX_ENTRIES, MAX_LINES, MAX_POSITION, Refusal};
+use text::Estimate;
 
 // Opens and measures a sheet. The last slice is scratch.
 fn open_measured(
@@ -19,13 +19,13 @@ fn open_measured(
     asked: Option<u32>,
     wrap: u32,
     lines: &mut [u32],
-    figures: &mut [u32],
+    figures: &mut [Estimate],
     leasts: &mut [u32],
 ) -> Result<usize, Refusal>
     requires sheet_bound { room_for sheet.now ≤ kept_count lines.old }
-    requires figures_in_bounds { room_for sheet.now ≤ length (figures_of figures.old) }
+    requires figures_in_bounds { room_for sheet.now ≤ length figures.old }
     requires max_position_in_bounds { max_position ≤ length leasts.old }
-    ensures { SheetOpened asked sheet.now wrap result lines.new (figures_of figures.new) }
+    ensures { SheetOpened asked sheet.now wrap result lines.new figures.new }
 {
     let mut entries = [0u32; 3 * MAX_ENTRIES];
     let mut rows = [0u32; 2 * MAX_LINES];
@@ -44,14 +44,14 @@ fn open_measured(
 // Walks the lines of a measured sheet. All tables are laid out in the same arrays.
 fn walk_lines(
     lines: &[u32],
-    figures: &[u32],
+    figures: &[Estimate],
     settings: Settings,
     walk: &mut [Option<u32>],
 ) -> Result<(), Refusal>
-    requires walkable { Walkable (kepts_of lines.now) (figures_of figures.now) }
+    requires walkable { Walkable (kepts_of lines.now) figures.now }
     requires raw_bound { (settings.raw ≤ 1) × (settings.width ≤ max_size) }
     requires lines_in_bounds { length (kepts_of lines.now) ≤ length walk.old }
-    ensures { steps.Walked (kepts_of lines.now) (figures_of figures.now) settings.raw settings.width settings.overflow result walk.new }
+    ensures { steps.Walked (kepts_of lines.now) figures.now settings.raw settings.width settings.overflow result walk.new }
 {
     let mut entries = [0u32; 3 * MAX_ENTRIES];
     let mut rows = [0u32; 2 * MAX_LINES];
@@ -77,13 +77,13 @@ fn walk_lines(
 fn walk_read(
     read: Result<usize, Refusal>,
     lines: &[u32],
-    figures: &[u32],
+    figures: &[Estimate],
     settings: Settings,
     walk: &mut [Option<u32>],
 ) -> Result<usize, Refusal>
-    requires read_walkable { ReadWalkable read lines.now (figures_of figures.now) walk.old }
+    requires read_walkable { ReadWalkable read lines.now figures.now walk.old }
     requires raw_bound { (settings.raw ≤ 1) × (settings.width ≤ max_size) }
-    ensures { WalkRead read lines.now (figures_of figures.now) settings.raw settings.width settings.overflow result walk.new }
+    ensures { WalkRead read lines.now figures.now settings.raw settings.width settings.overflow result walk.new }
 {
     let n = read?;
     let end = records::WIDTH * n;
@@ -97,16 +97,16 @@ pub fn walk_sheet(
     asked: Option<u32>,
     settings: Settings,
     lines: &mut [u32],
-    figures: &mut [u32],
+    figures: &mut [Estimate],
     walk: &mut [Option<u32>],
     leasts: &mut [u32],
 ) -> Result<usize, Refusal>
     requires sheet_bound { room_for sheet.now ≤ kept_count lines.old }
-    requires figures_in_bounds { room_for sheet.now ≤ length (figures_of figures.old) }
+    requires figures_in_bounds { room_for sheet.now ≤ length figures.old }
     requires places_in_bounds { room_for sheet.now ≤ length walk.old }
     requires max_position_in_bounds { max_position ≤ length leasts.old }
     requires raw_bound { (settings.raw ≤ 1) × (settings.width ≤ max_size) }
-    ensures { SheetWalked asked sheet.now settings.wrap settings.raw settings.width settings.overflow result lines.new (figures_of figures.new) walk.new }
+    ensures { SheetWalked asked sheet.now settings.wrap settings.raw settings.width settings.overflow result lines.new figures.new walk.new }
 {
     let read = open_measured(sheet, asked, settings.wrap, lines, figures, leasts);
     walk_read(read, lines, figures, settings, walk)

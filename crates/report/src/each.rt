@@ -2,7 +2,6 @@
 ghost use Rattle.std.specs.Prelude.{◌≡◌, ◌≤◌, length};
 ghost use Rattle.lists.specs.Limits.{max_lines};
 ghost use Rattle.records.specs.Kept.{kepts_of, entries_of};
-ghost use Rattle.estimates.specs.inner.Figures.{figures_of};
 ghost use Rattle.walking.specs.inner.Steps.{Rooms};
 ghost use Rattle.causes.specs.inner.Fronts.{FrontReady};
 ghost use Rattle.report.specs.inner.Read.{Listable, TableAt, WalkNarrow, RowsFew};
@@ -12,6 +11,7 @@ use answers::Way;
 use gridding::Counts;
 use kinds::TABLE;
 use printing::Output;
+use text::Estimate;
 use writing::entries::Entries;
 
 // Puts what is asked for of a table that is laid out, whose grid stands in the front of its slices. An explanation prints no places of entries: it takes
@@ -21,14 +21,14 @@ fn shown(
     asked: Asked,
     way: Way,
     counts: Counts,
-    figures: &[u32],
+    figures: &[Estimate],
     grid: &[u32],
     rows: &[u32],
     column: &[u32],
     x: &mut [u32],
     wide: &mut [u32],
 )
-    requires front_ready { FrontReady counts.entries counts.columns (entries_of grid.now) (figures_of figures.now) x.old wide.old }
+    requires front_ready { FrontReady counts.entries counts.columns (entries_of grid.now) figures.now x.old wide.old }
     requires rows_few { RowsFew counts.rows rows.now }
 {
     match asked.form {
@@ -67,7 +67,7 @@ fn table(
     place: usize,
     asked: Asked,
     lines: &[u32],
-    figures: &[u32],
+    figures: &[Estimate],
     grid: &mut [u32],
     rows: &mut [u32],
     column: &mut [u32],
@@ -75,7 +75,7 @@ fn table(
     wide: &mut [u32],
 )
     requires table_at { TableAt (kepts_of lines.now) place }
-    requires listable { Listable (kepts_of lines.now) (figures_of figures.now) asked.width }
+    requires listable { Listable (kepts_of lines.now) figures.now asked.width }
     requires rooms { Rooms grid.old rows.old column.old x.old wide.old }
 {
     let arranged = table::arrange(
@@ -105,7 +105,7 @@ fn walked_table(
     place: usize,
     asked: Asked,
     lines: &[u32],
-    figures: &[u32],
+    figures: &[Estimate],
     walk: &[Option<u32>],
     grid: &mut [u32],
     rows: &mut [u32],
@@ -114,7 +114,7 @@ fn walked_table(
     wide: &mut [u32],
 )
     requires table_at { TableAt (kepts_of lines.now) place }
-    requires listable { Listable (kepts_of lines.now) (figures_of figures.now) asked.width }
+    requires listable { Listable (kepts_of lines.now) figures.now asked.width }
     requires walk_narrow { WalkNarrow (length (kepts_of lines.now)) walk.now }
     requires rooms { Rooms grid.old rows.old column.old x.old wide.old }
 {
@@ -141,7 +141,7 @@ pub fn all_tables(
     out: &mut Output,
     asked: Asked,
     lines: &[u32],
-    figures: &[u32],
+    figures: &[Estimate],
     walk: &[Option<u32>],
     grid: &mut [u32],
     rows: &mut [u32],
@@ -149,7 +149,7 @@ pub fn all_tables(
     x: &mut [u32],
     wide: &mut [u32],
 )
-    requires listable { Listable (kepts_of lines.now) (figures_of figures.now) asked.width }
+    requires listable { Listable (kepts_of lines.now) figures.now asked.width }
     requires walk_narrow { WalkNarrow (length (kepts_of lines.now)) walk.now }
     requires rooms { Rooms grid.old rows.old column.old x.old wide.old }
 {

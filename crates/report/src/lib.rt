@@ -7,12 +7,12 @@ mod each; // each.rt: each table of a walked sheet
 ghost use Rattle.std.specs.Prelude.{◌≡◌, ◌≤◌, length};
 ghost use Rattle.lists.specs.Limits.{max_size};
 ghost use Rattle.records.specs.Kept.{kepts_of};
-ghost use Rattle.estimates.specs.inner.Figures.{figures_of};
 ghost use Rattle.report.specs.inner.Read.{Listable, WalkNarrow, ReadListable};
 
 use arguments::Settings;
 use lists::{MAX_ENTRIES, MAX_LINES, MAX_POSITION, Refusal};
 use printing::Output;
+use text::Estimate;
 
 // What is printed of a table: its layout, or what explains it. A switch and no type parameter: seven functions would carry it for one `match`.
 #[derive(Clone, Copy)]
@@ -30,8 +30,8 @@ pub struct Asked {
 }
 
 // Puts every table of a walked sheet. All tables are laid out in the same arrays.
-fn laid(out: &mut Output, asked: Asked, kept: &[u32], figures: &[u32], walk: &[Option<u32>])
-    requires listable { Listable (kepts_of kept.now) (figures_of figures.now) asked.width }
+fn laid(out: &mut Output, asked: Asked, kept: &[u32], figures: &[Estimate], walk: &[Option<u32>])
+    requires listable { Listable (kepts_of kept.now) figures.now asked.width }
     requires walk_narrow { WalkNarrow (length (kepts_of kept.now)) walk.now }
 {
     let mut grid = [0u32; 3 * MAX_ENTRIES];
@@ -59,10 +59,10 @@ fn told(
     asked: Asked,
     read: Result<usize, Refusal>,
     kept: &[u32],
-    figures: &[u32],
+    figures: &[Estimate],
     walk: &[Option<u32>],
 )
-    requires { ReadListable read kept.now (figures_of figures.now) asked.width walk.now }
+    requires { ReadListable read kept.now figures.now asked.width walk.now }
 {
     match read {
         Ok(n) => laid(out, asked, &kept[..records::WIDTH * n], figures, walk),
@@ -76,7 +76,7 @@ fn opened(out: &mut Output, sheet: &[u8], wrap: u32, asked: Asked)
     requires { (asked.raw ≤ 1) × (asked.width ≤ max_size) }
 {
     let mut kept = [0u32; records::WIDTH * MAX_LINES];
-    let mut figures = [0u32; 3 * MAX_LINES];
+    let mut figures = [estimates::NONE; MAX_LINES];
     let mut walk = [None; MAX_LINES];
     let mut leasts = [0u32; MAX_POSITION];
     let settings = Settings {

@@ -2,13 +2,13 @@
 ghost use Rattle.std.specs.Prelude.{◌≡◌, ◌≤◌, length};
 ghost use Rattle.lists.specs.Limits.{max_position};
 ghost use Rattle.records.specs.Kept.{entries_of};
-ghost use Rattle.estimates.specs.inner.Figures.{figures_of};
 ghost use Rattle.sizing.specs.inner.Room.{Entered, Raisable};
 ghost use Rattle.report_causes.specs.inner.Rooms.{ColumnRooms};
 
 use answers::Way;
 use lists::MAX_POSITION;
 use printing::Output;
+use text::Estimate;
 use writing::entries::number_at;
 use writing::lines::{number, words};
 
@@ -77,7 +77,7 @@ fn figured(
     out: &mut Output,
     way: Way,
     width: u32,
-    figures: &[u32],
+    figures: &[Estimate],
     entries: &[u32],
     column: &[u32],
     cause: &[u32],
@@ -85,7 +85,7 @@ fn figured(
     leasts: &mut [u32],
     shares: &mut [u32],
 )
-    requires raisable { Raisable (entries_of entries.now) (figures_of figures.now) sizes.old leasts.old }
+    requires raisable { Raisable (entries_of entries.now) figures.now sizes.old leasts.old }
     requires shares_len { (length shares.old ≡ length sizes.old) × (length sizes.old ≤ max_position) }
 {
     sizing::raise_columns(entries, figures, sizes, leasts);
@@ -108,7 +108,7 @@ fn figured_front(
     way: Way,
     width: u32,
     c: usize,
-    figures: &[u32],
+    figures: &[Estimate],
     entries: &[u32],
     column: &[u32],
     cause: &[u32],
@@ -116,7 +116,7 @@ fn figured_front(
     leasts: &mut [u32],
     shares: &mut [u32],
 )
-    requires entered { Entered (entries_of entries.now) (figures_of figures.now) c }
+    requires entered { Entered (entries_of entries.now) figures.now c }
     requires column_rooms { ColumnRooms c sizes.old leasts.old shares.old }
 {
     figured(
@@ -139,12 +139,12 @@ pub fn columns(
     way: Way,
     width: u32,
     c: usize,
-    figures: &[u32],
+    figures: &[Estimate],
     entries: &[u32],
     column: &[u32],
     cause: &[u32],
 )
-    requires entered { Entered (entries_of entries.now) (figures_of figures.now) c }
+    requires entered { Entered (entries_of entries.now) figures.now c }
     requires c_le_max_position { c ≤ max_position }
 {
     let mut sizes = [0u32; MAX_POSITION];

@@ -6,7 +6,6 @@ mod columns_told; // columns_told.rt: a line for each column, with its cause
 mod losses; // losses.rt: which entries are missing, and how many
 
 ghost use Rattle.records.specs.Kept.{entries_of};
-ghost use Rattle.estimates.specs.inner.Figures.{figures_of};
 ghost use Rattle.causes.specs.inner.Fronts.{FrontReady};
 
 use answers::Way;
@@ -14,6 +13,7 @@ use columns_told::columns;
 use gridding::Counts;
 use losses::Missed;
 use printing::Output;
+use text::Estimate;
 
 // Puts what is told of a table, whose grid and final widths stand in the front of their slices. The last two are room for the missing entries and the
 // causes.
@@ -23,14 +23,14 @@ pub fn told(
     raw: u32,
     width: u32,
     counts: Counts,
-    figures: &[u32],
+    figures: &[Estimate],
     grid: &[u32],
     rows: &[u32],
     column: &[u32],
     missing: &mut [u32],
     cause: &mut [u32],
 )
-    requires { FrontReady counts.entries counts.columns (entries_of grid.now) (figures_of figures.now) missing.old cause.old }
+    requires { FrontReady counts.entries counts.columns (entries_of grid.now) figures.now missing.old cause.old }
 {
     let n = counts.entries;
     let c = counts.columns;

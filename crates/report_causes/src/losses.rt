@@ -1,6 +1,7 @@
 // Which entries of a table are missing, by their numbers in the grid, which ascend. What stands in the slices is not trusted: each index is tested.
 use super::columns_told::four_spaced;
 use printing::Output;
+use text::Estimate;
 use writing::entries::number_at;
 use writing::lines::{number, two, words};
 
@@ -9,7 +10,7 @@ use writing::lines::{number, two, words};
 pub struct Missed<'a> {
     pub rows: &'a [u32],
     pub grid: &'a [u32],
-    pub figures: &'a [u32],
+    pub figures: &'a [Estimate],
     pub missing: &'a [u32],
     pub count: u32,
 }
@@ -20,7 +21,12 @@ impl Missed<'_> {
         if cell == 0 {
             return 0;
         }
-        number_at(self.figures, 3, cell - 1)
+        let at = (cell - 1) as usize;
+        if at < self.figures.len() {
+            self.figures[at].size
+        } else {
+            0
+        }
     }
 
     // With how many of the missing entries something is lost: a cell of a size above 0.

@@ -3,3 +3,4 @@ pub mod Openings
 pub mod Tables
 pub mod Early
 pub mod Never
+pub mod Written

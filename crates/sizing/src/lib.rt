@@ -4,7 +4,6 @@
 ghost use Rattle.std.specs.Prelude.{◌≡◌, ◌≤◌, length};
 ghost use Rattle.lists.specs.Limits.{max_position};
 ghost use Rattle.records.specs.Kept.{entries_of};
-ghost use Rattle.estimates.specs.inner.Figures.{figures_of};
 ghost use Rattle.widths.specs.inner.Lay.{LaidOut};
 ghost use Rattle.sizing.specs.Sizing.{figure_at, sizes_in, leasts_in};
 ghost use Rattle.sizing.specs.inner.Room.{Entered, Raisable, Raised};
@@ -16,21 +15,21 @@ use widths::Laid;
 const FEW_COLUMNS: usize = 64;
 
 // The figures of the cell in a line: lines are counted from 1. A filler, whose line is 0, takes no room whatever it continues.
-fn figures_of(figures: &[u32], cell: u32) -> Estimate
-    requires { cell ≤ length (figures_of figures.now) }
-    ensures { result ≡ figure_at (figures_of figures.now) cell }
+fn figures_of(figures: &[Estimate], cell: u32) -> Estimate
+    requires { cell ≤ length figures.now }
+    ensures { result ≡ figure_at figures.now cell }
 {
     if cell == 0 {
         return estimates::NONE;
     }
-    estimates::packed::estimate_at(figures, (cell - 1) as usize)
+    figures[(cell - 1) as usize]
 }
 
 // The largest quotient of figure and span in each column, as `render_table_tree` takes it of sizes and of least widths.
 // One division an entry for each: every column of an entry has the same quotient.
-pub fn raise_columns(entries: &[u32], figures: &[u32], sizes: &mut [u32], leasts: &mut [u32])
-    requires { Raisable (entries_of entries.now) (figures_of figures.now) sizes.old leasts.old }
-    ensures { Raised (entries_of entries.now) (figures_of figures.now) (length sizes.old) sizes.new leasts.new }
+pub fn raise_columns(entries: &[u32], figures: &[Estimate], sizes: &mut [u32], leasts: &mut [u32])
+    requires { Raisable (entries_of entries.now) figures.now sizes.old leasts.old }
+    ensures { Raised (entries_of entries.now) figures.now (length sizes.old) sizes.new leasts.new }
 {
     sizes.fill(0);
     leasts.fill(0);
@@ -50,18 +49,18 @@ pub fn raise_columns(entries: &[u32], figures: &[u32], sizes: &mut [u32], leasts
 // `render_table_tree` as far as the table's width: the columns' sizes and leasts, and then their widths.
 fn lay_in(
     entries: &[u32],
-    figures: &[u32],
+    figures: &[Estimate],
     raw: u32,
     width: u32,
     sizes: &mut [u32],
     leasts: &mut [u32],
     column: &mut [u32],
 ) -> Laid
-    requires entered { Entered (entries_of entries.now) (figures_of figures.now) (length column.old) }
+    requires entered { Entered (entries_of entries.now) figures.now (length column.old) }
     requires column_len_bound { length column.old ≤ max_position }
     requires sizes_len { length sizes.old ≡ length column.old }
     requires leasts_len { length leasts.old ≡ length column.old }
-    ensures { LaidOut (sizes_in (entries_of entries.now) (figures_of figures.now) (length column.old)) (leasts_in (entries_of entries.now) (figures_of figures.now) (length column.old)) raw width column.new result }
+    ensures { LaidOut (sizes_in (entries_of entries.now) figures.now (length column.old)) (leasts_in (entries_of entries.now) figures.now (length column.old)) raw width column.new result }
 {
     raise_columns(entries, figures, sizes, leasts);
     widths::lay_columns(sizes, leasts, raw, width, column)
@@ -70,18 +69,18 @@ fn lay_in(
 // The same in room that may be longer.
 fn lay_front(
     entries: &[u32],
-    figures: &[u32],
+    figures: &[Estimate],
     raw: u32,
     width: u32,
     sizes: &mut [u32],
     leasts: &mut [u32],
     column: &mut [u32],
 ) -> Laid
-    requires entered { Entered (entries_of entries.now) (figures_of figures.now) (length column.old) }
+    requires entered { Entered (entries_of entries.now) figures.now (length column.old) }
     requires column_len_bound { length column.old ≤ max_position }
     requires sizes_in_bounds { length column.old ≤ length sizes.old }
     requires leasts_in_bounds { length column.old ≤ length leasts.old }
-    ensures { LaidOut (sizes_in (entries_of entries.now) (figures_of figures.now) (length column.old)) (leasts_in (entries_of entries.now) (figures_of figures.now) (length column.old)) raw width column.new result }
+    ensures { LaidOut (sizes_in (entries_of entries.now) figures.now (length column.old)) (leasts_in (entries_of entries.now) figures.now (length column.old)) raw width column.new result }
 {
     let c = column.len();
     lay_in(
@@ -98,15 +97,15 @@ fn lay_front(
 // The same in room of N places of its own.
 fn lay_sized<const N: usize>(
     entries: &[u32],
-    figures: &[u32],
+    figures: &[Estimate],
     raw: u32,
     width: u32,
     column: &mut [u32],
 ) -> Laid
-    requires entered { Entered (entries_of entries.now) (figures_of figures.now) (length column.old) }
+    requires entered { Entered (entries_of entries.now) figures.now (length column.old) }
     requires room { length column.old ≤ N }
     requires few { N ≤ max_position }
-    ensures { LaidOut (sizes_in (entries_of entries.now) (figures_of figures.now) (length column.old)) (leasts_in (entries_of entries.now) (figures_of figures.now) (length column.old)) raw width column.new result }
+    ensures { LaidOut (sizes_in (entries_of entries.now) figures.now (length column.old)) (leasts_in (entries_of entries.now) figures.now (length column.old)) raw width column.new result }
 {
     let mut sizes = [0u32; N];
     let mut leasts = [0u32; N];
@@ -124,14 +123,14 @@ fn lay_sized<const N: usize>(
 // Lays out a table's columns. The room is cleared with each call, and for few columns a short one does.
 pub fn lay_columns(
     entries: &[u32],
-    figures: &[u32],
+    figures: &[Estimate],
     raw: u32,
     width: u32,
     column: &mut [u32],
 ) -> Laid
-    requires entered { Entered (entries_of entries.now) (figures_of figures.now) (length column.old) }
+    requires entered { Entered (entries_of entries.now) figures.now (length column.old) }
     requires column_len_bound { length column.old ≤ max_position }
-    ensures { LaidOut (sizes_in (entries_of entries.now) (figures_of figures.now) (length column.old)) (leasts_in (entries_of entries.now) (figures_of figures.now) (length column.old)) raw width column.new result }
+    ensures { LaidOut (sizes_in (entries_of entries.now) figures.now (length column.old)) (leasts_in (entries_of entries.now) figures.now (length column.old)) raw width column.new result }
 {
     if column.len() <= FEW_COLUMNS {
         lay_sized::<FEW_COLUMNS>(entries, figures, raw, width, column)

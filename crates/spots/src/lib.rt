@@ -6,7 +6,6 @@ mod starts; // where the rows of a grid start
 
 ghost use Rattle.std.specs.Prelude.{◌≡◌, true, ◌∷◌, ◌/◌, ◌≤◌, length, Some};
 ghost use Rattle.lists.specs.Limits.{max_entries, max_lines, max_size};
-ghost use Rattle.estimates.specs.inner.Figures.{figures_of};
 ghost use Rattle.opening.specs.Opening.{open_checks};
 ghost use Rattle.sheet_figures.specs.inner.Opened.{AskedIn, MeasuredIn};
 ghost use Rattle.sheet_figures.specs.inner.Early.{early};
@@ -14,6 +13,7 @@ ghost use Rattle.spots.specs.inner.Spots.{PlacesRoom, SpotRead, SpotFound};
 
 use arguments::Settings;
 use lists::{MAX_ENTRIES, MAX_LINES, Refusal};
+use text::Estimate;
 
 // Where a row stands: the numbers of the entries at which it starts, at which it ends, and at which the next one ends.
 #[derive(Clone, Copy, Debug, PartialEq, Eq)]
@@ -28,7 +28,7 @@ fn find_read(
     read: Result<usize, Refusal>,
     line: u32,
     lines: &[u32],
-    figures: &[u32],
+    figures: &[Estimate],
     settings: Settings,
     row: u32,
     entries: &mut [u32],
@@ -40,10 +40,10 @@ fn find_read(
     requires asked_in { AskedIn read lines.now line }
     requires max_entries_in_bounds { (max_entries ≤ length entries.old / 3) × (max_lines ≤ length rows.old / 2) }
     requires max_lines_in_bounds { max_lines ≤ length column.old }
-    requires measured_in { MeasuredIn read lines.now line (figures_of figures.now) }
+    requires measured_in { MeasuredIn read lines.now line figures.now }
     requires width_le_max_size { settings.width ≤ max_size }
     requires places_room { PlacesRoom x.old wide.old }
-    ensures { SpotRead read lines.now line (figures_of figures.now) settings.raw settings.width row result x.new wide.new }
+    ensures { SpotRead read lines.now line figures.now settings.raw settings.width row result x.new wide.new }
 {
     let n = read?;
     let end = records::WIDTH * n;
@@ -75,7 +75,7 @@ fn find_sheet(
     ensures { SpotFound (open_checks (Some line) sheet.now) sheet.now line settings.wrap settings.raw settings.width row result x.new wide.new }
 {
     let mut lines = [0u32; records::WIDTH * MAX_LINES];
-    let mut figures = [0u32; 3 * MAX_LINES];
+    let mut figures = [estimates::NONE; MAX_LINES];
     let mut entries = [0u32; 3 * MAX_ENTRIES];
     let mut rows = [0u32; 2 * MAX_LINES];
     let mut column = [0u32; MAX_LINES];

@@ -2,7 +2,6 @@
 ghost use Rattle.std.specs.Prelude.{◌-◌, ◌/◌, ◌≤◌, length};
 ghost use Rattle.lists.specs.Limits.{max_entries, max_lines, max_size};
 ghost use Rattle.records.specs.Kept.{kepts_of};
-ghost use Rattle.estimates.specs.inner.Figures.{figures_of};
 ghost use Rattle.table.specs.Arranging.{TableMeasured};
 ghost use Rattle.table.specs.inner.Asked.{Asked};
 ghost use Rattle.spots.specs.inner.Spots.{PlacesRoom, SpotMade};
@@ -10,12 +9,13 @@ ghost use Rattle.spots.specs.inner.Spots.{PlacesRoom, SpotMade};
 use crate::Span;
 use arguments::Settings;
 use lists::Refusal;
+use text::Estimate;
 
 // Where it stands; the places of all entries of the table are left in the slices.
 pub fn find_row(
     line: u32,
     lines: &[u32],
-    figures: &[u32],
+    figures: &[Estimate],
     settings: Settings,
     row: u32,
     entries: &mut [u32],
@@ -27,10 +27,10 @@ pub fn find_row(
     requires asked { Asked (kepts_of lines.now) line }
     requires max_entries_in_bounds { (max_entries ≤ length entries.old / 3) × (max_lines ≤ length rows.old / 2) }
     requires max_lines_in_bounds { max_lines ≤ length column.old }
-    requires table_measured { TableMeasured (kepts_of lines.now) (line - 1) (figures_of figures.now) }
+    requires table_measured { TableMeasured (kepts_of lines.now) (line - 1) figures.now }
     requires width_le_max_size { settings.width ≤ max_size }
     requires places_room { PlacesRoom x.old wide.old }
-    ensures { SpotMade (kepts_of lines.now) line (figures_of figures.now) settings.raw settings.width row result x.new wide.new }
+    ensures { SpotMade (kepts_of lines.now) line figures.now settings.raw settings.width row result x.new wide.new }
 {
     let at = (line - 1) as usize;
     let a = table::arrange(

@@ -4,13 +4,13 @@
 ghost use Rattle.std.specs.Prelude.{length, take};
 ghost use Rattle.records.specs.Kept.{kepts_of, entries_of, rows_of};
 ghost use Rattle.cells.specs.Listed.{table_rows};
-ghost use Rattle.estimates.specs.inner.Figures.{figures_of};
 ghost use Rattle.gridding.specs.Packed.{TableReady};
 ghost use Rattle.table.specs.Laying.{box_rows_by, LaidTable};
 ghost use Rattle.table.specs.Arranging.{TableMeasured, ArrangedAt};
 ghost use Rattle.table.specs.inner.Room.{LayableTable, FrontLayable, LayoutRoom};
 
 use gridding::Counts;
+use text::Estimate;
 use widths::Laid;
 
 // A table laid out: how many rows, entries and columns it has, its way and the width that it takes.
@@ -24,15 +24,15 @@ pub struct Arrangement {
 pub fn lay(
     entries: &[u32],
     rows: &[u32],
-    figures: &[u32],
+    figures: &[Estimate],
     raw: u32,
     width: u32,
     column: &mut [u32],
     x: &mut [u32],
     wide: &mut [u32],
 ) -> Laid
-    requires { LayableTable (entries_of entries.now) (rows_of rows.now) (figures_of figures.now) width column.old x.old wide.old }
-    ensures { LaidTable (length column.old) (box_rows_by (rows_of rows.now) (entries_of entries.now) (figures_of figures.now)) raw width column.new x.new wide.new result }
+    requires { LayableTable (entries_of entries.now) (rows_of rows.now) figures.now width column.old x.old wide.old }
+    ensures { LaidTable (length column.old) (box_rows_by (rows_of rows.now) (entries_of entries.now) figures.now) raw width column.new x.new wide.new result }
 {
     let laid = sizing::lay_columns(entries, figures, raw, width, column);
     let way = laid.way;
@@ -47,15 +47,15 @@ fn lay_front(
     c: usize,
     entries: &[u32],
     rows: &[u32],
-    figures: &[u32],
+    figures: &[Estimate],
     raw: u32,
     width: u32,
     column: &mut [u32],
     x: &mut [u32],
     wide: &mut [u32],
 ) -> Laid
-    requires { FrontLayable r n c (entries_of entries.now) (rows_of rows.now) (figures_of figures.now) width column.old x.old wide.old }
-    ensures { LaidTable c (box_rows_by (take r (rows_of rows.now)) (take n (entries_of entries.now)) (figures_of figures.now)) raw width (take c column.new) (take n x.new) (take n wide.new) result }
+    requires { FrontLayable r n c (entries_of entries.now) (rows_of rows.now) figures.now width column.old x.old wide.old }
+    ensures { LaidTable c (box_rows_by (take r (rows_of rows.now)) (take n (entries_of entries.now)) figures.now) raw width (take c column.new) (take n x.new) (take n wide.new) result }
 {
     let entries_end = 3 * n;
     let rows_end = 2 * r;
@@ -74,7 +74,7 @@ fn lay_front(
 // The table at the place `at` of a measured sheet: its entries and rows as records, final widths, x and width of each entry.
 pub fn arrange(
     lines: &[u32],
-    figures: &[u32],
+    figures: &[Estimate],
     at: usize,
     raw: u32,
     width: u32,
@@ -85,9 +85,9 @@ pub fn arrange(
     wide: &mut [u32],
 ) -> Arrangement
     requires table_ready { TableReady (kepts_of lines.now) at (entries_of entries.old) (rows_of rows.old) }
-    requires table_measured { TableMeasured (kepts_of lines.now) at (figures_of figures.now) }
+    requires table_measured { TableMeasured (kepts_of lines.now) at figures.now }
     requires layout_room { LayoutRoom (table_rows (kepts_of lines.now) at) width column.old x.old wide.old }
-    ensures { ArrangedAt (kepts_of lines.now) at (figures_of figures.now) raw width (entries_of entries.new) (rows_of rows.new) column.new x.new wide.new result.counts result.laid }
+    ensures { ArrangedAt (kepts_of lines.now) at figures.now raw width (entries_of entries.new) (rows_of rows.new) column.new x.new wide.new result.counts result.laid }
 {
     let counts = grid_plain::make(lines, at, entries, rows);
     let r = counts.rows;

@@ -5,7 +5,7 @@ use Rattle.std.specs.Prelude.{Err, Ok, Option, None}
 use mathlib.Core.Path.{◌≡◌, refl, ◌∙◌}
 use mathlib.Core.Bool.{Bool, true, false, ◌&&◌}
 use mathlib.Core.List.{List}
-use Prim.Native.Nat.{ℕ, ◌+◌, ◌/◌, ◌≤◌, ◌<◌}
+use Prim.Native.Nat.{ℕ, ◌+◌, ◌≤◌, ◌<◌}
 use native.Mathlib.Omega.{arith}
 use lib.Dec.{eqb}
 use lib.ListN.{length, get_or, take, replicate}
@@ -13,10 +13,8 @@ use Rattle.lists.specs.Limits.{max_size, depths}
 use Rattle.text.specs.declared.Estimate.{Estimate}
 use Rattle.records.specs.Kept.{no_kept, kept_count, kepts_of}
 use Rattle.records.specs.declared.Kept.{Kept}
-use Rattle.records.proofs.Records.{length_of}
 use Rattle.records.proofs.Kepts.{length_kepts}
 use Rattle.estimates.specs.Estimates.{none, estimates}
-use Rattle.estimates.specs.inner.Figures.{figure_by, figures_of}
 use Rattle.passing.specs.Walk.{too_narrow}
 use Rattle.walking.specs.inner.Steps.{Walkable, Rooms, Kepts, HandReady, HandedOut, LineHere, Stepped, Cleared, Walked}
 use Rattle.walking.proofs.Clear.{none_at}
@@ -31,9 +29,9 @@ SofarAny ks figures raw root overflow ps qs i =
 pub here_in : {n i : ℕ} (lines : List ℕ) → n ≡ kept_count lines → i < n → i < length (kepts_of lines)
 here_in lines e h = omega (arith, length_kepts lines)
 
-module _ (lines figures : List ℕ) (walk₀ : List (Option ℕ)) (p : Walkable (kepts_of lines) (figures_of figures)) (c : Cleared (length (kepts_of lines)) walk₀) where
-  pub figure_in : {i : ℕ} → i < length (kepts_of lines) → i < length figures / 3
-  figure_in h = omega (arith, p.measured.enough, length_of 3 figure_by figures)
+module _ (lines : List ℕ) (figures : List Estimate) (walk₀ : List (Option ℕ)) (p : Walkable (kepts_of lines) figures) (c : Cleared (length (kepts_of lines)) walk₀) where
+  pub figure_in : {i : ℕ} → i < length (kepts_of lines) → i < length figures
+  figure_in h = omega (arith, p.measured.enough)
 
   pub line_here : (walk passed : List (Option ℕ)) {i : ℕ} → length walk ≡ length walk₀ → length passed ≡ depths → i < length (kepts_of lines) → LineHere lines figures walk passed i
   line_here walk passed {i} e f h = record {
@@ -50,12 +48,12 @@ module _ (lines figures : List ℕ) (walk₀ : List (Option ℕ)) (p : Walkable 
   passed_room passed e = omega arith
 
   module _ (raw root overflow : ℕ) (small : root ≤ max_size) where
-    pub started : SofarAny (kepts_of lines) (figures_of figures) raw root overflow walk₀ (replicate depths None) 0
+    pub started : SofarAny (kepts_of lines) figures raw root overflow walk₀ (replicate depths None) 0
     started q wrap same = start q wrap same raw root overflow c (none_at depths)
 
     module _ (walk passed : List (Option ℕ)) (e : length walk ≡ length walk₀) (f : length passed ≡ depths) (i : ℕ)
-        (z : SofarAny (kepts_of lines) (figures_of figures) raw root overflow walk passed i) where
-      pub walked_all : length (kepts_of lines) ≤ i → Walked (kepts_of lines) (figures_of figures) raw root overflow (Ok tt) walk
+        (z : SofarAny (kepts_of lines) figures raw root overflow walk passed i) where
+      pub walked_all : length (kepts_of lines) ≤ i → Walked (kepts_of lines) figures raw root overflow (Ok tt) walk
       walked_all h = record {
         answer = λ wrap same. (stop p wrap same small (z p wrap same) h (walk_room walk e)).0;
         widths = λ wrap same _. (stop p wrap same small (z p wrap same) h (walk_room walk e)).1;
@@ -63,20 +61,20 @@ module _ (lines figures : List ℕ) (walk₀ : List (Option ℕ)) (p : Walkable 
       }
 
       module _ (h : i < length (kepts_of lines)) (w : Option ℕ) (ps qs : List (Option ℕ))
-          (s : Stepped (kepts_of lines) (figures_of figures) root i w walk passed ps qs) where
+          (s : Stepped (kepts_of lines) figures root i w walk passed ps qs) where
         pub hand_ready : HandReady (kepts_of lines) i w
         hand_ready = record { within = h; small = step_small p p.measured.wrap p.measured.figures_are small (z p p.measured.wrap p.measured.figures_are) h s }
 
-        module _ (b : Bool) (o : b ≡ (eqb overflow 0 && too_narrow (get_or (kepts_of lines) i no_kept).kind (get_or (figures_of figures) i none) w)) where
-          pub walked_refused : b ≡ true → (last : List (Option ℕ)) → Walked (kepts_of lines) (figures_of figures) raw root overflow (Err (refusal TooNarrow (i + 1))) last
+        module _ (b : Bool) (o : b ≡ (eqb overflow 0 && too_narrow (get_or (kepts_of lines) i no_kept).kind (get_or figures i none) w)) where
+          pub walked_refused : b ≡ true → (last : List (Option ℕ)) → Walked (kepts_of lines) figures raw root overflow (Err (refusal TooNarrow (i + 1))) last
           walked_refused t last = record {
             answer = λ wrap same. turn_refused p wrap same small (z p wrap same) h s b o t;
             widths = λ wrap same a. let x : ◌≡◌ {A = ℕ} 0 1 = cc in absurd (omega arith);
             small = λ wrap same a. let x : ◌≡◌ {A = ℕ} 0 1 = cc in absurd (omega arith);
           }
 
-          pub walked_on : b ≡ false → (last : List (Option ℕ)) → HandedOut (kepts_of lines) i (figures_of figures) raw w ps last
-              → SofarAny (kepts_of lines) (figures_of figures) raw root overflow last qs (i + 1)
+          pub walked_on : b ≡ false → (last : List (Option ℕ)) → HandedOut (kepts_of lines) i figures raw w ps last
+              → SofarAny (kepts_of lines) figures raw root overflow last qs (i + 1)
           walked_on t last g q wrap same = turn q wrap same small (z q wrap same) h s g (walk_room walk e) (passed_room passed f) b o t
 
 -- ---- slices that keep their lengths

@@ -1,8 +1,9 @@
 // What a table gives its cells: each printed one has its own width, and a missing one none.
 ghost use Rattle.std.specs.Prelude.{◌≡◌, map, ◌≤◌, length, take};
 ghost use Rattle.records.specs.Kept.{kepts_of, entries_of};
-ghost use Rattle.estimates.specs.inner.Figures.{figures_of};
 ghost use Rattle.walking.specs.inner.Steps.{Walkable, Rooms, CellsFit, cell_in, printed_by, HandReady, HandedOut};
+
+use text::Estimate;
 
 // Writes the width of each of the first n entries to the place of its cell's line; a filler has none.
 fn print_cells(entries: &[u32], wide: &[u32], n: usize, walk: &mut [Option<u32>])
@@ -21,7 +22,7 @@ fn print_cells(entries: &[u32], wide: &[u32], n: usize, walk: &mut [Option<u32>]
 // Lays out the line at the place `at`, if it is a table and has a width, and writes the widths of its cells.
 pub fn hand_out(
     lines: &[u32],
-    figures: &[u32],
+    figures: &[Estimate],
     at: usize,
     raw: u32,
     width: Option<u32>,
@@ -32,11 +33,11 @@ pub fn hand_out(
     x: &mut [u32],
     wide: &mut [u32],
 )
-    requires walkable { Walkable (kepts_of lines.now) (figures_of figures.now) }
+    requires walkable { Walkable (kepts_of lines.now) figures.now }
     requires hand_ready { HandReady (kepts_of lines.now) at width }
     requires lines_in_bounds { length (kepts_of lines.now) ≤ length walk.old }
     requires rooms { Rooms entries.old rows.old column.old x.old wide.old }
-    ensures { HandedOut (kepts_of lines.now) at (figures_of figures.now) raw width walk.old walk.new }
+    ensures { HandedOut (kepts_of lines.now) at figures.now raw width walk.old walk.new }
 {
     let here = records::kept_at(lines, at);
     if here.kind != kinds::TABLE {

@@ -5,15 +5,13 @@ use Rattle.std.specs.Option.{is_some, unwrap_or}
 use mir.Val.{bool_byte}
 use mathlib.Core.Path.{◌≡◌, refl, sym, ap, ◌∙◌}
 use mathlib.Core.Bool.{Bool, true, false, ◌||◌}
-use mathlib.Core.List.{List, [], ◌∷◌, map, map-append}
-use Prim.Native.Nat.{ℕ, ◌+◌, ◌≤◌, ◌<◌}
-use native.Mathlib.Numerals.{add-one}
+use mathlib.Core.List.{List, [], ◌∷◌, map}
+use Prim.Native.Nat.{ℕ, ◌≤◌}
 use native.Mathlib.Omega.{arith}
 use lib.Dec.{ltb}
-use lib.ListN.{length, get_or, set, take, length-map}
-use lib.Seq.{take-suc, length-take-le}
+use lib.ListN.{length, take}
 use borrow.Author.Tests.{ltb-false}
-use Rattle.lists.specs.Lists.{padded, over}
+use Rattle.lists.specs.Lists.{padded}
 use Rattle.lists.specs.Limits.{max_lines, max_wrap, max_width, max_size}
 use Rattle.lists.specs.Refusals.{Check, first_answer, verdict_of, passes, if_passes}
 use Rattle.text.specs.declared.Estimate.{Estimate}
@@ -24,7 +22,6 @@ use Rattle.opening.specs.Opening.{after_reading}
 use Rattle.arguments.specs.Arguments.{walk_arguments}
 use Rattle.arguments.proofs.Shorter.{two_fit}
 use Rattle.sheet_figures.specs.inner.Opened.{lines_in}
-use Rattle.lists.proofs.Over.{over_push, over_front}
 use Rattle.sheet_figures.specs.inner.Early.{early}
 use Rattle.sheet_figures.proofs.Early.{early_nines, none_nines, fits, leaving}
 use Rattle.passing.specs.Walk.{given_number, width_number}
@@ -46,22 +43,6 @@ pub width_is : (w : Option ℕ) → unwrap_or w 0 ≡ width_number w
 unfolding width_number
 width_is None = refl
 width_is (Some v) = refl
-
--- one number more
-pub told_step : (f : Option ℕ → ℕ) (ws : List (Option ℕ)) (o b : List ℕ) (i v : ℕ) → i < length ws → i < length o → b ≡ over (map f (take i ws)) o
-    → v ≡ f (get_or ws i None) → set b i v ≡ over (map f (take (i + 1) ws)) o
-told_step f ws o b i v h g e q =
-    let n : length (map f (take i ws)) ≡ i = length-map (take i ws) f ∙ length-take-le i ws (omega arith) in
-    (λ j. set (e j) (sym n j) (q j))
-    ∙ sym (over_push (map f (take i ws)) o (f (get_or ws i None)) (omega arith))
-    ∙ ap (λ (l : List ℕ). over l o)
-    (sym (ap (λ (k : ℕ). map f (take k ws)) (add-one i) ∙ ap (map f) (take-suc ws i None h) ∙ map-append f (take i ws) (get_or ws i None ∷ [])))
-
--- all
-pub told_all : (f : Option ℕ → ℕ) (ws : List (Option ℕ)) (o b : List ℕ) (i : ℕ) → i ≤ length ws → b ≡ over (map f (take i ws)) o → take i b ≡ map f (take i ws)
-told_all f ws o b i h e =
-    let n : length (map f (take i ws)) ≡ i = length-map (take i ws) f ∙ length-take-le i ws h in
-    (λ j. take (sym n j) (e j)) ∙ over_front (map f (take i ws)) o
 
 module _ {asked : Option ℕ} {s : List ℕ} {wrap raw width overflow : ℕ} {r : Result ℕ Refusal} {lines : List ℕ} {figures : List Estimate} {ps : List (Option ℕ)}
     (w : SheetWalked asked s wrap raw width overflow r lines figures ps) where

@@ -31,7 +31,7 @@ fn walk_out(
     ensures { WalkFound (walked_checks None sheet.now settings.wrap settings.raw settings.width settings.overflow) sheet.now settings.wrap settings.raw settings.width result given.new wide.new }
 {
     let mut lines = [0u32; records::WIDTH * MAX_LINES];
-    let mut figures = [0u32; 3 * MAX_LINES];
+    let mut figures = [estimates::NONE; MAX_LINES];
     let mut walk = [None; MAX_LINES];
     let read = pacing::walk_sheet(
         sheet,

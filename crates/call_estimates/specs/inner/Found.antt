@@ -1,6 +1,6 @@
 -- What is found of a sheet's lines, where the checks pass or one of them refuses. These are definitions; nothing is assumed.
 use Rattle.lists.specs.declared.Refusal.{Refusal}
-use Rattle.std.specs.Prelude.{◌≡◌, true, List, map, ℕ, ◌≤◌, ◌/◌, length, take, Err, Ok, Result, Option, Some}
+use Rattle.std.specs.Prelude.{◌≡◌, true, List, map, ℕ, ◌≤◌, length, take, Err, Ok, Result, Option, Some}
 use Rattle.lists.specs.Limits.{max_lines}
 use Rattle.lists.specs.Refusals.{Check, first_answer, passes, if_passes}
 use Rattle.text.specs.declared.Estimate.{Estimate}
@@ -18,8 +18,8 @@ pub record LinesRoom (size least prefix : List ℕ) : Type 0 where
   pub prefix_room : max_lines ≤ length prefix
 
 -- there are so many figures, and places for them
-pub record FiguresFit (n : ℕ) (figures size least prefix : List ℕ) : Type 0 where
-  pub figures_in : n ≤ length figures / 3
+pub record FiguresFit (n : ℕ) (figures : List Estimate) (size least prefix : List ℕ) : Type 0 where
+  pub figures_in : n ≤ length figures
   pub size_in : n ≤ length size
   pub least_in : n ≤ length least
   pub prefix_in : n ≤ length prefix

@@ -4,8 +4,8 @@
 -- say that the lines passed have their estimates, and that what is combined so far, with the lines left, comes to the whole. The measure is
 -- three times the lines left, one more for `table` and two more for `node`, which may call for their own line. Assumes nothing.
 use Prim.Native.Nat.{◌<◌}
-use mathlib.Core.Path.{sym, ◌∙◌}
-use lib.ListN.{length}
+use mathlib.Core.Path.{refl, sym, ap, ◌∙◌}
+use lib.ListN.{length, set}
 use native.Mathlib.Omega.{arith}
 use Rattle.records.specs.Kept.{kepts_of}
 use Rattle.records.proofs.Kepts.{length_kepts}
@@ -25,14 +25,14 @@ cell-overflow_add-sum t c =
     let within : c.loop-i.i < length (kepts_of c.args.lines.now) = inside c.requires.node_ready (omega (arith, c.loop-i-test.true, c.count-n.ensures)) in
     let ls = kepts_of c.args.lines.now in
     let deep : (line_at ls c.args.at).depth < (line_at ls c.loop-i.i).depth = deeper ls c.args.at c.loop-i.i c.kept_at-top.ensures c.kept_at-line.ensures c.if-line-top.false in
-    omega (arith, cell_fits c.requires.node_ready.sheet (cell_leaf c.requires.node_ready.sheet c.loop-i.invariant within deep c.kept_at-line.ensures (sym c.is_leaf.ensures ∙ c.if-is_leaf.true) c.leaf-e.ensures c.put_estimate.ensures))
+    omega (arith, cell_fits c.requires.node_ready.sheet (cell_leaf c.requires.node_ready.sheet c.loop-i.invariant within deep c.kept_at-line.ensures (sym c.is_leaf.ensures ∙ c.if-is_leaf.true) c.leaf-e.ensures refl))
 
 pub cell-loop-i-preserved-then-is_leaf : goal.cell-loop-i-preserved-then-is_leaf
 cell-loop-i-preserved-then-is_leaf t c =
     let within : c.loop-i.i < length (kepts_of c.args.lines.now) = inside c.requires.node_ready (omega (arith, c.loop-i-test.true, c.count-n.ensures)) in
     let ls = kepts_of c.args.lines.now in
     let deep : (line_at ls c.args.at).depth < (line_at ls c.loop-i.i).depth = deeper ls c.args.at c.loop-i.i c.kept_at-top.ensures c.kept_at-line.ensures c.if-line-top.false in
-    rw c.max-most.ensures (cell_leaf c.requires.node_ready.sheet c.loop-i.invariant within deep c.kept_at-line.ensures (sym c.is_leaf.ensures ∙ c.if-is_leaf.true) c.leaf-e.ensures c.put_estimate.ensures)
+    rw c.max-most.ensures (cell_leaf c.requires.node_ready.sheet c.loop-i.invariant within deep c.kept_at-line.ensures (sym c.is_leaf.ensures ∙ c.if-is_leaf.true) c.leaf-e.ensures refl)
 
 pub cell-node-next-requires : goal.cell-node-next-requires
 cell-node-next-requires t c =
@@ -51,14 +51,14 @@ cell-overflow_add-sum-else-is_leaf t c =
     let within : c.loop-i.i < length (kepts_of c.args.lines.now) = inside c.requires.node_ready (omega (arith, c.loop-i-test.true, c.count-n.ensures)) in
     let ls = kepts_of c.args.lines.now in
     let deep : (line_at ls c.args.at).depth < (line_at ls c.loop-i.i).depth = deeper ls c.args.at c.loop-i.i c.kept_at-top.ensures c.kept_at-line.ensures c.if-line-top.false in
-    omega (arith, cell_fits c.requires.node_ready.sheet (cell_again c.loop-i.invariant within deep c.node-next.ensures c.estimate_at-child.ensures))
+    omega (arith, cell_fits c.requires.node_ready.sheet (cell_again c.loop-i.invariant within deep c.node-next.ensures refl))
 
 pub cell-loop-i-preserved : goal.cell-loop-i-preserved
 cell-loop-i-preserved t c =
     let within : c.loop-i.i < length (kepts_of c.args.lines.now) = inside c.requires.node_ready (omega (arith, c.loop-i-test.true, c.count-n.ensures)) in
     let ls = kepts_of c.args.lines.now in
     let deep : (line_at ls c.args.at).depth < (line_at ls c.loop-i.i).depth = deeper ls c.args.at c.loop-i.i c.kept_at-top.ensures c.kept_at-line.ensures c.if-line-top.false in
-    rw c.max-most-else-is_leaf.ensures (cell_again c.loop-i.invariant within deep c.node-next.ensures c.estimate_at-child.ensures)
+    rw c.max-most-else-is_leaf.ensures (cell_again c.loop-i.invariant within deep c.node-next.ensures refl)
 
 pub cell-returns-after-loop-i : goal.cell-returns-after-loop-i
 cell-returns-after-loop-i t c =
@@ -76,16 +76,16 @@ node-holder-e-requires t c =
 
 pub node-returns-then-is_leaf : goal.node-returns-then-is_leaf
 node-returns-then-is_leaf t c =
-    let r = c.requires.node_ready in leaf_meets r.sheet (inside r r.within) (roomy r) c.kept_at-line.ensures (sym c.is_leaf.ensures ∙ c.if-is_leaf.true) c.leaf-e.ensures c.put_estimate.ensures
+    let r = c.requires.node_ready in leaf_meets r.sheet (inside r r.within) (roomy r) c.kept_at-line.ensures (sym c.is_leaf.ensures ∙ c.if-is_leaf.true) c.leaf-e.ensures refl
 
 pub node-returns-then-line-eq-TABLE : goal.node-returns-then-line-eq-TABLE
 node-returns-then-line-eq-TABLE t c =
-    let r = c.requires.node_ready in table_meets r.sheet (inside r r.within) c.table-p.ensures (rw c.estimate.ensures at c.put_estimate-then-line-eq-TABLE.ensures)
+    let r = c.requires.node_ready in table_meets r.sheet (inside r r.within) c.table-p.ensures (ap (set _ _) c.estimate.ensures)
 
 pub node-returns-else-line-eq-TABLE : goal.node-returns-else-line-eq-TABLE
 node-returns-else-line-eq-TABLE t c =
     let held : Holder (line_at (kepts_of c.args.lines.now) c.args.at) = plain_holder c.kept_at-line.ensures c.requires.plain (sym c.is_leaf.ensures ∙ c.if-is_leaf.false) c.if-line-eq-TABLE.false in
-    let r = c.requires.node_ready in holder_meets r.sheet (inside r r.within) c.kept_at-line.ensures held c.cell-p.ensures c.holder-e.ensures c.put_estimate-else-line-eq-TABLE.ensures
+    let r = c.requires.node_ready in holder_meets r.sheet (inside r r.within) c.kept_at-line.ensures held c.cell-p.ensures c.holder-e.ensures refl
 
 pub below_table-loop-i-init : goal.below_table-loop-i-init
 below_table-loop-i-init t c = let r = c.requires.node_ready in table_start r.sheet (begin _ (roomy r) (inside r r.within))
@@ -109,14 +109,14 @@ below_table-loop-i-preserved-then-is_filled t c =
     let within : c.loop-i.i < length (kepts_of c.args.lines.now) = inside c.requires.node_ready (omega (arith, c.loop-i-test.true, c.count-n.ensures)) in
     let ls = kepts_of c.args.lines.now in
     let deep : (line_at ls c.args.at).depth < (line_at ls c.loop-i.i).depth = deeper ls c.args.at c.loop-i.i c.kept_at-top.ensures c.kept_at-line.ensures c.if-line-top.false in
-    table_again c.requires.node_ready.sheet c.requires.at_table c.loop-i.invariant within deep (c.is_filled.ensures.cell c.if-is_filled.true) c.cell-p.ensures (rw c.estimate.ensures at c.put_estimate.ensures)
+    table_again c.requires.node_ready.sheet c.requires.at_table c.loop-i.invariant within deep (c.is_filled.ensures.cell c.if-is_filled.true) c.cell-p.ensures (ap (set _ _) c.estimate.ensures)
 
 pub below_table-loop-i-preserved : goal.below_table-loop-i-preserved
 below_table-loop-i-preserved t c =
     let within : c.loop-i.i < length (kepts_of c.args.lines.now) = inside c.requires.node_ready (omega (arith, c.loop-i-test.true, c.count-n.ensures)) in
     let ls = kepts_of c.args.lines.now in
     let deep : (line_at ls c.args.at).depth < (line_at ls c.loop-i.i).depth = deeper ls c.args.at c.loop-i.i c.kept_at-top.ensures c.kept_at-line.ensures c.if-line-top.false in
-    table_unfilled c.requires.node_ready.sheet c.requires.at_table c.loop-i.invariant within deep c.is_filled.ensures c.if-is_filled.false c.put_estimate-else-is_filled.ensures
+    table_unfilled c.requires.node_ready.sheet c.requires.at_table c.loop-i.invariant within deep c.is_filled.ensures c.if-is_filled.false refl
 
 pub below_table-returns-after-loop-i : goal.below_table-returns-after-loop-i
 below_table-returns-after-loop-i t c =

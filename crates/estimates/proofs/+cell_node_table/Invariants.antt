@@ -3,7 +3,6 @@
 -- for `table` and two more for `node`, which may call for their own line. Assumes nothing.
 use Prim.Native.Nat.{◌+◌, ◌*◌, ◌-◌}
 use Rattle.records.specs.Kept.{kepts_of, kept_count}
-use Rattle.estimates.specs.inner.Figures.{figures_of}
 use Rattle.estimates.proofs.Children.{CellLoop}
 use Rattle.estimates.proofs.Framing.{TableLoop}
 use Rattle.estimates.proofs.+cell_node_table.Given as goal
@@ -21,13 +20,13 @@ abbrev pub decreases-below_table : goal.decreases-below_table
 decreases-below_table l = 3 * (kept_count l.lines.now - l.at)
 
 abbrev pub invariant-cell-loop-i : goal.invariant-cell-loop-i
-invariant-cell-loop-i l = CellLoop l.wrap (kepts_of l.lines) (figures_of l.initial.figures) (figures_of l.figures) l.at l.sum l.most l.children l.i
+invariant-cell-loop-i l = CellLoop l.wrap (kepts_of l.lines) l.initial.figures l.figures l.at l.sum l.most l.children l.i
 
 abbrev pub decreases-cell-loop-i : goal.decreases-cell-loop-i
 decreases-cell-loop-i l = l.n - l.i
 
 abbrev pub invariant-below_table-loop-i : goal.invariant-below_table-loop-i
-invariant-below_table-loop-i l = TableLoop l.wrap (kepts_of l.lines) (figures_of l.initial.figures) (figures_of l.figures) l.at l.i
+invariant-below_table-loop-i l = TableLoop l.wrap (kepts_of l.lines) l.initial.figures l.figures l.at l.i
 
 abbrev pub decreases-below_table-loop-i : goal.decreases-below_table-loop-i
 decreases-below_table-loop-i l = l.n - l.i

@@ -1,7 +1,4 @@
 -- `estimates::measure` meets its contract: the walk from the first line goes over all lines. Assumes nothing.
-use mathlib.Core.Path.{sym, ap, ◌∙◌}
-use Prim.Native.Nat.{ℕ, ◌/◌}
-use Rattle.estimates.proofs.Packing.{length_figures}
 use Rattle.estimates.proofs.Whole.{ready, measured}
 use Rattle.estimates.proofs.measure.Goals as goal
 
@@ -15,4 +12,4 @@ node-requires c =
 pub returns : goal.returns
 returns c =
     measured c.requires.sheet c.node.ensures
-    (length_figures _ ∙ ap (λ (n : ℕ). n / 3) c.node.auto.figures ∙ sym (length_figures _))
+    c.node.auto.figures

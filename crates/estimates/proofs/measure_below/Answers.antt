@@ -1,7 +1,4 @@
 -- `estimates::measure_below` meets its contract: where all below the table is passed, its cells are measured. Assumes nothing.
-use mathlib.Core.Path.{sym, ap, ◌∙◌}
-use Prim.Native.Nat.{ℕ, ◌/◌}
-use Rattle.estimates.proofs.Packing.{length_figures}
 use Rattle.estimates.proofs.Framing.{below_end}
 use Rattle.estimates.proofs.Whole.{ready}
 use Rattle.estimates.proofs.measure_below.Goals as goal
@@ -12,4 +9,4 @@ below_table-requires c = record { node_ready = ready c.requires.lent c.requires.
 pub returns : goal.returns
 returns c =
     below_end c.requires.lent.sheet c.below_table.ensures
-    (length_figures _ ∙ ap (λ (n : ℕ). n / 3) c.below_table.auto.figures ∙ sym (length_figures _))
+    c.below_table.auto.figures

@@ -40,11 +40,11 @@ weight ls zero = 0
 weight ls (suc n) = weight ls n + ((line_at ls n).own + 4096)
 
 -- what a call at line `at` takes, in slices
-pub record NodeReady (lines figures leasts entries rows : List ℕ) (at : ℕ) : Type 0 where
+pub record NodeReady (lines : List ℕ) (figures : List Estimate) (leasts entries rows : List ℕ) (at : ℕ) : Type 0 where
   pub sheet : Sheet (kepts_of lines)
   pub lined : Lined (kepts_of lines)
   pub tables : TablesFit (kepts_of lines) (length entries / 3)
-  pub figures_fit : kept_count lines ≤ length figures / 3
+  pub figures_fit : kept_count lines ≤ length figures
   pub scratch : max_position ≤ length leasts
   pub row_room : kept_count lines ≤ length rows / 2
   pub within : at < kept_count lines

@@ -15,7 +15,6 @@ use Rattle.grid.specs.Grid.{grid_of}
 use Rattle.grid.specs.Facts.{Sound, CellOf}
 use Rattle.grid.specs.Judging.{Lined, shown}
 use Rattle.estimates.specs.Estimates.{estimate, none}
-use Rattle.estimates.specs.inner.Figures.{figures_of}
 use Rattle.estimates.specs.declared.Part.{Part}
 
 -- ---- a table by boxes
@@ -58,13 +57,13 @@ pub record EntryFits (es : List Estimate) (columns : ℕ) (e : Entry) : Type 0 w
   pub sound : (e.cell ≡ 0 → ⊥) → (get_or es (e.cell - 1) none).least ≤ (get_or es (e.cell - 1) none).size
 
 -- the first n entries, in slices
-pub record SpreadReady (entries : List ℕ) (n : ℕ) (figures : List ℕ) (columns : ℕ) : Type 0 where
+pub record SpreadReady (entries : List ℕ) (n : ℕ) (figures : List Estimate) (columns : ℕ) : Type 0 where
   pub within : n ≤ length (entries_of entries)
-  pub fit : (k : ℕ) → k < n → EntryFits (figures_of figures) columns (get_or (entries_of entries) k no_entry)
-  pub room : spread_cells (entry_boxes (figures_of figures) (take n (entries_of entries))) + max_position ≤ 2 ^ 32
+  pub fit : (k : ℕ) → k < n → EntryFits figures columns (get_or (entries_of entries) k no_entry)
+  pub room : spread_cells (entry_boxes figures (take n (entries_of entries))) + max_position ≤ 2 ^ 32
 
 -- besides, there is scratch for the columns
-pub record TabulateReady (entries : List ℕ) (n columns : ℕ) (figures : List ℕ) (scratch : ℕ) : Type 0 where
+pub record TabulateReady (entries : List ℕ) (n columns : ℕ) (figures : List Estimate) (scratch : ℕ) : Type 0 where
   pub spread : SpreadReady entries n figures columns
   pub few : columns ≤ max_position
   pub room : max_position ≤ scratch

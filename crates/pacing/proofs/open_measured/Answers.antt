@@ -1,8 +1,5 @@
 -- `pacing::open_measured` meets its contract: a sheet has no more lines than the arrays have room for. Assumes nothing.
 use native.Mathlib.Omega.{arith}
-use Rattle.opening.proofs.Passing.{figures_room}
-use Rattle.estimates.specs.inner.Figures.{figure_by}
-use Rattle.records.proofs.Records.{length_of}
 use Rattle.pacing.proofs.Opening.{sheet_opened}
 use Rattle.pacing.proofs.open_measured.Goals as goal
 
@@ -17,4 +14,4 @@ measure_sheet-requires c =
 pub returns : goal.returns
 returns c =
     sheet_opened c.measure_sheet.ensures (omega (arith, c.requires.sheet_bound, c.measure_sheet.auto.lines))
-    (figures_room _ c.measure_sheet.new.figures (omega (arith, c.requires.figures_in_bounds, length_of 3 figure_by c.args.figures.now, c.measure_sheet.auto.figures)))
+    (omega (arith, c.requires.figures_in_bounds, c.measure_sheet.auto.figures))

@@ -3,9 +3,8 @@
 -- as the entry ends there. Assumes nothing.
 use lib.ListN.{length}
 use Rattle.records.specs.Kept.{entries_of}
-use Rattle.estimates.specs.inner.Figures.{figures_of}
 use Rattle.sizing.proofs.Raises.{Sofar}
 use Rattle.sizing.proofs.raise_columns.Given as goal
 
 abbrev pub invariant-loop-i : goal.invariant-loop-i
-invariant-loop-i l = Sofar (entries_of l.entries) (figures_of l.figures) (length l.fn.sizes) l.sizes l.leasts l.i
+invariant-loop-i l = Sofar (entries_of l.entries) l.figures (length l.fn.sizes) l.sizes l.leasts l.i

@@ -1,6 +1,5 @@
 -- `spots::find_sheet` meets its contract: no sheet has more lines, and no table more entries, than the arrays have room for. Assumes nothing.
 use native.Mathlib.Omega.{arith}
-use Rattle.opening.proofs.Passing.{figures_room}
 use Rattle.sheet_figures.proofs.Openings.{asked_in}
 use Rattle.sheet_figures.proofs.Tables.{lines_of, measured_in}
 use Rattle.spots.proofs.Read.{spot_found}
@@ -10,7 +9,7 @@ pub measure_table-read-requires : goal.measure_table-read-requires
 measure_table-read-requires c =
     record {
       bytes_bound = omega arith;
-      bytes_in_bounds = figures_room _ _ (omega arith);
+      bytes_in_bounds = omega arith;
       scratch_for_any = record { leasts_room = omega arith; entries_room = omega arith; rows_room = omega arith };
     }
 
@@ -21,7 +20,7 @@ find_read-requires c =
       asked_in = asked_in w.opened (omega arith);
       max_entries_in_bounds = (omega arith, omega arith);
       max_lines_in_bounds = omega arith;
-      measured_in = measured_in w (figures_room _ _ (omega arith));
+      measured_in = measured_in w (omega arith);
       width_le_max_size = p.width_le_max_size;
       places_room = p.places_room;
     }

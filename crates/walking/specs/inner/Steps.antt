@@ -90,9 +90,9 @@ abbrev pub own_width : ℕ → ℕ → Kept → List (Option ℕ) → List (Opti
 own_width root i k ps qs = cond (eqb i 0) (Some root) (cond (eqb k.kind cell_kind) (get_or ps i None) (get_or qs (k.depth - 1) None))
 
 -- the line at place i is one of the sheet's, and its depth has a place
-pub record LineHere (lines figures : List ℕ) (walk passed : List (Option ℕ)) (i : ℕ) : Type 0 where
+pub record LineHere (lines : List ℕ) (figures : List Estimate) (walk passed : List (Option ℕ)) (i : ℕ) : Type 0 where
   pub within : i < kept_count lines
-  pub figure_in : i < length figures / 3
+  pub figure_in : i < length figures
   pub place_in : i < length walk
   pub depth_in : (get_or (kepts_of lines) i no_kept).depth < length passed
 

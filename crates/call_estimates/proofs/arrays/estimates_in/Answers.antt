@@ -4,7 +4,6 @@ use mathlib.Core.Path.{refl, ◌∙◌}
 use Prim.Native.Nat.{ℕ}
 use native.Mathlib.Omega.{arith}
 use lib.ListN.{length-replicate}
-use Rattle.opening.proofs.Passing.{figures_room}
 use Rattle.opening.proofs.Measurable.{lent_few, sheet_in, sheet_measured}
 use Rattle.sheet_figures.proofs.Openings.{lines_in_fits}
 use Rattle.call_estimates.proofs.Found.{lines_still, figures_fit, estimates_found, estimates_tried, estimates_larger}
@@ -19,7 +18,7 @@ returns-then-not-enough-clause-tried g c = estimates_larger
 pub measure_read-requires : goal.measure_read-requires
 measure_read-requires g c =
     let p = c.requires in
-    lent_few c.open_sheet-read.ensures (omega (arith, p.room.0)) (figures_room _ _ (omega (arith, p.room.1))) (λ n e. sheet_in _) _ _ _
+    lent_few c.open_sheet-read.ensures (omega (arith, p.room.0)) (omega (arith, p.room.1)) (λ n e. sheet_in _) _ _ _
     (omega (arith, p.lines_room.size_room, c.open_sheet-read.auto.scratch)) (rw (length-replicate {A = ℕ} g.row.E 0, length-replicate {A = ℕ} g.row.R 0) (c.enough.ensures.enough_in c.if-not-enough.false))
 
 pub write_figures-requires : goal.write_figures-requires

@@ -4,7 +4,6 @@ use mathlib.Core.Path.{refl, ◌∙◌}
 use Prim.Native.Nat.{ℕ}
 use native.Mathlib.Omega.{arith}
 use lib.ListN.{length-replicate}
-use Rattle.opening.proofs.Passing.{figures_room}
 use Rattle.opening.proofs.Measurable.{lent_few, front_table, table_measured}
 use Rattle.sheet_figures.proofs.Openings.{opened_at, asked_in, most_few, most_room}
 use Rattle.sheet_figures.proofs.Tables.{lines_of, measured_in}
@@ -20,7 +19,7 @@ returns-then-not-enough-clause-tried g c = layout_larger
 pub measure_read-requires : goal.measure_read-requires
 measure_read-requires g c =
     let p = c.requires in
-    lent_few c.open_sheet-read.ensures (omega (arith, p.lines_room.0)) (figures_room _ _ (omega (arith, p.lines_room.1))) (front_table c.open_sheet-read.ensures refl) _ _ _
+    lent_few c.open_sheet-read.ensures (omega (arith, p.lines_room.0)) (omega (arith, p.lines_room.1)) (front_table c.open_sheet-read.ensures refl) _ _ _
     (omega (arith, p.in_range.1.column_room, c.open_sheet-read.auto.scratch)) (rw (length-replicate {A = ℕ} g.row.E 0, length-replicate {A = ℕ} g.row.R 0) (c.enough.ensures.enough_in c.if-not-enough.false))
 
 pub layout_read-found-requires : goal.layout_read-found-requires
@@ -30,7 +29,7 @@ layout_read-found-requires g c =
     let a = asked_in w.opened (omega (arith, p.lines_room.0)) in record {
       asked_in = a;
       most_in = most_room a (most_few a (c.enough.ensures.enough_in c.if-not-enough.false)) (omega arith) (omega arith);
-      measured_in = measured_in w (figures_room _ _ (omega (arith, p.lines_room.1)));
+      measured_in = measured_in w (omega (arith, p.lines_room.1));
       width_le_max_size = p.in_range.0.width;
       out_room = out_still (c.measure_read.auto.leasts ∙ c.open_sheet-read.auto.scratch) refl refl p.in_range.1;
     }

@@ -2,9 +2,8 @@
 -- whole, in the sum and in each column. Assumes nothing.
 use lib.ListN.{length, take}
 use Rattle.records.specs.Kept.{entries_of}
-use Rattle.estimates.specs.inner.Figures.{figures_of}
 use Rattle.estimates.proofs.Spreading.{SpreadLoop}
 use Rattle.estimates.proofs.spread.spread_entries.Given as goal
 
 abbrev pub invariant-loop-i : goal.invariant-loop-i
-invariant-loop-i l = SpreadLoop (figures_of l.figures) (take l.n (entries_of l.entries)) (length l.fn.columns) l.sum l.i l.columns
+invariant-loop-i l = SpreadLoop l.figures (take l.n (entries_of l.entries)) (length l.fn.columns) l.sum l.i l.columns

@@ -1,7 +1,6 @@
 -- `missing::sheets::explain_sheet` meets its contract: no sheet has more lines, and no table more entries, than the arrays have room for. Assumes nothing.
 use mathlib.Core.Path.{refl}
 use native.Mathlib.Omega.{arith}
-use Rattle.opening.proofs.Passing.{figures_room}
 use Rattle.sheet_figures.proofs.Openings.{asked_in}
 use Rattle.sheet_figures.proofs.Tables.{lines_of, measured_in}
 use Rattle.missing.proofs.Read.{room_still, missing_found}
@@ -11,7 +10,7 @@ pub measure_table-read-requires : goal.measure_table-read-requires
 measure_table-read-requires c =
     record {
       bytes_bound = omega arith;
-      bytes_in_bounds = figures_room _ _ (omega arith);
+      bytes_in_bounds = omega arith;
       scratch_for_any = record { leasts_room = c.requires.explain_room.cause_room; entries_room = omega arith; rows_room = omega arith };
     }
 
@@ -22,7 +21,7 @@ explain_read-requires c =
     let w = lines_of c.measure_table-read.ensures in record {
       asked_in = asked_in w.opened (omega arith);
       max_entries_in_bounds = (omega arith, omega arith);
-      measured_in = measured_in w (figures_room _ _ (omega arith));
+      measured_in = measured_in w (omega arith);
       width_le_max_size = p.width_le_max_size;
       explain_room = room_still refl c.measure_table-read.auto.leasts p.explain_room;
     }

@@ -2,7 +2,6 @@
 -- Assumes nothing.
 use mathlib.Core.Path.{refl}
 use native.Mathlib.Omega.{arith}
-use Rattle.opening.proofs.Passing.{figures_room}
 use Rattle.call_layout.proofs.Found.{out_still}
 use Rattle.nested.proofs.NestCall.{nest_asked, nest_measured, place_in, width_small, nest_found}
 use Rattle.nested.proofs.nesting.nest_sheet.Goals as goal
@@ -11,7 +10,7 @@ pub walk_sheet-read-requires : goal.walk_sheet-read-requires
 walk_sheet-read-requires c =
     record {
       sheet_bound = omega arith;
-      figures_in_bounds = figures_room _ _ (omega arith);
+      figures_in_bounds = omega arith;
       places_in_bounds = omega arith;
       max_position_in_bounds = c.requires.out_room.column_room;
       raw_bound = c.requires.raw_bound;
@@ -24,7 +23,7 @@ pub nest_read-requires : goal.nest_read-requires
 nest_read-requires c =
     record {
       asked_in = nest_asked c.walk_sheet-read.ensures (omega arith);
-      measured_in = nest_measured c.walk_sheet-read.ensures (figures_room _ _ (omega arith));
+      measured_in = nest_measured c.walk_sheet-read.ensures (omega arith);
       raw_bound = (c.requires.raw_bound.0, width_small c.walk_sheet-read.ensures _ c.width_for-at.ensures);
       out_room = out_still c.walk_sheet-read.auto.leasts refl refl c.requires.out_room;
     }

@@ -1,8 +1,9 @@
 -- `walking::steps::step` meets its contract: what each call says, one after the other. Assumes nothing.
 use mathlib.Core.Path.{refl, ap, ◌∙◌}
 use native.Mathlib.Omega.{arith}
-use lib.ListN.{set}
+use lib.ListN.{get_or, set}
 use Rattle.records.specs.declared.Kept.{Kept}
+use Rattle.estimates.specs.Estimates.{none}
 use Rattle.passing.specs.Walk.{passed_on}
 use Rattle.walking.specs.inner.Steps.{own_width}
 use Rattle.walking.proofs.steps.step.Goals as goal
@@ -27,5 +28,5 @@ returns c =
       written = refl;
       passes =
           ap (set qs c.kept_at-here.result.depth) c.passed_on.ensures
-          ∙ (λ j. set qs (k j).depth (passed_on (k j).kind (c.estimate_at-e.ensures j) c.own_width-own.result));
+          ∙ (λ j. set qs (k j).depth (passed_on (k j).kind (get_or c.args.figures.now c.args.i none) c.own_width-own.result));
     }

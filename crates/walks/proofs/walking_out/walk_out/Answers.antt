@@ -1,7 +1,6 @@
 -- `walks::walking_out::walk_out` meets its contract: a sheet has no more lines than the arrays have room for, and the first buffer a place for each column.
 -- Assumes nothing.
 use native.Mathlib.Omega.{arith}
-use Rattle.opening.proofs.Passing.{figures_room}
 use Rattle.walks.proofs.WalkCall.{lines_few, tell_room, walk_found}
 use Rattle.walks.proofs.walking_out.walk_out.Goals as goal
 
@@ -9,7 +8,7 @@ pub walk_sheet-read-requires : goal.walk_sheet-read-requires
 walk_sheet-read-requires c =
     record {
       sheet_bound = omega arith;
-      figures_in_bounds = figures_room _ _ (omega arith);
+      figures_in_bounds = omega arith;
       places_in_bounds = omega arith;
       max_position_in_bounds = c.requires.walk_room.given_room;
       raw_bound = c.requires.raw_bound;
