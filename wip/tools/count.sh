@@ -1,1 +1,0 @@
-cd ${1:-.}/crates; s=$(cat */src/*.rt */src/*/*.rt 2>/dev/null | wc -l); p=$(find */specs -name '*.antt' | xargs cat | wc -l); q=$(find */proofs -name '*.antt' | xargs cat | wc -l); e=$(ls */must-fail/*.edit | wc -l); echo "crates $(ls | wc -l) src $s specs $p proofs $q edits $e"
