@@ -1,15 +1,45 @@
 // What the public calls answer of a sheet and of each of its tables, printed from the buffers that they fill: it is compared with the Rust.
-ghost use Rattle.std.specs.Prelude.{◌≤◌};
+ghost use Rattle.std.specs.Prelude.{◌≤◌, length};
 ghost use Rattle.lists.specs.Limits.{max_lines};
-ghost use Rattle.records.specs.Kept.{kept_count};
 
-use kinds::TABLE;
+use answers::Grid;
+use kinds::Kind;
 use lists::{MAX_ENTRIES, MAX_LINES, MAX_POSITION};
 use printing::Output;
+use records::{Entry, Kept, RowEnd};
 use settings::Given;
 use writing::entries::{Entries, number_at, row_ends};
 use writing::lines::{four, two, words};
 use writing::tables::{cells, heading};
+
+// The grid of the table on a line as records, from the buffers that the call fills; `first` and `span` are two of these.
+fn grid_records(
+    sheet: &[u8],
+    line: u32,
+    rows: &mut [RowEnd; MAX_LINES],
+    entries: &mut [Entry; MAX_ENTRIES],
+    first: &mut [u32; MAX_ENTRIES],
+    span: &mut [u32; MAX_ENTRIES],
+) -> Option<Grid> {
+    let mut cell = [0u32; MAX_ENTRIES];
+    let mut row = [0u32; MAX_LINES];
+    let mut end = [0u32; MAX_LINES];
+    let grid = call_grid::grid(sheet, line, &mut cell, first, span, &mut row, &mut end).ok()?;
+    for i in 0..MAX_LINES {
+        rows[i] = RowEnd {
+            line: row[i],
+            end: end[i],
+        };
+    }
+    for e in 0..MAX_ENTRIES {
+        entries[e] = Entry {
+            cell: cell[e],
+            first: first[e],
+            span: span[e],
+        };
+    }
+    Some(grid)
+}
 
 // Puts the columns' widths and the entries of the table on a line, whose grid says where they stand.
 fn layout_cells(
@@ -21,27 +51,21 @@ fn layout_cells(
     x: &[u32],
     wide: &[u32],
 ) {
-    let mut cell = [0u32; MAX_ENTRIES];
+    let mut rows = [records::NO_ROW; MAX_LINES];
+    let mut entries = [records::NO_ENTRY; MAX_ENTRIES];
     let mut first = [0u32; MAX_ENTRIES];
     let mut span = [0u32; MAX_ENTRIES];
-    let mut row = [0u32; MAX_LINES];
-    let mut end = [0u32; MAX_LINES];
-    let Ok(grid) = call_grid::grid(
-        sheet, line, &mut cell, &mut first, &mut span, &mut row, &mut end,
-    ) else {
-        return;
-    };
-    let entries = Entries {
-        rows: grid.rows,
-        row: &row,
-        end: &end,
-        each_row: 1,
-        cell: &cell,
-        each: 1,
-        start: x,
-        extent: wide,
-    };
-    cells(out, columns, column, entries);
+    let made = grid_records(sheet, line, &mut rows, &mut entries, &mut first, &mut span);
+    if let Some(grid) = made {
+        let entries = Entries {
+            count: grid.rows,
+            rows: &rows,
+            grid: &entries,
+            start: x,
+            extent: wide,
+        };
+        cells(out, columns, column, entries);
+    }
 }
 
 // Puts the layout of the table on a line. It is put only of an accepted sheet and of a table's line, which no call refuses.
@@ -72,43 +96,37 @@ fn grid_lines(out: &mut Output, line: u32, columns: u32, entries: Entries) {
     words(out, b"row cell first span\n");
     entries.put(out);
     words(out, b"row end\n");
-    row_ends(out, entries.rows, entries.row, entries.end);
+    row_ends(out, entries.rows, entries.count);
 }
 
 // Puts the grid of the table on a line, which no call refuses either.
 pub fn grid(out: &mut Output, sheet: &[u8], line: u32) {
-    let mut cell = [0u32; MAX_ENTRIES];
+    let mut rows = [records::NO_ROW; MAX_LINES];
+    let mut entries = [records::NO_ENTRY; MAX_ENTRIES];
     let mut first = [0u32; MAX_ENTRIES];
     let mut span = [0u32; MAX_ENTRIES];
-    let mut row = [0u32; MAX_LINES];
-    let mut end = [0u32; MAX_LINES];
-    let Ok(grid) = call_grid::grid(
-        sheet, line, &mut cell, &mut first, &mut span, &mut row, &mut end,
-    ) else {
-        return;
-    };
-    let entries = Entries {
-        rows: grid.rows,
-        row: &row,
-        end: &end,
-        each_row: 1,
-        cell: &cell,
-        each: 1,
-        start: &first,
-        extent: &span,
-    };
-    grid_lines(out, line, grid.columns, entries);
+    let made = grid_records(sheet, line, &mut rows, &mut entries, &mut first, &mut span);
+    if let Some(grid) = made {
+        let entries = Entries {
+            count: grid.rows,
+            rows: &rows,
+            grid: &entries,
+            start: &first,
+            extent: &span,
+        };
+        grid_lines(out, line, grid.columns, entries);
+    }
 }
 
 // Puts what is asked for of every table of a sheet, whose lines are the first n records, in the order of their lines.
-pub fn each_table<F>(out: &mut Output, kept: &[u32], n: usize, put: F)
+pub fn each_table<F>(out: &mut Output, kept: &[Kept], n: usize, put: F)
 where
     F: Fn(&mut Output, u32),
-    requires n_le_max_lines { (n ≤ max_lines) × (n ≤ kept_count kept.now) }
+    requires n_le_max_lines { (n ≤ max_lines) × (n ≤ length kept.now) }
     requires callable { F.IsAlwaysCallable put }
 {
     for i in 0..n {
-        if records::kept_at(kept, i).kind == TABLE {
+        if kept[i].kind == Kind::Table {
             put(out, (i + 1) as u32);
         }
     }
@@ -117,14 +135,8 @@ where
 // Puts a line for each line of the sheet, with its three figures.
 fn estimate_lines(out: &mut Output, lines: u32, size: &[u32], least: &[u32], prefix: &[u32]) {
     for i in 0..lines {
-        let least = number_at(least, 1, i);
-        four(
-            out,
-            i + 1,
-            number_at(size, 1, i),
-            least,
-            number_at(prefix, 1, i),
-        );
+        let least = number_at(least, i);
+        four(out, i + 1, number_at(size, i), least, number_at(prefix, i));
     }
 }
 

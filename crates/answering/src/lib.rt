@@ -4,26 +4,26 @@
 
 mod calls; // calls.rt: what the calls answer of a sheet and of each table
 
-ghost use Rattle.std.specs.Prelude.{◌≤◌};
+ghost use Rattle.std.specs.Prelude.{◌≤◌, length};
 ghost use Rattle.lists.specs.Limits.{max_lines};
-ghost use Rattle.records.specs.Kept.{kept_count};
 
 use calls::{each_table, estimates, grid, layout};
 use lists::MAX_LINES;
 use printing::Output;
+use records::Kept;
 use settings::Given;
 
 // Reads a sheet that was accepted, and answers how many lines it has: what is asked of them is which are tables.
-fn line_count(sheet: &[u8], kept: &mut [u32]) -> usize
-    requires { max_lines ≤ kept_count kept.old }
-    ensures { (result ≤ max_lines) × (result ≤ kept_count kept.new) }
+fn line_count(sheet: &[u8], kept: &mut [Kept]) -> usize
+    requires { max_lines ≤ length kept.old }
+    ensures { (result ≤ max_lines) × (result ≤ length kept.new) }
 {
     opening::read_sheet(sheet, kept).unwrap_or(0)
 }
 
 // Puts the layouts, the estimates and the grids of an accepted sheet, whose lines are the first n records.
-fn listed(out: &mut Output, sheet: &[u8], kept: &[u32], n: usize, given: Given)
-    requires { (n ≤ max_lines) × (n ≤ kept_count kept.now) }
+fn listed(out: &mut Output, sheet: &[u8], kept: &[Kept], n: usize, given: Given)
+    requires { (n ≤ max_lines) × (n ≤ length kept.now) }
 {
     each_table(out, kept, n, |out, line| layout(out, sheet, line, given));
     estimates(out, sheet, given.wrap);
@@ -32,7 +32,7 @@ fn listed(out: &mut Output, sheet: &[u8], kept: &[u32], n: usize, given: Given)
 
 // The same, with the lines read.
 fn accepted(out: &mut Output, sheet: &[u8], given: Given) {
-    let mut kept = [0u32; records::WIDTH * MAX_LINES];
+    let mut kept = [records::NO_LINE; MAX_LINES];
     let n = line_count(sheet, &mut kept);
     listed(out, sheet, &kept, n, given);
 }

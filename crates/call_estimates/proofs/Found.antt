@@ -1,4 +1,5 @@
 -- The estimates of a sheet's lines, told of the records of a measured sheet. Assumes nothing.
+use Rattle.records.specs.declared.Kept.{Kept}
 use Rattle.lists.specs.declared.Refusal.{Refusal}
 use Rattle.std.specs.Prelude.{Err, Ok, Result, None, Some}
 use mathlib.Core.Path.{◌≡◌, refl, sym, ap, ◌∙◌}
@@ -27,7 +28,7 @@ pub lines_still : {size size' least least' prefix prefix' : List ℕ} → length
     → LinesRoom size least prefix → LinesRoom size' least' prefix'
 lines_still a b c l = record { size_room = omega (arith, l.size_room); least_room = omega (arith, l.least_room); prefix_room = omega (arith, l.prefix_room) }
 
-module _ {s : List ℕ} {wrap : ℕ} {r : Result ℕ Refusal} {lines : List ℕ} {fs : List Estimate} (m : SheetMeasured None s wrap r lines fs) {n : ℕ} (e : n ≡ lines_in r) where
+module _ {s : List ℕ} {wrap : ℕ} {r : Result ℕ Refusal} {lines : List Kept} {fs : List Estimate} (m : SheetMeasured None s wrap r lines fs) {n : ℕ} (e : n ≡ lines_in r) where
   -- the figures of all lines are there, and places for them
   pub figures_fit : {figures : List Estimate} {size least prefix : List ℕ} → LinesRoom size least prefix → room_for s ≤ length figures → FiguresFit n figures size least prefix
   figures_fit l h =

@@ -5,20 +5,19 @@ ghost use Rattle.sheet.specs.Steps.{room_for};
 ghost use Rattle.opening.specs.Opening.{open_checks, opened_of};
 ghost use Rattle.call_estimates.specs.inner.Found.{LinesRoom, FiguresFit, FiguresTold, EstimatesFound, EstimatesTried};
 
-use lists::{MAX_LINES, Refusal, SMALL_LINES};
-use opening::{ENTRIES, FIGURES, KEPT, ROWS, SMALL_ENTRIES, SMALL_FIGURES, SMALL_KEPT, SMALL_ROWS};
+use lists::{MAX_ENTRIES, MAX_LINES, Refusal, SMALL_LINES};
 use text::Estimate;
 
-// What reading a sheet and checking its tables answers, in arrays of L numbers for its lines and N for the scratch. It is never taken into its caller's
+// What reading a sheet and checking its tables answers, in arrays of L lines. It is never taken into its caller's
 // frame: so a small sheet does not pay for the room of a large one.
 #[inline(never)]
-fn check_in<const L: usize, const N: usize>(sheet: &[u8]) -> Result<usize, Refusal>
-    requires room { (room_for sheet.now ≤ L / 2) × (room_for sheet.now ≤ N) }
-    requires sizes { (L ≤ 2 * max_lines) × (N ≤ max_lines) }
+fn check_in<const L: usize>(sheet: &[u8]) -> Result<usize, Refusal>
+    requires room { room_for sheet.now ≤ L }
+    requires sizes { L ≤ max_lines }
     ensures { result ≡ opened_of None sheet.now }
 {
-    let mut lines = [0u32; L];
-    let mut scratch = [0u32; N];
+    let mut lines = [records::NO_LINE; L];
+    let mut scratch = [0u32; L];
     opening::open_sheet(sheet, None, &mut lines, &mut scratch)
 }
 
@@ -27,9 +26,9 @@ pub fn check_within(sheet: &[u8]) -> Result<usize, Refusal>
     ensures { result ≡ opened_of None sheet.now }
 {
     if opening::is_small(sheet) {
-        check_in::<SMALL_KEPT, SMALL_LINES>(sheet)
+        check_in::<SMALL_LINES>(sheet)
     } else {
-        check_in::<KEPT, MAX_LINES>(sheet)
+        check_in::<MAX_LINES>(sheet)
     }
 }
 
@@ -51,28 +50,28 @@ fn write_figures(
     }
 }
 
-// The estimates of a sheet, in arrays of L numbers for its lines, F for their estimates, E for the entries and R for the rows of a grid; none, if they do
-// not suffice for the sheet's tables. `size` is scratch until it is written. It is never taken into its caller's frame, either.
+// The estimates of a sheet, in arrays of L lines, estimates and rows and E entries; none, if they do not suffice for the sheet's
+// tables. `size` is scratch until it is written. It is never taken into its caller's frame, either.
 #[inline(never)]
-fn estimates_in<const L: usize, const F: usize, const E: usize, const R: usize>(
+fn estimates_in<const L: usize, const E: usize>(
     sheet: &[u8],
     wrap: u32,
     size: &mut [u32],
     least: &mut [u32],
     prefix: &mut [u32],
 ) -> Option<Result<usize, Refusal>>
-    requires room { (room_for sheet.now ≤ L / 2) × (room_for sheet.now ≤ F) }
-    requires sizes { (L ≤ 2 * max_lines) × (F ≤ max_lines) × (E ≤ 3 * max_entries) × (R ≤ 2 * max_lines) }
+    requires room { room_for sheet.now ≤ L }
+    requires sizes { (L ≤ max_lines) × (E ≤ max_entries) }
     requires lines_room { LinesRoom size.old least.old prefix.old }
     ensures tried { EstimatesTried (open_checks None sheet.now) sheet.now wrap result size.new least.new prefix.new }
-    ensures any { max_entries ≤ E / 3 → max_lines ≤ R / 2 → IsSome result }
+    ensures any { max_entries ≤ E → max_lines ≤ L → IsSome result }
 {
-    let mut lines = [0u32; L];
-    let mut figures = [estimates::NONE; F];
-    let mut entries = [0u32; E];
-    let mut rows = [0u32; R];
+    let mut lines = [records::NO_LINE; L];
+    let mut figures = [estimates::NONE; L];
+    let mut entries = [records::NO_ENTRY; E];
+    let mut rows = [records::NO_ROW; L];
     let read = opening::open_sheet(sheet, None, &mut lines, size);
-    if !opening::measuring::enough(read, &lines, E / 3, R / 2) {
+    if !opening::measuring::enough(read, &lines, E, L) {
         return None;
     }
     opening::measuring::measure_read(
@@ -102,12 +101,10 @@ pub fn estimates_within(
     ensures { EstimatesFound (open_checks None sheet.now) sheet.now wrap result size.new least.new prefix.new }
 {
     if opening::is_small(sheet) {
-        let tried = estimates_in::<SMALL_KEPT, SMALL_FIGURES, SMALL_ENTRIES, SMALL_ROWS>(
-            sheet, wrap, size, least, prefix,
-        );
+        let tried = estimates_in::<SMALL_LINES, SMALL_LINES>(sheet, wrap, size, least, prefix);
         if let Some(read) = tried {
             return read;
         }
     }
-    estimates_in::<KEPT, FIGURES, ENTRIES, ROWS>(sheet, wrap, size, least, prefix).unwrap()
+    estimates_in::<MAX_LINES, MAX_ENTRIES>(sheet, wrap, size, least, prefix).unwrap()
 }

@@ -5,16 +5,14 @@ use Rattle.lists.specs.declared.Refusal.{Refusal}
 use Rattle.std.specs.Prelude.{Err, Ok, Result, None, Some}
 use mathlib.Core.Path.{◌≡◌, refl, sym, ap, ◌∙◌}
 use mathlib.Core.List.{List}
-use Prim.Native.Nat.{ℕ, ◌-◌, ◌*◌, ◌/◌, ◌≤◌}
+use Prim.Native.Nat.{ℕ, ◌-◌, ◌≤◌}
 use native.Mathlib.Omega.{arith}
 use lib.ListN.{length, take}
 use Rattle.lists.specs.Limits.{max_entries, max_lines, max_position}
 use Rattle.lists.specs.Refusals.{Check}
-use Rattle.records.specs.Kept.{kept_count, kepts_of}
 use Rattle.records.specs.declared.Kept.{Kept}
 use Rattle.records.specs.declared.Entry.{Entry}
-use Rattle.records.specs.declared.Row.{Row}
-use Rattle.records.proofs.Kepts.{kepts_take}
+use Rattle.records.specs.declared.RowEnd.{RowEnd}
 use Rattle.sheet.proofs.First.{first_passes, figures_fail, front_pass}
 use Rattle.cells.specs.Listed.{table_rows}
 use Rattle.grid.specs.Grid.{entries_of}
@@ -33,7 +31,7 @@ use Rattle.call_grid.proofs.Told.{rows_few, grid_fits, grid_written}
 
 -- ---- the first records
 
-module _ {read : Result ℕ Refusal} {lines : List ℕ} {line : ℕ} {es : List Entry} {rs : List Row} where
+module _ {read : Result ℕ Refusal} {lines : List Kept} {line : ℕ} {es : List Entry} {rs : List RowEnd} where
   pub grid_refused : {why : Refusal} → read ≡ Err why → GridMade read lines line (Err why) es rs
   grid_refused e = record {
     refused = λ why f. let z = sym e ∙ f in cc;
@@ -42,19 +40,19 @@ module _ {read : Result ℕ Refusal} {lines : List ℕ} {line : ℕ} {es : List 
     made = λ n f. let z : ◌≡◌ {A = ℕ} 0 1 = cc in absurd (omega arith);
   }
 
-  pub grid_read : {counts : Counts} {r : Result Grid Refusal} {n : ℕ} → read ≡ Ok n → n ≤ kept_count lines
-      → TableMade (table_rows (kepts_of (take (2 * n) lines)) (line - 1)) counts es rs → r ≡ Ok (answer_of counts) → GridMade read lines line r es rs
+  pub grid_read : {counts : Counts} {r : Result Grid Refusal} {n : ℕ} → read ≡ Ok n → n ≤ length lines
+      → TableMade (table_rows (take n lines) (line - 1)) counts es rs → r ≡ Ok (answer_of counts) → GridMade read lines line r es rs
   grid_read {counts} {r} {n} e h m a = record {
     refused = λ why f. let z : ◌≡◌ {A = ℕ} 0 1 = cc in absurd (omega arith);
     counts = λ k f. counts;
     answer = λ k f. a;
     made = λ k f.
         let z : n ≡ k = cc in
-        rw (← z) (rw (kepts_take lines n h) at m);
+        rw (← z) (m);
   }
 
 -- a grid's counts fit 32 bits
-pub counts_few : {ks : List Kept} {line : ℕ} {counts : Counts} {es : List Entry} {rs : List Row} → Asked ks line → TableMade (table_rows ks (line - 1)) counts es rs
+pub counts_few : {ks : List Kept} {line : ℕ} {counts : Counts} {es : List Entry} {rs : List RowEnd} → Asked ks line → TableMade (table_rows ks (line - 1)) counts es rs
     → (counts.entries ≤ max_entries) × (counts.rows ≤ max_lines) × (counts.columns ≤ max_position)
 counts_few {ks} {line} a m = (
   omega (arith, m.entries_are, grid_entries (table_rows ks (line - 1)) a.sound),
@@ -76,10 +74,10 @@ room_still a b c d e o =
       end_room = omega (arith, o.end_room);
     }
 
-module _ {read : Result ℕ Refusal} {lines : List ℕ} {line : ℕ} {r : Result Grid Refusal} {es : List Entry} {rs : List Row} (a : AskedIn read lines line) (g : GridMade read lines line r es rs) where
+module _ {read : Result ℕ Refusal} {lines : List Kept} {line : ℕ} {r : Result Grid Refusal} {es : List Entry} {rs : List RowEnd} (a : AskedIn read lines line) (g : GridMade read lines line r es rs) where
   -- there are places for the figures of the records that were made
-  pub figures_fit : {e l n k : ℕ} {entries rows cell first' span row end : List ℕ} → MostIn read lines line e l → GridRoom cell first' span row end
-      → e ≤ length entries / 3 → l ≤ length rows / 2 → n ≡ entries_in r → k ≡ rows_in r → GridFits n k entries rows cell first' span row end
+  pub figures_fit : {e l n k : ℕ} {entries : List Entry} {rows : List RowEnd} {cell first' span row end : List ℕ} → MostIn read lines line e l → GridRoom cell first' span row end
+      → e ≤ length entries → l ≤ length rows → n ≡ entries_in r → k ≡ rows_in r → GridFits n k entries rows cell first' span row end
   unfolding entries_in rows_in
   figures_fit {n = n} {k = k} {entries = entries} {rows = rows} {cell = cell} {first' = first'} {span = span} {row = row} {end = end} m o h i p q = at read refl
     where
@@ -95,8 +93,8 @@ module _ {read : Result ℕ Refusal} {lines : List ℕ} {line : ℕ} {r : Result
 
 -- ---- the grid asked for
 
-module _ {s : List ℕ} {line : ℕ} {read : Result ℕ Refusal} {lines : List ℕ} (w : OpenedAt s line read lines) (a : AskedIn read lines line)
-    {r : Result Grid Refusal} {es : List Entry} {rs : List Row} (g : GridMade read lines line r es rs)
+module _ {s : List ℕ} {line : ℕ} {read : Result ℕ Refusal} {lines : List Kept} (w : OpenedAt s line read lines) (a : AskedIn read lines line)
+    {r : Result Grid Refusal} {es : List Entry} {rs : List RowEnd} (g : GridMade read lines line r es rs)
     {n k : ℕ} {cell first' span row end : List ℕ} (t : GridTold n k es rs cell first' span row end) (p₀ : n ≡ entries_in r) (q₀ : k ≡ rows_in r) where
   abbrev cs : List Check
   cs = open_checks (Some line) s

@@ -1,17 +1,13 @@
 -- The grid of one table of an opened sheet: there are places for the figures of its records, and those written there are the grid's. Assumes nothing.
 use mathlib.Core.Path.{◌≡◌, refl, sym, ap, ◌∙◌}
 use mathlib.Core.List.{List, [], ◌∷◌, map}
-use Prim.Native.Nat.{ℕ, ◌+◌, ◌-◌, ◌/◌, ◌≤◌}
+use Prim.Native.Nat.{ℕ, ◌+◌, ◌-◌, ◌≤◌}
 use native.Mathlib.Omega.{arith}
 use lib.ListN.{length, take}
-use Rattle.lists.specs.Lists.{over}
 use Rattle.lists.specs.Limits.{max_entries, max_lines, max_position}
-use Rattle.records.specs.Records.{numbers_of}
-use Rattle.records.specs.Kept as packed
-use Rattle.records.specs.Kept.{entry_by, row_by}
 use Rattle.records.specs.declared.Kept.{Kept}
 use Rattle.records.specs.declared.Entry.{Entry}
-use Rattle.records.specs.declared.Row.{Row}
+use Rattle.records.specs.declared.RowEnd.{RowEnd}
 use Rattle.cells.specs.Cells as cells
 use Rattle.cells.specs.Listed.{table_rows}
 use Rattle.positions.specs.Positions.{all_rows}
@@ -23,26 +19,8 @@ use Rattle.gridding.specs.declared.Counts.{Counts}
 use Rattle.grid.specs.Judging.{shown}
 use Rattle.gridding.specs.Packed.{ended_rows, TableMade}
 use Rattle.table.specs.inner.Asked.{Asked, Most}
-use Rattle.table.proofs.Rooms.{unpacked}
 use Rattle.call_grid.specs.inner.Found.{GridRoom}
 use Rattle.call_grid.specs.inner.Made.{cell_in, first_in, span_in, line_in, end_in, GridFits, GridTold}
-
--- what was unpacked of the records of a grid
-module _ (n r : ℕ) (entries rows : List ℕ) (h : n ≤ length entries / 3) (g : r ≤ length rows / 2) where
-  pub grid_told : (cell₀ first₀ span₀ row₀ end₀ : List ℕ) {cell first' span row end : List ℕ}
-      → cell ≡ over (numbers_of 3 0 n entries) cell₀
-      → first' ≡ over (numbers_of 3 1 n entries) first₀
-      → span ≡ over (numbers_of 3 2 n entries) span₀
-      → row ≡ over (numbers_of 2 0 r rows) row₀
-      → end ≡ over (numbers_of 2 1 r rows) end₀
-      → GridTold n r (packed.entries_of entries) (packed.rows_of rows) cell first' span row end
-  grid_told p q o u v a b c d e = record {
-    cells = unpacked 3 0 n entries p entry_by cell_in (λ x. refl) h a;
-    firsts = unpacked 3 1 n entries q entry_by first_in (λ x. refl) h b;
-    spans = unpacked 3 2 n entries o entry_by span_in (λ x. refl) h c;
-    row_lines = unpacked 2 0 r rows u row_by line_in (λ x. refl) g d;
-    row_ends_fits = unpacked 2 1 r rows v row_by end_in (λ x. refl) g e;
-  }
 
 -- a figure of the first records, told by their number, and in the words of what they were made of
 told_of : {A : Type 0} (f : A → ℕ) (n m : ℕ) (ys bs : List A) (xs : List ℕ) → n ≡ m → take m ys ≡ bs → take n xs ≡ map f (take n ys) → take m xs ≡ map f bs
@@ -81,10 +59,10 @@ module _ {ks : List Kept} {line : ℕ} (a : Asked ks line) where
   pub rows_few : length (grid_of T) ≤ length ks
   rows_few = omega (arith, grid_rows T a.sound, held_few ks (line - 1))
 
-  module _ {counts : Counts} {es : List Entry} {rs : List Row} (m : TableMade T counts es rs) where
+  module _ {counts : Counts} {es : List Entry} {rs : List RowEnd} (m : TableMade T counts es rs) where
     -- there are places for its figures
-    pub grid_fits : {e l : ℕ} {entries rows cell first' span row end : List ℕ} → Most e l ks line → GridRoom cell first' span row end
-        → e ≤ length entries / 3 → l ≤ length rows / 2 → GridFits counts.entries counts.rows entries rows cell first' span row end
+    pub grid_fits : {e l : ℕ} {entries : List Entry} {rows : List RowEnd} {cell first' span row end : List ℕ} → Most e l ks line → GridRoom cell first' span row end
+        → e ≤ length entries → l ≤ length rows → GridFits counts.entries counts.rows entries rows cell first' span row end
     unfolding grid_of
     grid_fits z r h g =
         let n = grid_entries T a.sound in

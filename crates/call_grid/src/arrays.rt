@@ -6,13 +6,12 @@ ghost use Rattle.opening.specs.Opening.{open_checks};
 ghost use Rattle.call_grid.specs.inner.Found.{GridRoom, GridFound, GridTried};
 
 use answers::Grid;
-use lists::Refusal;
-use opening::{ENTRIES, KEPT, ROWS, SMALL_ENTRIES, SMALL_KEPT, SMALL_ROWS};
+use lists::{MAX_ENTRIES, MAX_LINES, Refusal, SMALL_LINES};
 
-// The grid of the table in a line of a sheet, in arrays of L numbers for its lines, E for the entries and R for the rows; none, if they do not suffice for
-// the sheet's tables. It is never taken into its caller's frame: so a small sheet does not pay for the room of a large one.
+// The grid of the table in a line of a sheet, in arrays of L lines and rows and E entries; none, if they do not suffice for the sheet's tables. `row` is scratch
+// until it is written. It is never taken into its caller's frame: so a small sheet does not pay for the room of a large one.
 #[inline(never)]
-fn grid_in<const L: usize, const E: usize, const R: usize>(
+fn grid_in<const L: usize, const E: usize>(
     sheet: &[u8],
     line: u32,
     cell: &mut [u32],
@@ -21,18 +20,18 @@ fn grid_in<const L: usize, const E: usize, const R: usize>(
     row: &mut [u32],
     row_end: &mut [u32],
 ) -> Option<Result<Grid, Refusal>>
-    requires lines_room { (room_for sheet.now ≤ L / 2) × (room_for sheet.now ≤ R) }
-    requires sizes { (L ≤ 2 * max_lines) × (E ≤ 3 * max_entries) × (R ≤ 2 * max_lines) }
+    requires lines_room { room_for sheet.now ≤ L }
+    requires sizes { (L ≤ max_lines) × (E ≤ max_entries) }
     requires grid_room { GridRoom cell.old first.old span.old row.old row_end.old }
     ensures tried { GridTried (open_checks (Some line) sheet.now) sheet.now line result
         cell.new first.new span.new row.new row_end.new }
-    ensures any { max_entries ≤ E / 3 → max_lines ≤ R / 2 → IsSome result }
+    ensures any { max_entries ≤ E → max_lines ≤ L → IsSome result }
 {
-    let mut lines = [0u32; L];
-    let mut entries = [0u32; E];
-    let mut rows = [0u32; R];
-    let read = opening::open_sheet(sheet, Some(line), &mut lines, &mut rows);
-    if !opening::measuring::enough(read, &lines, E / 3, R / 2) {
+    let mut lines = [records::NO_LINE; L];
+    let mut entries = [records::NO_ENTRY; E];
+    let mut rows = [records::NO_ROW; L];
+    let read = opening::open_sheet(sheet, Some(line), &mut lines, row);
+    if !opening::measuring::enough(read, &lines, E, L) {
         return None;
     }
     let found = super::made::make_read(read, line, &lines, &mut entries, &mut rows);
@@ -57,12 +56,12 @@ pub fn grid_within(
         cell.new first.new span.new row.new row_end.new }
 {
     if opening::is_small(sheet) {
-        let tried = grid_in::<SMALL_KEPT, SMALL_ENTRIES, SMALL_ROWS>(
+        let tried = grid_in::<SMALL_LINES, SMALL_LINES>(
             sheet, line, cell, first, span, row, row_end,
         );
         if let Some(found) = tried {
             return found;
         }
     }
-    grid_in::<KEPT, ENTRIES, ROWS>(sheet, line, cell, first, span, row, row_end).unwrap()
+    grid_in::<MAX_LINES, MAX_ENTRIES>(sheet, line, cell, first, span, row, row_end).unwrap()
 }

@@ -1,13 +1,13 @@
 // The grid of the table in a line of a sheet that was read: made as records, and each figure of them written to its buffer.
 ghost use Rattle.std.specs.Prelude.{◌≡◌, ◌≤◌, ◌/◌, length};
 ghost use Rattle.lists.specs.Limits.{max_entries, max_lines, max_position};
-ghost use Rattle.records.specs.Kept.{entries_of, rows_of};
 ghost use Rattle.sheet_figures.specs.inner.Opened.{AskedIn, MostIn};
-ghost use Rattle.call_grid.specs.inner.Made.{answer_of, GridMade, GridFits, GridTold};
+ghost use Rattle.call_grid.specs.inner.Made.{answer_of, EntriesTold, GridFits, GridMade, GridTold, RowsTold};
 
 use answers::Grid;
 use gridding::Counts;
 use lists::Refusal;
+use records::{Entry, Kept, RowEnd};
 
 // A grid's counts as the call answers them.
 fn answer_of(counts: Counts) -> Grid
@@ -25,27 +25,49 @@ fn answer_of(counts: Counts) -> Grid
 pub fn make_read(
     read: Result<usize, Refusal>,
     line: u32,
-    lines: &[u32],
-    entries: &mut [u32],
-    rows: &mut [u32],
+    lines: &[Kept],
+    entries: &mut [Entry],
+    rows: &mut [RowEnd],
 ) -> Result<Grid, Refusal>
     requires asked_in { AskedIn read lines.now line }
-    requires most_in { MostIn read lines.now line (length entries.old / 3) (length rows.old / 2) }
-    ensures { GridMade read lines.now line result (entries_of entries.new) (rows_of rows.new) }
+    requires most_in { MostIn read lines.now line (length entries.old) (length rows.old) }
+    ensures { GridMade read lines.now line result entries.new rows.new }
 {
     let n = read?;
-    let end = records::WIDTH * n;
     let at = (line - 1) as usize;
-    let counts = grid_plain::make(&lines[..end], at, entries, rows);
+    let counts = grid_plain::make(&lines[..n], at, entries, rows);
     Ok(answer_of(counts))
+}
+
+// The figures of n entries, each to its buffer.
+fn write_entries(n: usize, entries: &[Entry], cell: &mut [u32], first: &mut [u32], span: &mut [u32])
+    requires { (n ≤ length entries.now) × (n ≤ length cell.old) × (n ≤ length first.old) × (n ≤ length span.old) }
+    ensures { EntriesTold n entries.now cell.new first.new span.new }
+{
+    for i in 0..n {
+        cell[i] = entries[i].cell;
+        first[i] = entries[i].first;
+        span[i] = entries[i].span;
+    }
+}
+
+// The figures of r rows, each to its buffer.
+fn write_rows(r: usize, rows: &[RowEnd], row: &mut [u32], row_end: &mut [u32])
+    requires { (r ≤ length rows.now) × (r ≤ length row.old) × (r ≤ length row_end.old) }
+    ensures { RowsTold r rows.now row.new row_end.new }
+{
+    for i in 0..r {
+        row[i] = rows[i].line;
+        row_end[i] = rows[i].end;
+    }
 }
 
 // The figures of n entries and r rows of a grid, each to its buffer.
 pub fn write_grid(
     n: usize,
     r: usize,
-    entries: &[u32],
-    rows: &[u32],
+    entries: &[Entry],
+    rows: &[RowEnd],
     cell: &mut [u32],
     first: &mut [u32],
     span: &mut [u32],
@@ -53,12 +75,9 @@ pub fn write_grid(
     row_end: &mut [u32],
 )
     requires { GridFits n r entries.now rows.now cell.old first.old span.old row.old row_end.old }
-    ensures { GridTold n r (entries_of entries.now) (rows_of rows.now)
+    ensures { GridTold n r entries.now rows.now
         cell.new first.new span.new row.new row_end.new }
 {
-    records::unpack(entries, 3, 0, n, cell);
-    records::unpack(entries, 3, 1, n, first);
-    records::unpack(entries, 3, 2, n, span);
-    records::unpack(rows, 2, 0, r, row);
-    records::unpack(rows, 2, 1, r, row_end);
+    write_entries(n, entries, cell, first, span);
+    write_rows(r, rows, row, row_end);
 }

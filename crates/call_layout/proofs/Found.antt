@@ -5,17 +5,15 @@ use Rattle.lists.specs.declared.Refusal.{Refusal}
 use Rattle.std.specs.Prelude.{Err, Ok, Result, None, Some}
 use mathlib.Core.Path.{◌≡◌, refl, sym, ap, ◌∙◌}
 use mathlib.Core.List.{List}
-use Prim.Native.Nat.{ℕ, ◌+◌, ◌-◌, ◌*◌, ◌≤◌}
+use Prim.Native.Nat.{ℕ, ◌+◌, ◌-◌, ◌≤◌}
 use native.Mathlib.Omega.{arith}
 use lib.ListN.{length, take}
 use Rattle.lists.specs.Limits.{max_entries, max_position}
 use Rattle.lists.specs.Refusals.{Check}
 use Rattle.text.specs.declared.Estimate.{Estimate}
-use Rattle.records.specs.Kept.{kept_count, kepts_of}
 use Rattle.records.specs.declared.Kept.{Kept}
 use Rattle.records.specs.declared.Entry.{Entry}
-use Rattle.records.specs.declared.Row.{Row}
-use Rattle.records.proofs.Kepts.{kepts_take}
+use Rattle.records.specs.declared.RowEnd.{RowEnd}
 use Rattle.sheet.proofs.First.{first_passes, figures_fail, front_pass}
 use Rattle.cells.specs.Cells as cells
 use Rattle.cells.specs.Listed.{table_rows}
@@ -44,7 +42,7 @@ module _ {ks : List Kept} {line : ℕ} (a : Asked ks line) where
   abbrev T : List cells.Row
   T = table_rows ks (line - 1)
 
-  pub layout_made : {figures : List Estimate} {raw width : ℕ} {es : List Entry} {rs : List Row} {column x wide : List ℕ} {r : Arrangement}
+  pub layout_made : {figures : List Estimate} {raw width : ℕ} {es : List Entry} {rs : List RowEnd} {column x wide : List ℕ} {r : Arrangement}
       → ArrangedAt ks (line - 1) figures raw width es rs column x wide r.counts r.laid → LayoutMade ks line figures raw width r column x wide
   layout_made m = record {
     entries_are = m.made.entries_are;
@@ -61,7 +59,7 @@ table_few m = (omega (arith, m.entries_are, m.few_entries), omega (arith, m.colu
 
 -- ---- the first records
 
-module _ {read : Result ℕ Refusal} {lines : List ℕ} {line : ℕ} {figures : List Estimate} {raw width : ℕ} {column x wide : List ℕ} where
+module _ {read : Result ℕ Refusal} {lines : List Kept} {line : ℕ} {figures : List Estimate} {raw width : ℕ} {column x wide : List ℕ} where
   pub layout_refused : {why : Refusal} → read ≡ Err why → LayoutRead read lines line figures raw width (Err why) column x wide
   layout_refused e = record {
     refused = λ why f. let z = sym e ∙ f in cc;
@@ -70,20 +68,20 @@ module _ {read : Result ℕ Refusal} {lines : List ℕ} {line : ℕ} {figures : 
     made = λ n f. let z : ◌≡◌ {A = ℕ} 0 1 = cc in absurd (omega arith);
   }
 
-  pub layout_read : {a : Arrangement} {r : Result Layout Refusal} {n : ℕ} → read ≡ Ok n → n ≤ kept_count lines
-      → LayoutMade (kepts_of (take (2 * n) lines)) line figures raw width a column x wide → r ≡ Ok (answer_of a) → LayoutRead read lines line figures raw width r column x wide
+  pub layout_read : {a : Arrangement} {r : Result Layout Refusal} {n : ℕ} → read ≡ Ok n → n ≤ length lines
+      → LayoutMade (take n lines) line figures raw width a column x wide → r ≡ Ok (answer_of a) → LayoutRead read lines line figures raw width r column x wide
   layout_read {a} {r} {n} e h m q = record {
     refused = λ why f. let z : ◌≡◌ {A = ℕ} 0 1 = cc in absurd (omega arith);
     arranged = λ k f. a;
     answer = λ k f. q;
     made = λ k f.
         let z : n ≡ k = cc in
-        rw (← z) (rw (kepts_take lines n h) at m);
+        rw (← z) (m);
   }
 
 -- ---- the layout asked for
 
-module _ {s : List ℕ} {line : ℕ} (g : Settings) {read : Result ℕ Refusal} {lines : List ℕ} {figures : List Estimate} (w : LinesOf s line g.wrap read lines figures)
+module _ {s : List ℕ} {line : ℕ} (g : Settings) {read : Result ℕ Refusal} {lines : List Kept} {figures : List Estimate} (w : LinesOf s line g.wrap read lines figures)
     (low : g.raw ≤ 1) {r : Result Layout Refusal} {column x wide : List ℕ} (f : LayoutRead read lines line figures g.raw g.width r column x wide) where
   abbrev cs : List Check
   cs = open_checks (Some line) s

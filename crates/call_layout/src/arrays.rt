@@ -8,14 +8,13 @@ ghost use Rattle.call_layout.specs.inner.Found.{InRange, LayoutFound, LayoutTrie
 
 use answers::Layout;
 use arguments::Settings;
-use lists::Refusal;
-use opening::{ENTRIES, FIGURES, KEPT, ROWS, SMALL_ENTRIES, SMALL_FIGURES, SMALL_KEPT, SMALL_ROWS};
+use lists::{MAX_ENTRIES, MAX_LINES, Refusal, SMALL_LINES};
 
-// The layout of the table in a line of a sheet, in arrays of L numbers for its lines, F for their estimates, E for the entries and R for the rows; none, if
-// they do not suffice for the sheet's tables. `column` is scratch until it is written. It is never taken into its caller's frame: so a small sheet does
+// The layout of the table in a line of a sheet, in arrays of L lines, estimates and rows and E entries; none, if they do not suffice for the sheet's
+// tables. `column` is scratch until it is written. It is never taken into its caller's frame: so a small sheet does
 // not pay for the room of a large one.
 #[inline(never)]
-fn layout_in<const L: usize, const F: usize, const E: usize, const R: usize>(
+fn layout_in<const L: usize, const E: usize>(
     sheet: &[u8],
     line: u32,
     settings: Settings,
@@ -23,19 +22,19 @@ fn layout_in<const L: usize, const F: usize, const E: usize, const R: usize>(
     x: &mut [u32],
     wide: &mut [u32],
 ) -> Option<Result<Layout, Refusal>>
-    requires lines_room { (room_for sheet.now ≤ L / 2) × (room_for sheet.now ≤ F) }
-    requires sizes { (L ≤ 2 * max_lines) × (F ≤ max_lines) × (E ≤ 3 * max_entries) × (R ≤ 2 * max_lines) }
+    requires lines_room { room_for sheet.now ≤ L }
+    requires sizes { (L ≤ max_lines) × (E ≤ max_entries) }
     requires in_range { InRange settings × OutRoom column.old x.old wide.old }
     ensures tried { LayoutTried (open_checks (Some line) sheet.now) sheet.now line settings result
         column.new x.new wide.new }
-    ensures any { max_entries ≤ E / 3 → max_lines ≤ R / 2 → IsSome result }
+    ensures any { max_entries ≤ E → max_lines ≤ L → IsSome result }
 {
-    let mut lines = [0u32; L];
-    let mut figures = [estimates::NONE; F];
-    let mut entries = [0u32; E];
-    let mut rows = [0u32; R];
+    let mut lines = [records::NO_LINE; L];
+    let mut figures = [estimates::NONE; L];
+    let mut entries = [records::NO_ENTRY; E];
+    let mut rows = [records::NO_ROW; L];
     let read = opening::open_sheet(sheet, Some(line), &mut lines, column);
-    if !opening::measuring::enough(read, &lines, E / 3, R / 2) {
+    if !opening::measuring::enough(read, &lines, E, L) {
         return None;
     }
     opening::measuring::measure_read(
@@ -78,12 +77,10 @@ pub fn layout_within(
         column.new x.new wide.new }
 {
     if opening::is_small(sheet) {
-        let tried = layout_in::<SMALL_KEPT, SMALL_FIGURES, SMALL_ENTRIES, SMALL_ROWS>(
-            sheet, line, settings, column, x, wide,
-        );
+        let tried = layout_in::<SMALL_LINES, SMALL_LINES>(sheet, line, settings, column, x, wide);
         if let Some(found) = tried {
             return found;
         }
     }
-    layout_in::<KEPT, FIGURES, ENTRIES, ROWS>(sheet, line, settings, column, x, wide).unwrap()
+    layout_in::<MAX_LINES, MAX_ENTRIES>(sheet, line, settings, column, x, wide).unwrap()
 }

@@ -7,6 +7,7 @@ ghost use Rattle.call_layout.specs.inner.Read.{answer_of, LayoutRead};
 
 use answers::Layout;
 use lists::Refusal;
+use records::{Entry, Kept, RowEnd};
 use text::Estimate;
 
 // An arrangement as the call answers it.
@@ -29,18 +30,18 @@ fn answer_of(a: table::Arrangement) -> Layout
 pub fn layout_read(
     read: Result<usize, Refusal>,
     line: u32,
-    lines: &[u32],
+    lines: &[Kept],
     figures: &[Estimate],
     raw: u32,
     width: u32,
-    entries: &mut [u32],
-    rows: &mut [u32],
+    entries: &mut [Entry],
+    rows: &mut [RowEnd],
     column: &mut [u32],
     x: &mut [u32],
     wide: &mut [u32],
 ) -> Result<Layout, Refusal>
     requires asked_in { AskedIn read lines.now line }
-    requires most_in { MostIn read lines.now line (length entries.old / 3) (length rows.old / 2) }
+    requires most_in { MostIn read lines.now line (length entries.old) (length rows.old) }
     requires measured_in { MeasuredIn read lines.now line figures.now }
     requires width_le_max_size { width ≤ max_size }
     requires out_room { OutRoom column.old x.old wide.old }
@@ -48,10 +49,9 @@ pub fn layout_read(
         column.new x.new wide.new }
 {
     let n = read?;
-    let end = records::WIDTH * n;
     let at = (line - 1) as usize;
     let a = table::arrange(
-        &lines[..end],
+        &lines[..n],
         figures,
         at,
         raw,

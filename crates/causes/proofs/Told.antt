@@ -3,15 +3,14 @@
 use mathlib.Core.Path.{◌≡◌, refl, ap, ◌∙◌}
 use mathlib.Core.Bool.{Bool, true, false, cond}
 use mathlib.Core.List.{List, [], ◌∷◌, ◌++◌, map}
-use Prim.Native.Nat.{ℕ, suc, ◌*◌, ◌≤◌}
+use Prim.Native.Nat.{ℕ, suc, ◌≤◌}
 use native.Mathlib.Omega.{arith}
 use lib.ListN.{length, get_or, take, length-append, length-map, get_or-map}
 use lib.Seq.{length-take-le, take_at}
 use Rattle.lists.specs.Limits.{max_position}
 use Rattle.lists.proofs.All.{at_all}
 use Rattle.text.specs.declared.Estimate.{Estimate}
-use Rattle.records.specs.Kept.{no_entry, entry_by, entries_of}
-use Rattle.records.proofs.Records.{length_of, of_take}
+use Rattle.records.specs.Kept.{no_entry}
 use Rattle.records.specs.declared.Entry.{Entry}
 use Rattle.columns.specs.Boxes.{Box}
 use Rattle.placing.specs.inner.Rows.{bare_box, bare_boxes}
@@ -60,31 +59,25 @@ module _ {n c : ℕ} {es : List Entry} {figures : List Estimate} {entry₀ cause
   front_few {raw} {width} t =
       omega (arith, t.count, hidden_few 0 (bare_boxes (take n es)) (causes_in (take n es) figures c raw width), length-map (take n es) bare_box, entries_count)
 
--- ---- the same over the slice of the records
+-- ---- what the calls ask for
 
-module _ {n c : ℕ} (xs : List ℕ) {figures : List Estimate} {entry₀ cause₀ : List ℕ} (p : FrontReady n c (entries_of xs) figures entry₀ cause₀) where
-  pub records_in : 3 * n ≤ length xs
-  records_in = omega (arith, p.entries_in_fits, length_of 3 entry_by xs)
-
-  first_entries : entries_of (take (3 * n) xs) ≡ take n (entries_of xs)
-  first_entries = let e = length_of 3 entry_by xs in of_take 3 entry_by xs (omega arith) n (omega (arith, p.entries_in_fits, e)) (omega (arith, p.entries_in_fits, e))
-
+module _ {n c : ℕ} {es : List Entry} {figures : List Estimate} {entry₀ cause₀ : List ℕ} (p : FrontReady n c es figures entry₀ cause₀) where
   columns_count : length (take c cause₀) ≡ c
   columns_count = length-take-le c cause₀ p.cause_in
 
   -- what telling the causes asks for
-  pub causes_ready : Entered (entries_of (take (3 * n) xs)) figures (length (take c cause₀)) × (length (take c cause₀) ≤ max_position)
-  causes_ready = (rw (first_entries, columns_count) p.entered, omega (arith, columns_count, p.columns_few))
+  pub causes_ready : Entered (take n es) figures (length (take c cause₀)) × (length (take c cause₀) ≤ max_position)
+  causes_ready = (rw columns_count p.entered, omega (arith, columns_count, p.columns_few))
 
   -- the causes that are written to the front stand in the first places
   pub front_in : (ys zs : List ℕ) → length ys ≡ length (take c cause₀) → c ≤ length (ys ++ zs)
   front_in ys zs k = omega (arith, length-append ys zs, columns_count)
 
   -- what listing asks for
-  pub list_ready : (cause : List ℕ) → c ≤ length cause → Listable (entries_of (take (3 * n) xs)) (take c cause) entry₀
-  list_ready cause h = rw first_entries (front_listable p (length-take-le c cause h))
+  pub list_ready : (cause : List ℕ) → c ≤ length cause → Listable (take n es) (take c cause) entry₀
+  list_ready cause h = front_listable p (length-take-le c cause h)
 
-  pub list_told : {raw width r : ℕ} {entry ys : List ℕ} (zs : List ℕ) → ys ≡ causes_in (entries_of (take (3 * n) xs)) figures (length (take c cause₀)) raw width
-      → length ys ≡ length (take c cause₀) → Listed (entries_of (take (3 * n) xs)) (take c (ys ++ zs)) entry r
-      → FrontTold n c (entries_of xs) figures raw width r entry (ys ++ zs)
-  list_told zs y k l = front_told p zs (k ∙ columns_count) (rw (first_entries, columns_count) at y) refl (rw first_entries at l)
+  pub list_told : {raw width r : ℕ} {entry ys : List ℕ} (zs : List ℕ) → ys ≡ causes_in (take n es) figures (length (take c cause₀)) raw width
+      → length ys ≡ length (take c cause₀) → Listed (take n es) (take c (ys ++ zs)) entry r
+      → FrontTold n c es figures raw width r entry (ys ++ zs)
+  list_told zs y k l = front_told p zs (k ∙ columns_count) (rw columns_count at y) refl l

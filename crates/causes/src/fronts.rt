@@ -1,17 +1,17 @@
 // The causes of a table's columns and its missing entries, from the records of its entries and the estimates.
 ghost use Rattle.std.specs.Prelude.{◌≡◌, ◌≤◌, length};
 ghost use Rattle.lists.specs.Limits.{max_position};
-ghost use Rattle.records.specs.Kept.{entries_of};
 ghost use Rattle.sizing.specs.inner.Room.{Entered};
 ghost use Rattle.causes.specs.inner.Telling.{Tellable};
 ghost use Rattle.causes.specs.inner.Fronts.{causes_in, ColumnRoom, FrontReady, FrontTold};
 
 use lists::MAX_POSITION;
+use records::Entry;
 use text::Estimate;
 
 // The causes, with a place for each figure of a column.
 fn causes_by(
-    entries: &[u32],
+    entries: &[Entry],
     figures: &[Estimate],
     raw: u32,
     width: u32,
@@ -21,9 +21,9 @@ fn causes_by(
     column: &mut [u32],
     cause: &mut [u32],
 )
-    requires tellable { Tellable (entries_of entries.now) figures.now sizes.old leasts.old shares.old column.old }
+    requires tellable { Tellable entries.now figures.now sizes.old leasts.old shares.old column.old }
     requires cause_len { length cause.old ≡ length column.old }
-    ensures { cause.new ≡ causes_in (entries_of entries.now) figures.now (length cause.old) raw width }
+    ensures { cause.new ≡ causes_in entries.now figures.now (length cause.old) raw width }
 {
     crate::tell_columns(entries, figures, raw, width, sizes, leasts, shares, column);
     crate::write_causes(width, sizes, shares, column, cause);
@@ -31,7 +31,7 @@ fn causes_by(
 
 // The same in room that may be longer.
 fn causes_front(
-    entries: &[u32],
+    entries: &[Entry],
     figures: &[Estimate],
     raw: u32,
     width: u32,
@@ -41,9 +41,9 @@ fn causes_front(
     column: &mut [u32],
     cause: &mut [u32],
 )
-    requires entered { Entered (entries_of entries.now) figures.now (length cause.old) }
+    requires entered { Entered entries.now figures.now (length cause.old) }
     requires column_room { ColumnRoom sizes.old leasts.old shares.old column.old cause.old }
-    ensures { cause.new ≡ causes_in (entries_of entries.now) figures.now (length cause.old) raw width }
+    ensures { cause.new ≡ causes_in entries.now figures.now (length cause.old) raw width }
 {
     let c = cause.len();
     causes_by(
@@ -60,10 +60,10 @@ fn causes_front(
 }
 
 // The causes of any number of columns. The room is cleared with each call.
-fn tell_causes(entries: &[u32], figures: &[Estimate], raw: u32, width: u32, cause: &mut [u32])
-    requires entered { Entered (entries_of entries.now) figures.now (length cause.old) }
+fn tell_causes(entries: &[Entry], figures: &[Estimate], raw: u32, width: u32, cause: &mut [u32])
+    requires entered { Entered entries.now figures.now (length cause.old) }
     requires cause_len_bound { length cause.old ≤ max_position }
-    ensures { cause.new ≡ causes_in (entries_of entries.now) figures.now (length cause.old) raw width }
+    ensures { cause.new ≡ causes_in entries.now figures.now (length cause.old) raw width }
 {
     let mut sizes = [0u32; MAX_POSITION];
     let mut leasts = [0u32; MAX_POSITION];
@@ -86,17 +86,16 @@ fn tell_causes(entries: &[u32], figures: &[Estimate], raw: u32, width: u32, caus
 pub fn explain_front(
     n: usize,
     c: usize,
-    entries: &[u32],
+    entries: &[Entry],
     figures: &[Estimate],
     raw: u32,
     width: u32,
     entry: &mut [u32],
     cause: &mut [u32],
 ) -> usize
-    requires { FrontReady n c (entries_of entries.now) figures.now entry.old cause.old }
-    ensures { FrontTold n c (entries_of entries.now) figures.now raw width result entry.new cause.new }
+    requires { FrontReady n c entries.now figures.now entry.old cause.old }
+    ensures { FrontTold n c entries.now figures.now raw width result entry.new cause.new }
 {
-    let end = 3 * n;
-    tell_causes(&entries[..end], figures, raw, width, &mut cause[..c]);
-    crate::list_missing(&entries[..end], &cause[..c], entry)
+    tell_causes(&entries[..n], figures, raw, width, &mut cause[..c]);
+    crate::list_missing(&entries[..n], &cause[..c], entry)
 }

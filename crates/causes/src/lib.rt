@@ -4,12 +4,12 @@
 pub mod fronts; // those of a table whose records stand in the front of slices
 
 ghost use Rattle.std.specs.Prelude.{◌≡◌, length};
-ghost use Rattle.records.specs.Kept.{entries_of};
 ghost use Rattle.columns.specs.Columns.{up_to};
 ghost use Rattle.causes.specs.Causes.{cause_of, cause_number};
 ghost use Rattle.causes.specs.inner.Telling.{Tellable, Told, Causable, number_at};
 ghost use Rattle.causes.specs.inner.Hidden.{none_shown, Listable, Listed};
 
+use records::Entry;
 use text::Estimate;
 use widths::Laid;
 
@@ -54,7 +54,7 @@ pub fn cause_of(width: u32, size: u32, share: u32, wide: u32) -> Cause
 
 // The sizes, the leasts, the shares and the final widths of a table's columns. Laying them out overwrites no share.
 pub fn tell_columns(
-    entries: &[u32],
+    entries: &[Entry],
     figures: &[Estimate],
     raw: u32,
     width: u32,
@@ -63,8 +63,8 @@ pub fn tell_columns(
     shares: &mut [u32],
     column: &mut [u32],
 ) -> Laid
-    requires { Tellable (entries_of entries.now) figures.now sizes.old leasts.old shares.old column.old }
-    ensures { Told (entries_of entries.now) figures.now (length column.old) raw width
+    requires { Tellable entries.now figures.now sizes.old leasts.old shares.old column.old }
+    ensures { Told entries.now figures.now (length column.old) raw width
         sizes.new leasts.new shares.new column.new result }
 {
     sizing::raise_columns(entries, figures, sizes, leasts);
@@ -91,13 +91,13 @@ fn none_shown(cause: &[u32]) -> bool
 }
 
 // The numbers of the entries that are missing, each of whose columns has a cause, in the order of the grid, and how many there are.
-pub fn list_missing(entries: &[u32], cause: &[u32], missing: &mut [u32]) -> usize
-    requires { Listable (entries_of entries.now) cause.now missing.old }
-    ensures { Listed (entries_of entries.now) cause.now missing.new result }
+pub fn list_missing(entries: &[Entry], cause: &[u32], missing: &mut [u32]) -> usize
+    requires { Listable entries.now cause.now missing.old }
+    ensures { Listed entries.now cause.now missing.new result }
 {
     let mut n = 0;
-    for i in 0..entries.len() / 3 {
-        let e = records::entry_at(entries, i);
+    for i in 0..entries.len() {
+        let e = entries[i];
         let from = e.first as usize;
         let to = from + e.span as usize;
         if none_shown(&cause[from..to]) {

@@ -8,6 +8,7 @@ use native.Mathlib.Omega.{arith}
 use lib.ListN.{length, get_or, set, take, drop, length-map, length-append, length-drop, take-append-drop}
 use lib.Seq.{take-append-le, drop-append-le, length-take-le, take_at, drop_at, set-get_or}
 use borrow.Rule.Slice.PartMut.{put_mid}
+use Rattle.std.proofs.lemmas.List.{take-map, drop-map}
 use Rattle.records.specs.Records.{records, records_of}
 use Rattle.records.proofs.Records.{length_of, of_at, number_at}
 use Rattle.cells.specs.Held.{figures}
@@ -24,6 +25,13 @@ pub map_at : {A : Type 0} (f : A → ℕ) (d : A) (l : List A) (i : ℕ) → i <
 map_at f d [] i h = absurd (not-suc-le-zero h)
 map_at f d (x ∷ l) zero h = refl
 map_at f d (x ∷ l) (suc i) h = map_at f d l i (le_of_suc-le-suc h)
+
+-- lists of one length have as many
+pub maps_still : {A : Type 0} (f : A → ℕ) (l m : List A) → length m ≡ length l → length (map f m) ≡ length (map f l)
+maps_still f l m e = length-map m f ∙ e ∙ sym (length-map l f)
+
+pub part_map : {A : Type 0} (f : A → ℕ) (a e : ℕ) (l : List A) → part a e (map f l) ≡ map f (take (e - a) (drop a l))
+part_map f a e l = ap (take (e - a)) (drop-map f a l) ∙ take-map f (e - a) (drop a l)
 
 empty_is : (xs : List ℕ) → length xs ≡ 0 → xs ≡ []
 empty_is [] e = refl

@@ -3,13 +3,13 @@
 
 ghost use Rattle.std.specs.Prelude.{◌≡◌, cond, length, get_or, set, ltb, eqb, ◌+◌, ◌<◌, ◌/◌};
 ghost use Rattle.lists.specs.Limits.{max_lines};
-ghost use Rattle.records.specs.Kept.{kepts_of, no_kept};
+ghost use Rattle.records.specs.Kept.{no_kept};
 ghost use Rattle.cells.specs.Cells.{row_sum, taken};
 ghost use Rattle.cells.specs.Listed.{table_rows, ListingReady, TableListed};
 ghost use Rattle.cells.specs.Held.{no_cell, cells_of, lines_of, spans_of, rowspans_of, row_lines_of, row_ends_of};
 ghost use Rattle.cells.specs.Spans.{bare, part, rows_at, Narrow, BodyHeld, LargestSum, RowsHeld, RowEnded, RowResolved, BodyRows, BodyResolved};
 
-use records::Row;
+use records::{Kept, RowEnd};
 
 // How many cells and rows a table has.
 #[derive(Clone, Copy)]
@@ -49,12 +49,12 @@ pub fn put_cell(cells: &mut [u32], i: usize, c: Cell)
 }
 
 // Writes where row i ends; its line stays.
-pub fn end_row(rows: &mut [u32], i: usize, end: u32)
-    requires { i < length rows.old / 2 }
+pub fn end_row(rows: &mut [RowEnd], i: usize, end: u32)
+    requires { i < length rows.old }
     ensures { RowEnded i end (row_lines_of rows.old) (row_ends_of rows.old) (row_lines_of rows.new) (row_ends_of rows.new) }
 {
-    let line = records::row_at(rows, i).line;
-    records::put_row(rows, i, Row { line, end });
+    let line = rows[i].line;
+    rows[i] = RowEnd { line, end };
 }
 
 // A row's sum: every cell's cols, 0 as 1. It is the sum in `num_columns` of `tbody_to_render_tree`.
@@ -109,14 +109,14 @@ fn resolve_row(cells: &mut [u32], instead: u32, left: u32)
 
 // The largest sum of a body's rows: `max_columns` of `tbody_to_render_tree`. The first row's cells begin at `first`, and each row says where its
 // cells end.
-fn widest_row(cells: &[u32], rows: &[u32], first: usize) -> u32
+fn widest_row(cells: &[u32], rows: &[RowEnd], first: usize) -> u32
     requires { BodyHeld first (row_ends_of rows.now) (spans_of cells.now) }
     ensures { LargestSum (rows_at first (row_ends_of rows.now) (spans_of cells.now)) result }
 {
     let mut most: u32 = 0;
     let mut from = first;
-    for j in 0..rows.len() / 2 {
-        let row = records::row_at(rows, j);
+    for j in 0..rows.len() {
+        let row = rows[j];
         let to = row.end as usize;
         most = most.max(row_sum(&cells[3 * from..3 * to]));
         from = to;
@@ -125,7 +125,7 @@ fn widest_row(cells: &[u32], rows: &[u32], first: usize) -> u32
 }
 
 // Resolves each row of a body, whose largest sum is `most`. A row's sum is added up again, since there is no place to keep it.
-fn resolve_rows(cells: &mut [u32], rows: &[u32], first: usize, most: u32)
+fn resolve_rows(cells: &mut [u32], rows: &[RowEnd], first: usize, most: u32)
     requires body_held { BodyHeld first (row_ends_of rows.now) (spans_of cells.old) }
     requires rows_held { RowsHeld first (row_ends_of rows.now) (rowspans_of cells.old) }
     requires largest_sum { LargestSum (rows_at first (row_ends_of rows.now) (spans_of cells.old)) most }
@@ -133,10 +133,10 @@ fn resolve_rows(cells: &mut [u32], rows: &[u32], first: usize, most: u32)
         (lines_of cells.old) (spans_of cells.old) (rowspans_of cells.old)
         (lines_of cells.new) (spans_of cells.new) (rowspans_of cells.new) }
 {
-    let count = rows.len() / 2;
+    let count = rows.len();
     let mut from = first;
     for j in 0..count {
-        let row = records::row_at(rows, j);
+        let row = rows[j];
         let to = row.end as usize;
         let sum = row_sum(&cells[3 * from..3 * to]);
         let left = (count - j - 1) as u32;
@@ -146,7 +146,7 @@ fn resolve_rows(cells: &mut [u32], rows: &[u32], first: usize, most: u32)
 }
 
 // Resolves the cells of a body in place, as `tbody_to_render_tree` does: its rows are those from `from` up to `to`, and its first cell is at `first`.
-fn resolve_body(cells: &mut [u32], rows: &[u32], from: usize, to: usize, first: usize)
+fn resolve_body(cells: &mut [u32], rows: &[RowEnd], from: usize, to: usize, first: usize)
     requires body_rows { BodyRows from to (row_ends_of rows.now) }
     requires body_held { BodyHeld first (part from to (row_ends_of rows.now)) (spans_of cells.old) }
     requires rows_held { RowsHeld first (part from to (row_ends_of rows.now)) (rowspans_of cells.old) }
@@ -154,23 +154,23 @@ fn resolve_body(cells: &mut [u32], rows: &[u32], from: usize, to: usize, first: 
         (lines_of cells.old) (spans_of cells.old) (rowspans_of cells.old)
         (lines_of cells.new) (spans_of cells.new) (rowspans_of cells.new) }
 {
-    let most = widest_row(cells, &rows[2 * from..2 * to], first);
-    resolve_rows(cells, &rows[2 * from..2 * to], first, most);
+    let most = widest_row(cells, &rows[from..to], first);
+    resolve_rows(cells, &rows[from..to], first, most);
 }
 
 // Whether there is a line at the place i that is deeper than d.
-pub fn below(lines: &[u32], i: usize, d: u32) -> bool
-    ensures { result ≡ ltb d (get_or (kepts_of lines.now) i no_kept).depth }
+pub fn below(lines: &[Kept], i: usize, d: u32) -> bool
+    ensures { result ≡ ltb d (get_or lines.now i no_kept).depth }
 {
-    i < records::count(lines) && d < records::kept_at(lines, i).depth
+    i < lines.len() && d < u32::from(lines[i].depth)
 }
 
 // The row of the line at the place i, up to which there are n cells.
-fn row_of(i: usize, n: usize) -> Row
+fn row_of(i: usize, n: usize) -> RowEnd
     requires { (i < max_lines) × (n < max_lines) }
     ensures { (result.line ≡ i + 1) × (result.end ≡ n) }
 {
-    Row {
+    RowEnd {
         line: (i + 1) as u32,
         end: n as u32,
     }
@@ -191,21 +191,21 @@ fn cell_of(i: usize, cols: u32, rows: u32) -> Cell
 // Lists the rows and the cells of the table at the place `at`, resolved: what `tr_to_render_tree` and `tbody_to_render_tree` gather. A row's
 // record says how many cells there are up to and including it. A body is resolved where the next one begins, since only then its largest sum and
 // its last row are known, and the last one where the table ends.
-pub fn list_rows(lines: &[u32], at: usize, cells: &mut [u32], rows: &mut [u32]) -> Listed
-    requires { ListingReady (kepts_of lines.now) at (lines_of cells.old) (spans_of cells.old) (rowspans_of cells.old) (row_lines_of rows.old) (row_ends_of rows.old) }
-    ensures { TableListed (table_rows (kepts_of lines.now) at)
+pub fn list_rows(lines: &[Kept], at: usize, cells: &mut [u32], rows: &mut [RowEnd]) -> Listed
+    requires { ListingReady lines.now at (lines_of cells.old) (spans_of cells.old) (rowspans_of cells.old) (row_lines_of rows.old) (row_ends_of rows.old) }
+    ensures { TableListed (table_rows lines.now at)
         (lines_of cells.old) (spans_of cells.old) (rowspans_of cells.old) (row_lines_of rows.old) (row_ends_of rows.old)
         (lines_of cells.new) (spans_of cells.new) (rowspans_of cells.new) (row_lines_of rows.new) (row_ends_of rows.new) result.cells result.rows }
 {
-    let d = records::kept_at(lines, at).depth;
+    let d = u32::from(lines[at].depth);
     // the cells and the rows listed, and how many of them stand before the last body
     let mut n = 0;
     let mut r = 0;
     let mut first_cell = 0;
     let mut first_row = 0;
-    for i in at + 1..records::count(lines) {
-        let line = records::kept_at(lines, i);
-        let e = line.depth;
+    for i in at + 1..lines.len() {
+        let line = lines[i];
+        let e = u32::from(line.depth);
         if e <= d {
             break;
         }
@@ -214,10 +214,14 @@ pub fn list_rows(lines: &[u32], at: usize, cells: &mut [u32], rows: &mut [u32]) 
             first_cell = n;
             first_row = r;
         } else if e == d + 2 {
-            records::put_row(rows, r, row_of(i, n));
+            rows[r] = row_of(i, n);
             r += 1;
         } else if e == d + 3 {
-            put_cell(cells, n, cell_of(i, line.cols, line.rows));
+            put_cell(
+                cells,
+                n,
+                cell_of(i, u32::from(line.cols), u32::from(line.rows)),
+            );
             n += 1;
             end_row(rows, r - 1, n as u32);
         }

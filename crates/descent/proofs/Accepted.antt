@@ -8,7 +8,7 @@ use native.Mathlib.Numerals.{add-one}
 use native.Mathlib.Omega.{arith}
 use lib.ListN.{length, get_or}
 use Rattle.lists.specs.Refusals.{passes}
-use Rattle.kinds.specs.Kinds.{table_kind}
+use Rattle.kinds.specs.Kinds.{kind_number, table_kind}
 use Rattle.records.specs.Kept.{no_kept}
 use Rattle.sheet.specs.Sheet.{sheet_checks, sheet_lines}
 use Rattle.sheet.specs.Reading.{reading_of}
@@ -43,7 +43,7 @@ module _ (s : List ℕ) (wrap raw width overflow : ℕ) (p : passes (walked_chec
   pub sheet : Sheet (kept_lines s)
   sheet = sheet_of s (length (sheet_lines s)) reads
 
-  pub sound : (t : ℕ) → t < length (kept_lines s) → (get_or (kept_lines s) t no_kept).kind ≡ table_kind → Sound (table_rows (kept_lines s) t)
+  pub sound : (t : ℕ) → t < length (kept_lines s) → kind_number (get_or (kept_lines s) t no_kept).kind ≡ table_kind → Sound (table_rows (kept_lines s) t)
   unfolding table_rows
   sound t h k =
       sound_passes (table_rows (kept_lines s) t) (t + 1)

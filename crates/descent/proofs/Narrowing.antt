@@ -15,7 +15,7 @@ use Rattle.lists.specs.declared.Reason.TheVariants.{TooNarrow}
 use Rattle.lists.specs.Refusals.{check, passes}
 use Rattle.lists.proofs.All.{all_drop}
 use Rattle.text.specs.declared.Estimate.{Estimate}
-use Rattle.kinds.specs.Kinds.{table_kind, cell_kind}
+use Rattle.kinds.specs.Kinds.{kind_number, table_kind, cell_kind}
 use Rattle.records.specs.Kept.{no_kept}
 use Rattle.records.specs.Parents.{Parent}
 use Rattle.records.specs.declared.Kept.{Kept}
@@ -70,7 +70,7 @@ cell_less wrap raw ks t v i x s e =
 
 -- ---- the walk
 
-module _ (wrap raw root : ℕ) {ks : List Kept} (w : Sheet ks) (sound : (t : ℕ) → t < length ks → (get_or ks t no_kept).kind ≡ table_kind → Sound (table_rows ks t))
+module _ (wrap raw root : ℕ) {ks : List Kept} (w : Sheet ks) (sound : (t : ℕ) → t < length ks → kind_number (get_or ks t no_kept).kind ≡ table_kind → Sound (table_rows ks t))
     (wide : passes (narrow_checks wrap raw root 0 ks) ≡ true) where
   abbrev W : ℕ → Option ℕ
   W i = get_or (walk wrap raw root ks) i None
@@ -88,15 +88,15 @@ module _ (wrap raw root : ℕ) {ks : List Kept} (w : Sheet ks) (sound : (t : ℕ
 
   -- no line is wider than its parent
   parent_less : (p i v x : ℕ) → Parent ks p i → get_or (walk wrap raw root ks) p None ≡ Some v → get_or (walk wrap raw root ks) i None ≡ Some x → x ≤ v
-  parent_less p i v x r a b = go (ℕ_discrete (get_or ks i no_kept).kind cell_kind)
+  parent_less p i v x r a b = go (ℕ_discrete (kind_number (get_or ks i no_kept).kind) cell_kind)
     where
       e : Estimate
       e = get_or (estimates wrap ks) p none
 
       kind : ℕ
-      kind = (get_or ks p no_kept).kind
+      kind = kind_number (get_or ks p no_kept).kind
 
-      go : Dec ((get_or ks i no_kept).kind ≡ cell_kind) → x ≤ v
+      go : Dec (kind_number (get_or ks i no_kept).kind ≡ cell_kind) → x ≤ v
       go (yes c) =
           let t = cell_table w i r.within c in
           let o = t.cell.1 in

@@ -10,7 +10,7 @@ use native.Mathlib.Omega.{arith}
 use lib.ListN.{length, get_or}
 use borrow.Author.Tests.{eq-eqb, ne_eqb}
 use Rattle.text.specs.declared.Estimate.{Estimate}
-use Rattle.kinds.specs.Kinds.{table_kind, body_kind, row_kind, cell_kind}
+use Rattle.kinds.specs.Kinds.{kind_number, table_kind, body_kind, row_kind, cell_kind}
 use Rattle.records.specs.Kept.{no_kept}
 use Rattle.records.specs.Parents.{Parent}
 use Rattle.records.specs.declared.Kept.{Kept}
@@ -54,23 +54,23 @@ module _ (wrap raw root : ℕ) {ks : List Kept} (w : Sheet ks) where
   unfolding line_width
   page_width = own 0 w.some
 
-  pub from_parent : (p i : ℕ) → Parent ks p i → ((get_or ks i no_kept).kind ≡ cell_kind → ⊥)
-      → get_or (walk wrap raw root ks) i None ≡ passed_on (get_or ks p no_kept).kind (get_or (estimates wrap ks) p none) (get_or (walk wrap raw root ks) p None)
+  pub from_parent : (p i : ℕ) → Parent ks p i → (kind_number (get_or ks i no_kept).kind ≡ cell_kind → ⊥)
+      → get_or (walk wrap raw root ks) i None ≡ passed_on (kind_number (get_or ks p no_kept).kind) (get_or (estimates wrap ks) p none) (get_or (walk wrap raw root ks) p None)
   unfolding line_width
   from_parent p i r n =
       own i r.within
-      ∙ rw (ne_eqb i 0 (λ e. omega (arith, r.before)), ne_eqb (get_or ks i no_kept).kind cell_kind n)
+      ∙ rw (ne_eqb i 0 (λ e. omega (arith, r.before)), ne_eqb (kind_number (get_or ks i no_kept).kind) cell_kind n)
       (nearest_is (passed_by wrap ks (F i)) ks ((get_or ks i no_kept).depth - 1) i p r.before (omega (arith, r.deeper))
       (λ k a b e. omega (arith, r.between k a b, r.deeper))
-      ∙ ap (passed_on (get_or ks p no_kept).kind (get_or (estimates wrap ks) p none)) (front i p r.before (omega (arith, r.within))))
+      ∙ ap (passed_on (kind_number (get_or ks p no_kept).kind) (get_or (estimates wrap ks) p none)) (front i p r.before (omega (arith, r.within))))
 
-  pub from_table : (i : ℕ) → (get_or ks i no_kept).kind ≡ cell_kind → (c : InTable ks i)
+  pub from_table : (i : ℕ) → kind_number (get_or ks i no_kept).kind ≡ cell_kind → (c : InTable ks i)
       → get_or (walk wrap raw root ks) i None ≡ cell_width wrap raw ks c.table (get_or (walk wrap raw root ks) c.table None) i
   unfolding line_width
   from_table i e c =
       let o = c.cell.1 in
       own i o.within
-      ∙ rw (ne_eqb i 0 (λ e. omega (arith, o.before)), eq-eqb (get_or ks i no_kept).kind cell_kind e)
+      ∙ rw (ne_eqb i 0 (λ e. omega (arith, o.before)), eq-eqb (kind_number (get_or ks i no_kept).kind) cell_kind e)
       (cell_nearest w (λ t. cell_width wrap raw ks t (get_or (F i) t None) i) i c
       ∙ ap (λ (v : Option ℕ). cell_width wrap raw ks c.table v i) (front i c.table o.before (omega (arith, o.within))))
 
@@ -96,28 +96,28 @@ module _ (wrap raw root : ℕ) {ks : List Kept} (w : Sheet ks) where
     body_in : Parent ks t body.0
     body_in = rw same_table at table.1
 
-    body_kind_lem : (get_or ks body.0 no_kept).kind ≡ body_kind
+    body_kind_lem : kind_number (get_or ks body.0 no_kept).kind ≡ body_kind
     body_kind_lem = (may w t body.0 body_in).in_table c.0
 
-    row_kind_lem : (get_or ks p no_kept).kind ≡ row_kind
+    row_kind_lem : kind_number (get_or ks p no_kept).kind ≡ row_kind
     row_kind_lem = (may w body.0 p body.1).in_body body_kind_lem
 
     pub row_width : get_or (walk wrap raw root ks) p None ≡ get_or (walk wrap raw root ks) t None
     row_width =
         from_parent body.0 p body.1 (λ e. omega (arith, row_kind_lem))
-        ∙ all_on (get_or ks body.0 no_kept).kind (get_or (estimates wrap ks) body.0 none) (W body.0) (off_body (get_or ks body.0 no_kept).kind body_kind_lem)
+        ∙ all_on (kind_number (get_or ks body.0 no_kept).kind) (get_or (estimates wrap ks) body.0 none) (W body.0) (off_body (kind_number (get_or ks body.0 no_kept).kind) body_kind_lem)
         ∙ from_parent t body.0 body_in (λ e. omega (arith, body_kind_lem))
-        ∙ all_on (get_or ks t no_kept).kind (get_or (estimates wrap ks) t none) (W t) (off_table (get_or ks t no_kept).kind c.0)
+        ∙ all_on (kind_number (get_or ks t no_kept).kind) (get_or (estimates wrap ks) t none) (W t) (off_table (kind_number (get_or ks t no_kept).kind) c.0)
 
   -- what has no width passes on none
   pub none_on : (p i : ℕ) → Parent ks p i → get_or (walk wrap raw root ks) p None ≡ None → get_or (walk wrap raw root ks) i None ≡ None
   unfolding passed_on cell_width
-  none_on p i r q = go (ℕ_discrete (get_or ks i no_kept).kind cell_kind)
+  none_on p i r q = go (ℕ_discrete (kind_number (get_or ks i no_kept).kind) cell_kind)
     where
-      go : Dec ((get_or ks i no_kept).kind ≡ cell_kind) → W i ≡ None
+      go : Dec (kind_number (get_or ks i no_kept).kind ≡ cell_kind) → W i ≡ None
       go (yes c) =
           let t = cell_table w i r.within c in
           from_table i c t
           ∙ ap (λ (u : Option ℕ). cell_width wrap raw ks t.table u i) (sym (row_width p i t.table r t.cell) ∙ q)
       go (no c) =
-          from_parent p i r c ∙ ap (passed_on (get_or ks p no_kept).kind (get_or (estimates wrap ks) p none)) q
+          from_parent p i r c ∙ ap (passed_on (kind_number (get_or ks p no_kept).kind) (get_or (estimates wrap ks) p none)) q

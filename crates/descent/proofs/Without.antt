@@ -10,7 +10,7 @@ use native.Mathlib.Nat.{not-suc-le-zero}
 use native.Mathlib.Omega.{arith}
 use lib.ListN.{length, get_or}
 use Rattle.text.specs.declared.Estimate.{Estimate}
-use Rattle.kinds.specs.Kinds.{cell_kind}
+use Rattle.kinds.specs.Kinds.{kind_number, cell_kind}
 use Rattle.records.specs.Kept.{no_kept}
 use Rattle.records.specs.Parents.{Parent}
 use Rattle.records.specs.declared.Kept.{Kept}
@@ -73,9 +73,9 @@ module _ (wrap raw root : ℕ) {ks : List Kept} (w : Sheet ks) where
 
   -- where the parent has a width
   missing_here : (p i v : ℕ) → Parent ks p i → get_or (walk wrap raw root ks) p None ≡ Some v → get_or (walk wrap raw root ks) i None ≡ None → InMissing wrap raw root ks i
-  missing_here p i v r a b = go (ℕ_discrete (get_or ks i no_kept).kind cell_kind)
+  missing_here p i v r a b = go (ℕ_discrete (kind_number (get_or ks i no_kept).kind) cell_kind)
     where
-      go : Dec ((get_or ks i no_kept).kind ≡ cell_kind) → In i
+      go : Dec (kind_number (get_or ks i no_kept).kind ≡ cell_kind) → In i
       go (yes c) =
           let t = cell_table w i r.within c in
           let f : W t.table ≡ Some v = sym (row_width wrap raw root w p i t.table r t.cell) ∙ a in
@@ -92,8 +92,8 @@ module _ (wrap raw root : ℕ) {ks : List Kept} (w : Sheet ks) where
             inside = inl refl;
           }
       go (no c) =
-          absurd (some_on (get_or ks p no_kept).kind (get_or (estimates wrap ks) p none) v
-          (ap (passed_on (get_or ks p no_kept).kind (get_or (estimates wrap ks) p none)) (sym a) ∙ sym (from_parent wrap raw root w p i r c) ∙ b))
+          absurd (some_on (kind_number (get_or ks p no_kept).kind) (get_or (estimates wrap ks) p none) v
+          (ap (passed_on (kind_number (get_or ks p no_kept).kind) (get_or (estimates wrap ks) p none)) (sym a) ∙ sym (from_parent wrap raw root w p i r c) ∙ b))
 
   then_missing : (n i : ℕ) → i < n → i < length ks → get_or (walk wrap raw root ks) i None ≡ None → InMissing wrap raw root ks i
   then_missing zero i h l b = absurd (not-suc-le-zero h)

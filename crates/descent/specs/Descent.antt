@@ -2,7 +2,7 @@
 -- has their proofs. Place k holds line k + 1.
 use Rattle.std.specs.Prelude.{◌≡◌, true, List, ◌⊎◌, ℕ, ◌≤◌, ◌<◌, length, get_or, None, Some}
 use Rattle.lists.specs.Refusals.{passes}
-use Rattle.kinds.specs.Kinds.{cell_kind}
+use Rattle.kinds.specs.Kinds.{kind_number, cell_kind}
 use Rattle.records.specs.Kept.{no_kept}
 use Rattle.records.specs.declared.Kept.{Kept}
 use Rattle.grid.specs.Facts.{CellOf}
@@ -18,7 +18,7 @@ pub record StandsIn (ks : List Kept) (c i : ℕ) : Type 0 where
 
 -- the cell at place c is missing: its table has a width, and is printed without the cell at that width
 pub record MissingCell (wrap raw root : ℕ) (ks : List Kept) (c : ℕ) : Type 0 where
-  pub is_cell : (get_or ks c no_kept).kind ≡ cell_kind
+  pub is_cell : kind_number (get_or ks c no_kept).kind ≡ cell_kind
   pub table : ℕ
   pub of_table : CellOf ks table c
   pub width : ℕ

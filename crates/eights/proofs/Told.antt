@@ -2,7 +2,7 @@
 use mathlib.Core.Path.{◌≡◌, refl, ap, ◌∙◌}
 use mathlib.Core.Bool.{true, false, or-true}
 use mathlib.Core.List.{List, [], ◌∷◌, ◌++◌}
-use Prim.Native.Nat.{ℕ, ◌+◌, ◌-◌, ◌*◌, ◌/◌, ◌%◌, ◌≤◌}
+use Prim.Native.Nat.{ℕ, ◌+◌, ◌-◌, ◌/◌, ◌%◌, ◌≤◌}
 use native.Mathlib.Nat.{add-zero}
 use native.Mathlib.Numerals.{add-one}
 use native.Mathlib.Omega.{arith}
@@ -13,12 +13,15 @@ use borrow.Author.Tests.{le-leb}
 use Rattle.std.specs.Prelude.{Some}
 use Rattle.lists.specs.Limits.{max_cols, max_rows}
 use Rattle.lists.specs.Lists.{All}
-use Rattle.records.specs.Kept.{kept_with}
 use Rattle.text.specs.Decimal.{plain, shift}
 use Rattle.text.specs.Text.{with_img}
 use Rattle.octets.specs.inner.Digits.{Eight}
 use Rattle.octets.proofs.Standing.{stand, joined}
-use Rattle.kinds.specs.Kinds.{same, place, kind_of, img_kind, text_kind, table_kind, body_kind, row_kind, cell_kind, calc_kind}
+use Rattle.kinds.specs.declared.Kind.{Kind}
+use Rattle.kinds.specs.declared.Kind.TheVariants.{Text, Table, Body, Row, Cell}
+use Rattle.kinds.specs.Kinds.{kind_number, kind_at, same, place, kind_of, img_kind, calc_kind}
+use Rattle.records.specs.Kept.{cell}
+use Rattle.records.specs.declared.Kept.{Kept}
 use Rattle.fields.specs.Blanks.{until_blank, blank}
 use Rattle.fields.specs.Numbers.{up_to}
 use Rattle.fields.specs.Reading.{kind_read}
@@ -26,7 +29,8 @@ use Rattle.line.specs.Fields.{n_fits}
 use Rattle.line.specs.Reading.{span_limit}
 use Rattle.line.proofs.OneDigit.{Name, line_is, bare_is}
 use Rattle.eights.specs.inner.Briefs.{InBrief}
-use Rattle.eights.specs.inner.Bytes.{Digit, Bare, Cell, Texts, ending}
+use Rattle.eights.specs.inner.Bytes.{Digit, Bare, Texts, ending}
+use Rattle.eights.specs.inner.Bytes as bytes
 use Rattle.eights.specs.declared.Brief.{Brief}
 
 -- ` cell 0 `, ` row 0 0`, ` body 0 `, ` table 0` and ` text 0 `, and `t 0 0 0 `
@@ -51,14 +55,13 @@ text_end = 116 ∷ 32 ∷ 48 ∷ 32 ∷ 48 ∷ 32 ∷ 48 ∷ 32 ∷ []
 
 -- a number that is ` 0 0 0 ` and a line feed with one digit more for cols and one for rows
 pub cell_ends : {s : List ℕ} {at depth r : ℕ} → Eight s at r → 729636054438522912 ≤ r → (r - 729636054438522912) % 16777216 ≡ 0
-    → (r - 729636054438522912) / 16777216 % 65536 ≤ 9 → (r - 729636054438522912) / 16777216 / 65536 ≤ 9 → (b : Brief)
-    → Some (record { depth = depth; kind = cell_kind; figure = (r - 729636054438522912) / 16777216; next = at + 8 }) ≡ Some b → Cell s at depth b
+    → (r - 729636054438522912) / 16777216 % 65536 ≤ 9 → (r - 729636054438522912) / 16777216 / 65536 ≤ 9 → (l : Kept)
+    → l ≡ cell depth ((r - 729636054438522912) / 16777216 % 65536) ((r - 729636054438522912) / 16777216 / 65536) → (b : Brief) → Some (record { line = l; next = at + 8 }) ≡ Some b → bytes.Cell s at depth b
 unfolding All
-cell_ends {r = r} w h m p q b e =
+cell_ends {r = r} w h m p q l i b e =
     let figure = (r - 729636054438522912) / 16777216 in
     let cols = figure % 65536 in
     let rows = figure / 65536 in
-    let sum : figure ≡ cols + 65536 * rows = omega arith in
     record {
       cols = cols;
       rows = rows;
@@ -77,13 +80,12 @@ module _ {s : List ℕ} {at depth : ℕ} (d : Digit s at depth) where
   digit_first t e = drop-cons s at 0 (omega (arith, d.inside)) ∙ rw (← add-one at, d.stands, e)
 
   -- a line without a text, or a cell: its front, and its end k places on
-  module _ (kind k cols rows : ℕ) (name front : List ℕ) (short : k ≤ 8) (begins : take k front ≡ blank ∷ name) (counted : length name + 1 ≡ k)
-      (named : Name name kind) (numbered : n_fits kind (plain 0) ≡ true) (other : eqb kind calc_kind ≡ false) (narrow : cols ≤ 9) (low : rows ≤ 9)
-      (wide : up_to (span_limit kind max_cols) (plain cols) ≡ true) (high : up_to (span_limit kind max_rows) (plain rows) ≡ true)
+  module _ (kind : Kind) (k cols rows : ℕ) (name front : List ℕ) (short : k ≤ 8) (begins : take k front ≡ blank ∷ name) (counted : length name + 1 ≡ k)
+      (named : Name name kind) (numbered : n_fits (kind_number kind) (plain 0) ≡ true) (other : eqb (kind_number kind) calc_kind ≡ false) (narrow : cols ≤ 9) (low : rows ≤ 9)
+      (wide : up_to (span_limit (kind_number kind) max_cols) (plain cols) ≡ true) (high : up_to (span_limit (kind_number kind) max_rows) (plain rows) ≡ true)
       (at_front : take 8 (drop (at + 1) s) ≡ front) (at_end : take 8 (drop (at + 1 + k) s) ≡ ending cols rows) where
     pub ended : (b : Brief)
-        → kept_with b.depth b.kind b.figure
-        ≡ record { depth = depth; kind = kind; number = shift; cols = cols; rows = rows; own = with_img (eqb kind img_kind) 0 }
+        → b.line ≡ record { depth = depth; kind = kind; cols = cols; rows = rows; number = shift; own = with_img (eqb (kind_number kind) img_kind) 0 }
         → b.next ≡ at + 1 + k + 8 → InBrief s at b
     ended b kept next =
         let after = drop (at + 1 + k + 8) s in
@@ -98,42 +100,40 @@ module _ {s : List ℕ} {at depth : ℕ} (d : Digit s at depth) where
 
   -- ---- kind by kind
 
-  pub cell_told : {b : Brief} → take 8 (drop (at + 1) s) ≡ cell_front → Cell s (at + 6) depth b → InBrief s at b
-  unfolding kind_read until_blank kind_of place same n_fits span_limit kept_with
+  pub cell_told : {b : Brief} → take 8 (drop (at + 1) s) ≡ cell_front → bytes.Cell s (at + 6) depth b → InBrief s at b
+  unfolding kind_read until_blank kind_of place same n_fits span_limit kind_at
   cell_told e z =
       let six : at + 1 + 5 ≡ at + 6 = omega arith in
-      let c : (z.cols + 65536 * z.rows) % 65536 ≡ z.cols = omega (arith, z.narrow, z.low) in
-      let r : (z.cols + 65536 * z.rows) / 65536 ≡ z.rows = omega (arith, z.narrow, z.low) in
       rw z.is
-      (ended cell_kind 5 z.cols z.rows (99 ∷ 101 ∷ 108 ∷ 108 ∷ []) cell_front (omega arith) refl refl (λ p t. refl) refl refl z.narrow z.low
-      (le-leb z.cols max_cols (omega (arith, z.narrow))) (le-leb z.rows max_rows (omega (arith, z.low))) e (rw six z.stands) _ (rw (c, r)) (omega arith))
+      (ended Cell 5 z.cols z.rows (99 ∷ 101 ∷ 108 ∷ 108 ∷ []) cell_front (omega arith) refl refl (λ p t. refl) refl refl z.narrow z.low
+      (le-leb z.cols max_cols (omega (arith, z.narrow))) (le-leb z.rows max_rows (omega (arith, z.low))) e (rw six z.stands) _ refl (omega arith))
 
-  pub row_told : {b : Brief} → take 8 (drop (at + 1) s) ≡ row_front → Bare s (at + 5) depth row_kind b → InBrief s at b
-  unfolding kind_read until_blank kind_of place same n_fits span_limit kept_with
+  pub row_told : {b : Brief} → take 8 (drop (at + 1) s) ≡ row_front → Bare s (at + 5) depth Row b → InBrief s at b
+  unfolding kind_read until_blank kind_of place same n_fits span_limit kind_at
   row_told e z =
       let five : at + 1 + 4 ≡ at + 5 = omega arith in
       rw z.is
-      (ended row_kind 4 0 0 (114 ∷ 111 ∷ 119 ∷ []) row_front (omega arith) refl refl (λ p t. refl) refl refl (omega arith) (omega arith) refl refl e (rw five z.stands) _ refl
+      (ended Row 4 0 0 (114 ∷ 111 ∷ 119 ∷ []) row_front (omega arith) refl refl (λ p t. refl) refl refl (omega arith) (omega arith) refl refl e (rw five z.stands) _ refl
       (omega arith))
 
-  pub body_told : {b : Brief} → take 8 (drop (at + 1) s) ≡ body_front → Bare s (at + 6) depth body_kind b → InBrief s at b
-  unfolding kind_read until_blank kind_of place same n_fits span_limit kept_with
+  pub body_told : {b : Brief} → take 8 (drop (at + 1) s) ≡ body_front → Bare s (at + 6) depth Body b → InBrief s at b
+  unfolding kind_read until_blank kind_of place same n_fits span_limit kind_at
   body_told e z =
       let six : at + 1 + 5 ≡ at + 6 = omega arith in
       rw z.is
-      (ended body_kind 5 0 0 (98 ∷ 111 ∷ 100 ∷ 121 ∷ []) body_front (omega arith) refl refl (λ p t. refl) refl refl (omega arith) (omega arith) refl refl e (rw six z.stands) _ refl
+      (ended Body 5 0 0 (98 ∷ 111 ∷ 100 ∷ 121 ∷ []) body_front (omega arith) refl refl (λ p t. refl) refl refl (omega arith) (omega arith) refl refl e (rw six z.stands) _ refl
       (omega arith))
 
-  pub table_told : {b : Brief} → take 8 (drop (at + 1) s) ≡ table_front → Bare s (at + 7) depth table_kind b → InBrief s at b
-  unfolding kind_read until_blank kind_of place same n_fits span_limit kept_with
+  pub table_told : {b : Brief} → take 8 (drop (at + 1) s) ≡ table_front → Bare s (at + 7) depth Table b → InBrief s at b
+  unfolding kind_read until_blank kind_of place same n_fits span_limit kind_at
   table_told e z =
       let seven : at + 1 + 6 ≡ at + 7 = omega arith in
       rw z.is
-      (ended table_kind 6 0 0 (116 ∷ 97 ∷ 98 ∷ 108 ∷ 101 ∷ []) table_front (omega arith) refl refl (λ p t. refl) refl refl (omega arith) (omega arith) refl refl e (rw seven z.stands)
+      (ended Table 6 0 0 (116 ∷ 97 ∷ 98 ∷ 108 ∷ 101 ∷ []) table_front (omega arith) refl refl (λ p t. refl) refl refl (omega arith) (omega arith) refl refl e (rw seven z.stands)
       _ refl (omega arith))
 
   pub text_told : {b : Brief} → take 8 (drop (at + 1) s) ≡ text_front → take 8 (drop (at + 5) s) ≡ text_end → Texts s (at + 13) depth b → InBrief s at b
-  unfolding kind_read until_blank kind_of place same n_fits span_limit kept_with
+  unfolding kind_read until_blank kind_of place same n_fits span_limit kind_at
   text_told e f z =
       let five : at + 1 + 4 ≡ at + 5 = omega arith in
       let thirteen : at + 2 + 4 + 1 + 6 ≡ at + 13 = omega arith in
@@ -142,7 +142,7 @@ module _ {s : List ℕ} {at depth : ℕ} (d : Digit s at depth) where
       (record {
         node = _;
         read =
-            line_is s at depth text_kind 0 0 (116 ∷ 101 ∷ 120 ∷ 116 ∷ []) (drop (at + 1 + 4 + 8) s) d.small (omega arith) (omega arith) (λ p t. refl) refl refl refl
+            line_is s at depth Text 0 0 (116 ∷ 101 ∷ 120 ∷ 116 ∷ []) (drop (at + 1 + 4 + 8) s) d.small (omega arith) (omega arith) (λ p t. refl) refl refl refl
             (digit_first _ (joined s text_front text_end (at + 1) 4 (omega arith) e (rw five f))) front.end front.size (rw thirteen z.scanned.end) z.inside z.ended
             (or-true (eqb (front.end - (at + 2 + 4 + 1 + 6)) 0)) refl (rw thirteen z.scanned.size);
         kept = rw add-zero;

@@ -8,14 +8,14 @@ ghost use Rattle.eights.specs.inner.Briefs.{Tells};
 ghost use Rattle.eights.specs.inner.Bytes.{Digit, Bare, Cell, Texts};
 ghost use Rattle.eights.specs.declared.Brief.{Brief};
 
+use kinds::Kind;
+use records::Kept;
 use text::bytes::Classes;
 
-// A line as it is kept: its depth, its kind, the one figure that its kind has, and the place where the next line starts.
+// What is kept of a line, and the place where the next line starts.
 #[derive(Clone, Copy)]
 pub struct Brief {
-    pub depth: u32,
-    pub kind: u32,
-    pub figure: u32,
+    pub line: Kept,
     pub next: usize,
 }
 
@@ -39,14 +39,14 @@ const ZEROS: u64 = 729636054438522912;
 // What 1 more in the byte of cols adds to those eight.
 const COLS_STEP: u64 = 16777216;
 
-// What 1 more of rows adds to the figure of a cell.
+// What 1 more in the byte of rows adds to the count of the former.
 const ROWS_STEP: u64 = 65536;
 
 // The bytes of ` table 0 0 0 ` with its depth and its line feed, the longest of these without a text.
 const LONGEST: usize = 15;
 
 // A line without a text. The space before its n stands at a place, and the line ends seven bytes on, if n, cols and rows are 0.
-fn bare_line(bytes: &[u8], depth: u32, kind: u32, at: usize) -> Option<Brief>
+fn bare_line(bytes: &[u8], depth: u8, kind: Kind, at: usize) -> Option<Brief>
     requires { at + 8 ≤ length bytes.now }
     ensures { (b : Brief) → result ≡ Some b → Bare bytes.now at depth kind b }
 {
@@ -54,16 +54,14 @@ fn bare_line(bytes: &[u8], depth: u32, kind: u32, at: usize) -> Option<Brief>
         return None;
     }
     Some(Brief {
-        depth,
-        kind,
-        figure: 0,
+        line: Kept::bare(depth, kind),
         next: at + 8,
     })
 }
 
 // A cell whose cols and rows have one digit: the eight bytes from the space before its n, which stands at a place, differ from ` 0 0 0 ` and a line feed in
 // these digits alone.
-fn cell_line(bytes: &[u8], depth: u32, at: usize) -> Option<Brief>
+fn cell_line(bytes: &[u8], depth: u8, at: usize) -> Option<Brief>
     requires { at + 8 ≤ length bytes.now }
     ensures { (b : Brief) → result ≡ Some b → Cell bytes.now at depth b }
 {
@@ -72,20 +70,19 @@ fn cell_line(bytes: &[u8], depth: u32, at: usize) -> Option<Brief>
         return None;
     }
     let more = end - ZEROS;
-    let figure = more / COLS_STEP;
-    if more % COLS_STEP != 0 || figure % ROWS_STEP > 9 || figure / ROWS_STEP > 9 {
+    let cols = more / COLS_STEP % ROWS_STEP;
+    let rows = more / COLS_STEP / ROWS_STEP;
+    if more % COLS_STEP != 0 || cols > 9 || rows > 9 {
         return None;
     }
     Some(Brief {
-        depth,
-        kind: kinds::CELL,
-        figure: figure as u32,
+        line: Kept::cell(depth, cols as u16, rows as u16),
         next: at + 8,
     })
 }
 
 // A text, which starts at a place.
-fn text_line(classes: &Classes, bytes: &[u8], depth: u32, from: usize) -> Option<Brief>
+fn text_line(classes: &Classes, bytes: &[u8], depth: u8, from: usize) -> Option<Brief>
     requires bytes_len_bound { length bytes.now ≤ max_bytes }
     requires from_in_bounds { from ≤ length bytes.now }
     ensures { (b : Brief) → result ≡ Some b → Texts bytes.now from depth b }
@@ -96,15 +93,13 @@ fn text_line(classes: &Classes, bytes: &[u8], depth: u32, from: usize) -> Option
         return None;
     }
     Some(Brief {
-        depth,
-        kind: kinds::TEXT,
-        figure: front.size,
+        line: Kept::text(depth, front.size),
         next: to + 1,
     })
 }
 
 // The line at a place, where its depth stands as one digit.
-fn line_with(classes: &Classes, bytes: &[u8], at: usize, depth: u32) -> Option<Brief>
+fn line_with(classes: &Classes, bytes: &[u8], at: usize, depth: u8) -> Option<Brief>
     requires bytes_len_bound { length bytes.now ≤ max_bytes }
     requires digit { Digit bytes.now at depth }
     ensures { Tells bytes.now at result }
@@ -121,13 +116,13 @@ fn line_with(classes: &Classes, bytes: &[u8], at: usize, depth: u32) -> Option<B
         return text_line(classes, bytes, depth, at + 13);
     }
     if front == ROW_FRONT {
-        return bare_line(bytes, depth, kinds::ROW, at + 5);
+        return bare_line(bytes, depth, Kind::Row, at + 5);
     }
     if front == BODY_FRONT {
-        return bare_line(bytes, depth, kinds::BODY, at + 6);
+        return bare_line(bytes, depth, Kind::Body, at + 6);
     }
     if front == TABLE_FRONT {
-        return bare_line(bytes, depth, kinds::TABLE, at + 7);
+        return bare_line(bytes, depth, Kind::Table, at + 7);
     }
     None
 }
@@ -140,5 +135,5 @@ pub fn common_line(classes: &Classes, bytes: &[u8], at: usize) -> Option<Brief>
     if bytes.len() < LONGEST || at > bytes.len() - LONGEST || !bytes[at].is_ascii_digit() {
         return None;
     }
-    line_with(classes, bytes, at, (bytes[at] - b'0') as u32)
+    line_with(classes, bytes, at, bytes[at] - b'0')
 }

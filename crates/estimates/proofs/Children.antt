@@ -10,10 +10,10 @@ use lib.ListN.{length, get_or, drop, set}
 use lib.Seq.{get_or-set_same}
 use Rattle.lists.specs.Limits.{max_size}
 use Rattle.text.specs.declared.Estimate.{Estimate}
-use Rattle.kinds.specs.Kinds.{table_kind, break_kind, link_kind, has_text, is_leaf}
-use Rattle.records.specs.Kept.{kepts_of, kept_count}
+use Rattle.kinds.specs.Kinds.{kind_number, table_kind, break_kind, link_kind, has_text, is_leaf}
 use Rattle.records.specs.declared.Kept.{Kept}
-use Rattle.records.proofs.Kepts.{length_kepts}
+use Rattle.records.specs.declared.Entry.{Entry}
+use Rattle.records.specs.declared.RowEnd.{RowEnd}
 use Rattle.estimates.specs.Estimates.{estimate, none, Children, gather, leaf_of, prefix_of, holder_of}
 use Rattle.estimates.specs.Sheet.{Sheet, line_at}
 use Rattle.estimates.specs.inner.Cycle.{NodeReady, Ends, Passed, Plain, Holder, Numbered, Fitting, NodeMeets, CellMeets, TableMeets, est_at, done_of, held_at, held_of, weight}
@@ -26,15 +26,15 @@ use Rattle.estimates.proofs.Weighing.{weight_more, fits}
 use Rattle.estimates.proofs.Passing.{step, stored, begin}
 
 -- slices as the walk takes them: each line has a result, and a call for another line finds them so again
-module _ {lines : List ℕ} {figures : List Estimate} {leasts entries rows : List ℕ} {at : ℕ} (r : NodeReady lines figures leasts entries rows at) where
-  pub inside : {i : ℕ} → i < kept_count lines → i < length (kepts_of lines)
-  inside h = omega (arith, length_kepts lines)
+module _ {lines : List Kept} {figures : List Estimate} {leasts : List ℕ} {entries : List Entry} {rows : List RowEnd} {at : ℕ} (r : NodeReady lines figures leasts entries rows at) where
+  pub inside : {i : ℕ} → i < length lines → i < length lines
+  inside h = omega arith
 
-  pub roomy : length (kepts_of lines) ≤ length figures
-  roomy = omega (arith, r.figures_fit, length_kepts lines)
+  pub roomy : length lines ≤ length figures
+  roomy = omega (arith, r.figures_fit)
 
-  pub again : {figures' : List Estimate} {leasts' entries' rows' : List ℕ} {i : ℕ} → length figures' ≡ length figures → length leasts' ≡ length leasts → length entries' ≡ length entries
-      → length rows' ≡ length rows → i < kept_count lines → NodeReady lines figures' leasts' entries' rows' i
+  pub again : {figures' : List Estimate} {leasts' : List ℕ} {entries' : List Entry} {rows' : List RowEnd} {i : ℕ} → length figures' ≡ length figures → length leasts' ≡ length leasts → length entries' ≡ length entries
+      → length rows' ≡ length rows → i < length lines → NodeReady lines figures' leasts' entries' rows' i
   again e f g h k = record {
     sheet = r.sheet;
     lined = r.lined;
@@ -115,7 +115,7 @@ module _ {wrap : ℕ} {ls : List Kept} {b : List Estimate} {at : ℕ} where
   }
 
 -- a line that `node` takes and that is neither leaf nor table
-pub plain_holder : {l read : Kept} → read ≡ l → Plain l → is_leaf read.kind ≡ false → (read.kind ≡ table_kind → ⊥) → Holder l
+pub plain_holder : {l read : Kept} → read ≡ l → Plain l → is_leaf (kind_number read.kind) ≡ false → (kind_number read.kind ≡ table_kind → ⊥) → Holder l
 plain_holder f p l t = record {
   leaf = rw (← f) l;
   table = rw (← f) t;
@@ -126,7 +126,7 @@ plain_holder f p l t = record {
 -- a leaf is sound, and no larger than its weight
 leaf_sound : (wrap : ℕ) (l : Kept) → ((leaf_of wrap l).least ≤ (leaf_of wrap l).size) × ((leaf_of wrap l).size ≤ l.own + 1)
 unfolding leaf_of
-leaf_sound wrap l = go (has_text l.kind) (eqb l.kind break_kind)
+leaf_sound wrap l = go (has_text (kind_number l.kind)) (eqb (kind_number l.kind) break_kind)
   where
     text : Estimate
     text = estimate l.own (min l.own wrap) 0
@@ -141,7 +141,7 @@ leaf_sound wrap l = go (has_text l.kind) (eqb l.kind break_kind)
 holder_sound : (l : Kept) (p : Part) → Numbered l p.children → p.least ≤ p.size
     → ((holder_of l (held_of p)).least ≤ (holder_of l (held_of p)).size) × ((holder_of l (held_of p)).size ≤ p.size + 13)
 unfolding holder_of
-holder_sound l p n h = go (eqb l.kind link_kind)
+holder_sound l p n h = go (eqb (kind_number l.kind) link_kind)
   where
     link : Estimate
     link = estimate (p.size + 5) (max p.least 5) 0
@@ -166,17 +166,17 @@ module _ {wrap : ℕ} {ls : List Kept} {b : List Estimate} {at : ℕ} (sheet : S
         small = rw (← f) m;
       })
 
-  pub leaf_meets : {c' : List Estimate} {l : Kept} {e : Estimate} → length ls ≤ length b → l ≡ line_at ls at → is_leaf l.kind ≡ true → e ≡ leaf_of wrap l → c' ≡ set b at e
+  pub leaf_meets : {c' : List Estimate} {l : Kept} {e : Estimate} → length ls ≤ length b → l ≡ line_at ls at → is_leaf (kind_number l.kind) ≡ true → e ≡ leaf_of wrap l → c' ≡ set b at e
       → NodeMeets wrap ls b c' at (at + 1)
   leaf_meets {l = l} {e = e} sized t k f s =
       let z = leaf_sound wrap l in
       let x : e.least ≤ e.size = rw f z.0 in
       let g : e.size ≤ (line_at ls at).own + 1 = rw (f, ← t) z.1 in
-      let a : is_leaf (line_at ls at).kind ≡ true = rw (← t) k in
+      let a : is_leaf (kind_number (line_at ls at).kind) ≡ true = rw (← t) k in
       let y : e ≡ est_at (done_of wrap ls) at = f ∙ ap (leaf_of wrap) t ∙ leaf_est wrap ls at within a in
       meets (begin (done_of wrap ls) sized within) (λ h. childless a h (dec_lt (line_at ls at).depth (line_at ls (at + 1)).depth)) y (omega (arith, weight_more ls at)) x s
     where
-      childless : is_leaf (line_at ls at).kind ≡ true → at + 1 < length ls → Dec ((line_at ls at).depth < (line_at ls (at + 1)).depth)
+      childless : is_leaf (kind_number (line_at ls at).kind) ≡ true → at + 1 < length ls → Dec ((line_at ls at).depth < (line_at ls (at + 1)).depth)
           → (line_at ls (at + 1)).depth ≤ (line_at ls at).depth
       childless a h (no u) = omega arith
       childless a h (yes u) =
@@ -221,7 +221,7 @@ module _ {wrap : ℕ} {ls : List Kept} {b : List Estimate} {at : ℕ} (sheet : S
 -- a turn of `cell` over a leaf, which it measures itself
 pub cell_leaf : {wrap : ℕ} {ls : List Kept} {b c c' : List Estimate} {at sum most children i : ℕ} {l : Kept} {e : Estimate} → Sheet ls
     → CellLoop wrap ls b c at sum most children i → i < length ls → (line_at ls at).depth < (line_at ls i).depth → l ≡ line_at ls i
-    → is_leaf l.kind ≡ true → e ≡ leaf_of wrap l → c' ≡ set c i e
+    → is_leaf (kind_number l.kind) ≡ true → e ≡ leaf_of wrap l → c' ≡ set c i e
     → CellLoop wrap ls b c' at (sum + e.size) (max most e.least) (children + 1) (i + 1)
 cell_leaf {c = c} {i = i} {e = e} w v h u t k f s =
     let z = v.passed.sized in

@@ -3,20 +3,19 @@
 use mathlib.Core.Path.{◌≡◌, sym, ap, ◌∙◌}
 use mathlib.Core.Bool.{Bool, false}
 use mathlib.Core.List.{List}
-use Prim.Native.Nat.{ℕ, suc, ◌+◌, ◌-◌, ◌/◌, ◌≤◌, ◌<◌}
+use Prim.Native.Nat.{ℕ, suc, ◌+◌, ◌-◌, ◌≤◌, ◌<◌}
 use native.Mathlib.Omega.{arith}
 use native.Mathlib.Decide.{dec_lt, ℕ_discrete}
 use lib.ListN.{length, get_or, set, drop, get_or-map}
 use lib.Seq.{get_or-drop}
+use Rattle.records.specs.declared.RowEnd.{RowEnd}
+use Rattle.records.specs.declared.Entry as declared
 use Rattle.lists.specs.Lists.{sum}
 use Rattle.lists.specs.Limits.{max_position}
 use Rattle.lists.proofs.All.{all_weaken}
 use Rattle.text.specs.declared.Estimate.{Estimate}
-use Rattle.kinds.specs.Kinds.{table_kind, cell_kind}
-use Rattle.records.specs.Kept.{kepts_of, entries_of, entry_by, rows_of, row_by}
+use Rattle.kinds.specs.Kinds.{kind_number, table_kind, cell_kind}
 use Rattle.records.specs.declared.Kept.{Kept}
-use Rattle.records.proofs.Records.{length_of}
-use Rattle.records.proofs.Kepts.{length_kepts}
 use Rattle.columns.specs.Boxes.{Box}
 use Rattle.cells.specs.Listed.{table_rows}
 use Rattle.positions.specs.Positions.{all_rows, entry_count}
@@ -46,7 +45,7 @@ use Rattle.estimates.proofs.Children.{cell_start, cell_end}
 pub record TableLoop (wrap : ℕ) (ls : List Kept) (b c : List Estimate) (at i : ℕ) : Type 0 where
   pub passed : Passed ls (done_of wrap ls) b c at (at + 1) i
   pub next : Ends ls ((line_at ls at).depth + 3) i
-  pub frame : (k : ℕ) → at < k → k < i → Framed (line_at ls at).depth (line_at ls k).depth (line_at ls k).kind
+  pub frame : (k : ℕ) → at < k → k < i → Framed (line_at ls at).depth (line_at ls k).depth (kind_number (line_at ls k).kind)
   pub small : sizes_from wrap ls (line_at ls at).depth (at + 1) + weight ls (at + 1) ≤ sizes_from wrap ls (line_at ls at).depth i + weight ls i
 
 module _ {wrap : ℕ} {ls : List Kept} {b : List Estimate} {at : ℕ} (w : Sheet ls) where
@@ -58,13 +57,13 @@ module _ {wrap : ℕ} {ls : List Kept} {b : List Estimate} {at : ℕ} (w : Sheet
     small = omega arith;
   }
 
-  module _ (t : (line_at ls at).kind ≡ table_kind) {c : List Estimate} {i : ℕ} (l : TableLoop wrap ls b c at i) (h : i < length ls)
+  module _ (t : kind_number (line_at ls at).kind ≡ table_kind) {c : List Estimate} {i : ℕ} (l : TableLoop wrap ls b c at i) (h : i < length ls)
       (u : (line_at ls at).depth < (line_at ls i).depth) where
-    framed_here : Framed (line_at ls at).depth (line_at ls i).depth (line_at ls i).kind
+    framed_here : Framed (line_at ls at).depth (line_at ls i).depth (kind_number (line_at ls i).kind)
     framed_here = framed w at i l.passed.after h t u l.passed.deeper l.frame
 
     -- the depth of a cell
-    cell_depth : (line_at ls i).kind ≡ cell_kind → (line_at ls i).depth ≡ (line_at ls at).depth + 3
+    cell_depth : kind_number (line_at ls i).kind ≡ cell_kind → (line_at ls i).depth ≡ (line_at ls at).depth + 3
     cell_depth e = go (ℕ_discrete (line_at ls i).depth ((line_at ls at).depth + 1)) (ℕ_discrete (line_at ls i).depth ((line_at ls at).depth + 2))
       where
         go : Dec ((line_at ls i).depth ≡ (line_at ls at).depth + 1) → Dec ((line_at ls i).depth ≡ (line_at ls at).depth + 2)
@@ -74,7 +73,7 @@ module _ {wrap : ℕ} {ls : List Kept} {b : List Estimate} {at : ℕ} (w : Sheet
         go (no x) (no y) = omega (arith, l.next h)
 
     -- any other line is a body or a row
-    frame_est : ((line_at ls i).kind ≡ cell_kind → ⊥) → ((line_at ls i).depth ≤ (line_at ls at).depth + 2) × (none ≡ est_at (done_of wrap ls) i)
+    frame_est : (kind_number (line_at ls i).kind ≡ cell_kind → ⊥) → ((line_at ls i).depth ≤ (line_at ls at).depth + 2) × (none ≡ est_at (done_of wrap ls) i)
     frame_est e = go (ℕ_discrete (line_at ls i).depth ((line_at ls at).depth + 1)) (ℕ_discrete (line_at ls i).depth ((line_at ls at).depth + 2))
       where
         go : Dec ((line_at ls i).depth ≡ (line_at ls at).depth + 1) → Dec ((line_at ls i).depth ≡ (line_at ls at).depth + 2)
@@ -85,20 +84,20 @@ module _ {wrap : ℕ} {ls : List Kept} {b : List Estimate} {at : ℕ} (w : Sheet
 
     -- the kinds known so far, with line i and deeper lines after it
     frame_on : (r : ℕ) → ((k : ℕ) → i < k → k < r → (line_at ls at).depth + 3 < (line_at ls k).depth)
-        → (k : ℕ) → at < k → k < r → Framed (line_at ls at).depth (line_at ls k).depth (line_at ls k).kind
+        → (k : ℕ) → at < k → k < r → Framed (line_at ls at).depth (line_at ls k).depth (kind_number (line_at ls k).kind)
     frame_on r deep k p q = go (dec_lt k i) (dec_lt i k)
       where
-        go : Dec (k < i) → Dec (i < k) → Framed (line_at ls at).depth (line_at ls k).depth (line_at ls k).kind
+        go : Dec (k < i) → Dec (i < k) → Framed (line_at ls at).depth (line_at ls k).depth (kind_number (line_at ls k).kind)
         go (yes x) y = l.frame k p x
         go (no x) (yes y) =
             let d = deep k y q in
             record { body = λ e. absurd (omega arith); row = λ e. absurd (omega arith); cell = λ e. absurd (omega arith) }
         go (no x) (no y) = let e : k ≡ i = omega arith in rw e framed_here
 
-    pub table_cell : (line_at ls i).kind ≡ cell_kind → Holder (line_at ls i)
+    pub table_cell : kind_number (line_at ls i).kind ≡ cell_kind → Holder (line_at ls i)
     table_cell e = record { leaf = rw e; table = omega arith; body = omega arith; row = omega arith }
 
-    pub table_again : {c' c'' : List Estimate} {p : Part} → (line_at ls i).kind ≡ cell_kind → CellMeets wrap ls c c' i p → c'' ≡ set c' i (estimate p.size p.least 0)
+    pub table_again : {c' c'' : List Estimate} {p : Part} → kind_number (line_at ls i).kind ≡ cell_kind → CellMeets wrap ls c c' i p → c'' ≡ set c' i (estimate p.size p.least 0)
         → TableLoop wrap ls b c'' at p.after
     unfolding sum
     table_again {p = p} e m s =
@@ -120,7 +119,7 @@ module _ {wrap : ℕ} {ls : List Kept} {b : List Estimate} {at : ℕ} (w : Sheet
         })
 
     -- a body's line or a row's
-    table_frame : ((line_at ls i).kind ≡ cell_kind → ⊥) → TableLoop wrap ls b (set c i none) at (i + 1)
+    table_frame : (kind_number (line_at ls i).kind ≡ cell_kind → ⊥) → TableLoop wrap ls b (set c i none) at (i + 1)
     table_frame e =
         let k = frame_est e in
         let v : Passed ls (done_of wrap ls) c (set c i none) i i (i + 1)
@@ -134,14 +133,14 @@ module _ {wrap : ℕ} {ls : List Kept} {b : List Estimate} {at : ℕ} (w : Sheet
         }
 
     -- a cell that ends where it begins
-    table_bare : {c'' : List Estimate} → (line_at ls i).kind ≡ cell_kind → Ends ls (line_at ls i).depth (i + 1) → c'' ≡ set c i none → TableLoop wrap ls b c'' at (i + 1)
+    table_bare : {c'' : List Estimate} → kind_number (line_at ls i).kind ≡ cell_kind → Ends ls (line_at ls i).depth (i + 1) → c'' ≡ set c i none → TableLoop wrap ls b c'' at (i + 1)
     table_bare e z s = table_again e (cell_end (cell_start w (begin (done_of wrap ls) l.passed.sized h)) z) s
 
     -- a line that is passed without a call
     pub table_unfilled : {r : Bool} {c'' : List Estimate} → FilledAt ls i r → r ≡ false → c'' ≡ set c i none → TableLoop wrap ls b c'' at (i + 1)
-    table_unfilled {c'' = c''} f e s = go (ℕ_discrete (line_at ls i).kind cell_kind)
+    table_unfilled {c'' = c''} f e s = go (ℕ_discrete (kind_number (line_at ls i).kind) cell_kind)
       where
-        go : Dec ((line_at ls i).kind ≡ cell_kind) → TableLoop wrap ls b c'' at (i + 1)
+        go : Dec (kind_number (line_at ls i).kind ≡ cell_kind) → TableLoop wrap ls b c'' at (i + 1)
         go (yes k) = table_bare k (f.bare e k) s
         go (no k) = rw s (table_frame k)
 
@@ -207,7 +206,7 @@ module _ {wrap : ℕ} {ls : List Kept} {b : List Estimate} {at : ℕ} (w : Sheet
           let e : suc at + (k - suc at) ≡ k = omega (arith, o.before) in
           cell_done k o ∙ sym (ap est_of (get_or-drop (suc at) (done_of wrap ls) (k - suc at) undone ∙ ap (λ (j : ℕ). get_or (done_of wrap ls) j undone) e))
 
-      pub table_end : {r : Part} → (line_at ls at).kind ≡ table_kind → Tabulated (columns_of (table_rows ls at)) bs i r → TableMeets wrap ls b c at r
+      pub table_end : {r : Part} → kind_number (line_at ls at).kind ≡ table_kind → Tabulated (columns_of (table_rows ls at)) bs i r → TableMeets wrap ls b c at r
       table_end {r} t m =
           let n = columns_of (table_rows ls at) in
           let y : r.size ≡ (tabled_by n bs).size = ap (λ (x : Estimate). x.size) m.est in
@@ -220,13 +219,13 @@ module _ {wrap : ℕ} {ls : List Kept} {b : List Estimate} {at : ℕ} (w : Sheet
           }
 
 -- what the table's figures take, in slices
-pub table_ready : {wrap : ℕ} {lines : List ℕ} {figures₀ : List Estimate} {leasts₀ entries₀ rows₀ : List ℕ} {b : List Estimate} {at i scratch : ℕ} (figures : List Estimate) (es rs : List ℕ)
-    → NodeReady lines figures₀ leasts₀ entries₀ rows₀ at → (line_at (kepts_of lines) at).kind ≡ table_kind → CellsPassed wrap (kepts_of lines) b figures at i
+pub table_ready : {wrap : ℕ} {lines : List Kept} {figures₀ : List Estimate} {leasts₀ : List ℕ} {entries₀ : List declared.Entry} {rows₀ : List RowEnd} {b : List Estimate} {at i scratch : ℕ} (figures : List Estimate) (es : List declared.Entry) (rs : List RowEnd)
+    → NodeReady lines figures₀ leasts₀ entries₀ rows₀ at → kind_number (line_at lines at).kind ≡ table_kind → CellsPassed wrap lines b figures at i
     → scratch ≡ length leasts₀ → length es ≡ length entries₀ → length rs ≡ length rows₀
-    → FiguresReady (kepts_of lines) at figures scratch (length (entries_of es)) (length (rows_of rs))
+    → FiguresReady lines at figures scratch (length es) (length rs)
 table_ready {lines = lines} {entries₀ = entries₀} {rows₀ = rows₀} {at = at} figures es rs r t l f g h =
-    let a : at < length (kepts_of lines) = omega (arith, length_kepts lines, r.within) in
-    let x : length (entries_of es) ≡ length entries₀ / 3 = length_of 3 entry_by es ∙ ap (λ (k : ℕ). k / 3) g in
-    let y : length (rows_of rs) ≡ length rows₀ / 2 = length_of 2 row_by rs ∙ ap (λ (k : ℕ). k / 2) h in
+    let a : at < length lines = omega (arith, r.within) in
+    let x : length es ≡ length entries₀ = g in
+    let y : length rs ≡ length rows₀ = h in
     figures_ready r.sheet l r.lined (r.tables.sound at a t) a (omega (arith, r.scratch)) (omega (arith, r.tables.room at a t))
-    (omega (arith, r.row_room, length_kepts lines))
+    (omega (arith, r.row_room))

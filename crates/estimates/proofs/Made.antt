@@ -12,10 +12,9 @@ use Rattle.lists.specs.Limits.{max_position}
 use Rattle.lists.proofs.All.{all_both, all_map, all_weaken, at_all}
 use Rattle.text.specs.declared.Estimate.{Estimate}
 use Rattle.records.specs.Kept.{no_entry}
-use Rattle.records.specs.Kept as kept
 use Rattle.records.specs.declared.Kept.{Kept}
 use Rattle.records.specs.declared.Entry as packed
-use Rattle.records.specs.declared.Row as packed_row
+use Rattle.records.specs.declared.RowEnd.{RowEnd}
 use Rattle.columns.specs.Boxes.{flat}
 use Rattle.cells.specs.Listed.{table_rows}
 use Rattle.grid.specs.Grid.{Entry, grid_of, columns_of, entries_of}
@@ -53,9 +52,9 @@ module _ {ks : List Kept} {at scratch m n : ℕ} {es : List Estimate} (r : Figur
   records_fit = all_map (λ e. EntryFits es (columns_of (table_rows ks at)) (shown e)) (EntryFits es (columns_of (table_rows ks at))) shown (λ e p. p) xs entries_fit
 
 -- what is read of the records, once the grid is made
-module _ {ks : List Kept} {at scratch m n : ℕ} (figures : List Estimate) (entries : List ℕ) (r : FiguresReady ks at figures scratch m n) {counts : Counts} {rs : List packed_row.Row}
-    (made : TableMade (table_rows ks at) counts (kept.entries_of entries) rs) where
-  pub taken : take counts.entries (kept.entries_of entries) ≡ records_at ks at
+module _ {ks : List Kept} {at scratch m n : ℕ} (figures : List Estimate) (entries : List packed.Entry) (r : FiguresReady ks at figures scratch m n) {counts : Counts} {rs : List RowEnd}
+    (made : TableMade (table_rows ks at) counts entries rs) where
+  pub taken : take counts.entries entries ≡ records_at ks at
   taken = rw made.entries_are made.entries
 
   long : length (records_at ks at) ≡ counts.entries
@@ -64,10 +63,10 @@ module _ {ks : List Kept} {at scratch m n : ℕ} (figures : List Estimate) (entr
   pub columns_few : counts.columns ≤ max_position
   columns_few = omega (arith, made.columns_are, grid_columns (table_rows ks at) r.sound)
 
-  fit_at : (k : ℕ) → k < counts.entries → EntryFits figures counts.columns (get_or (kept.entries_of entries) k no_entry)
+  fit_at : (k : ℕ) → k < counts.entries → EntryFits figures counts.columns (get_or entries k no_entry)
   fit_at k h =
-      let e : get_or (records_at ks at) k no_entry ≡ get_or (kept.entries_of entries) k no_entry
-      = ap (λ (l : List packed.Entry). get_or l k no_entry) (sym taken) ∙ get_or-take counts.entries (kept.entries_of entries) k no_entry h in
+      let e : get_or (records_at ks at) k no_entry ≡ get_or entries k no_entry
+      = ap (λ (l : List packed.Entry). get_or l k no_entry) (sym taken) ∙ get_or-take counts.entries entries k no_entry h in
       rw made.columns_are
       (subst (EntryFits figures (columns_of (table_rows ks at))) e
       (at_all (EntryFits figures (columns_of (table_rows ks at))) no_entry (records_at ks at) k (records_fit r) (omega (arith, long))))
@@ -75,7 +74,7 @@ module _ {ks : List Kept} {at scratch m n : ℕ} (figures : List Estimate) (entr
   pub tabulate_ready : TabulateReady entries counts.entries counts.columns figures scratch
   tabulate_ready = record {
     spread = record {
-      within = omega (arith, long, ap length taken, length-take counts.entries (kept.entries_of entries));
+      within = omega (arith, long, ap length taken, length-take counts.entries entries);
       fit = fit_at;
       room = rw taken r.room;
     };

@@ -18,7 +18,7 @@ use Rattle.columns.proofs.Listed.{Within}
 use Rattle.columns.proofs.Largest.{largest_least_size, largest_length}
 use Rattle.columns.proofs.Summed.{sum_of_columns}
 use Rattle.estimates.specs.Estimates.{estimate, none}
-use Rattle.records.specs.Kept.{entries_of, no_entry}
+use Rattle.records.specs.Kept.{no_entry}
 use Rattle.records.specs.declared.Entry.{Entry}
 use Rattle.estimates.specs.inner.Spread.{spread_cells, tabled_by, Spreads, Tabulated, entry_box, entry_boxes, EntryFits, SpreadReady}
 
@@ -106,15 +106,15 @@ module _ {bs : List Box} {n all : ℕ} {columns : List ℕ} (s : Spreads bs n al
       record { after = refl; est = rw (t, l, q, s.all, s.leasts, r); least_size = omega arith }
 
 -- what is added up in the scratch is at most the sum of the cells
-pub leasts_fit : {entries : List ℕ} {figures : List Estimate} {n m all : ℕ} {columns : List ℕ} → SpreadReady entries n figures m
-    → Spreads (entry_boxes figures (take n (entries_of entries))) m all columns → sum columns ≤ all
+pub leasts_fit : {entries : List Entry} {figures : List Estimate} {n m all : ℕ} {columns : List ℕ} → SpreadReady entries n figures m
+    → Spreads (entry_boxes figures (take n entries)) m all columns → sum columns ≤ all
 leasts_fit {entries} {figures} {n} {m} r s =
-    let xs = take n (entries_of entries) in
+    let xs = take n entries in
     let b = boxes_fit figures m xs fit in
     rw (s.leasts, s.all) (leasts_le (entry_boxes figures xs) m b.0 b.1)
   where
-    fit : (k : ℕ) → k < length (take n (entries_of entries)) → EntryFits figures m (get_or (take n (entries_of entries)) k no_entry)
+    fit : (k : ℕ) → k < length (take n entries) → EntryFits figures m (get_or (take n entries) k no_entry)
     fit k h =
-        let l = length-take-le n (entries_of entries) r.within in
+        let l = length-take-le n entries r.within in
         let g : k < n = omega arith in
-        rw (get_or-take n (entries_of entries) k no_entry g) (r.fit k g)
+        rw (get_or-take n entries k no_entry g) (r.fit k g)

@@ -6,11 +6,10 @@ use native.Mathlib.Omega.{arith}
 use native.Mathlib.Decide.{dec_lt}
 use lib.ListN.{length, get_or, drop, length-map, length-append, length-drop, get_or-map, get_or-append}
 use lib.Seq.{ext_get_or, get_or-append-add, get_or-drop}
+use Rattle.records.specs.declared.RowEnd.{RowEnd}
+use Rattle.records.specs.declared.Entry.{Entry}
 use Rattle.text.specs.declared.Estimate.{Estimate}
-use Rattle.records.specs.Kept.{kepts_of, entries_of, entry_by, rows_of, row_by}
 use Rattle.records.specs.declared.Kept.{Kept}
-use Rattle.records.proofs.Records.{length_of}
-use Rattle.records.proofs.Kepts.{length_kepts}
 use Rattle.estimates.specs.Estimates.{none, undone, est_of, estimates}
 use Rattle.estimates.specs.Sheet.{Sheet}
 use Rattle.estimates.specs.Meets.{Lent, Measured}
@@ -18,16 +17,16 @@ use Rattle.estimates.specs.inner.Cycle.{NodeReady, NodeMeets, est_at, done_of}
 use Rattle.estimates.proofs.Laws.{length_all}
 
 -- what is lent, in slices
-pub ready : {lines : List ℕ} {figures : List Estimate} {leasts entries rows : List ℕ} {at : ℕ} → Lent (kepts_of lines) figures leasts (entries_of entries) (rows_of rows)
-    → at < length (kepts_of lines) → NodeReady lines figures leasts entries rows at
+pub ready : {lines : List Kept} {figures : List Estimate} {leasts : List ℕ} {entries : List Entry} {rows : List RowEnd} {at : ℕ} → Lent lines figures leasts entries rows
+    → at < length lines → NodeReady lines figures leasts entries rows at
 ready {lines} {figures} {entries = entries} {rows = rows} l h = record {
   sheet = l.sheet;
   lined = l.lined;
-  tables = rw (length_of 3 entry_by entries) at l.tables;
-  figures_fit = omega (arith, l.results, length_kepts lines);
+  tables = l.tables;
+  figures_fit = omega (arith, l.results);
   scratch = l.scratch;
-  row_room = omega (arith, l.row_room, length_kepts lines, length_of 2 row_by rows);
-  within = omega (arith, length_kepts lines);
+  row_room = omega (arith, l.row_room);
+  within = omega arith;
 }
 
 module _ {wrap : ℕ} {ls : List Kept} {b c : List Estimate} {r : ℕ} (w : Sheet ls) (m : NodeMeets wrap ls b c 0 r) where

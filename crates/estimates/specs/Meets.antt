@@ -4,7 +4,7 @@ use Rattle.lists.specs.Limits.{max_position, max_size}
 use Rattle.text.specs.declared.Estimate.{Estimate}
 use Rattle.records.specs.declared.Kept.{Kept}
 use Rattle.records.specs.declared.Entry.{Entry}
-use Rattle.records.specs.declared.Row.{Row}
+use Rattle.records.specs.declared.RowEnd.{RowEnd}
 use Rattle.grid.specs.Facts.{CellOf}
 use Rattle.grid.specs.Judging.{Lined}
 use Rattle.estimates.specs.Estimates.{none, estimates}
@@ -21,7 +21,7 @@ abbrev pub AllBounded : List Estimate → Type 0
 AllBounded es = (k : ℕ) → k < length es → Bounded (get_or es k none)
 
 -- a sheet whose tables are sound, results with a place for each line, and scratch for the columns, entries and rows of a table
-pub record Lent (ls : List Kept) (b : List Estimate) (leasts : List ℕ) (es : List Entry) (rs : List Row) : Type 0 where
+pub record Lent (ls : List Kept) (b : List Estimate) (leasts : List ℕ) (es : List Entry) (rs : List RowEnd) : Type 0 where
   pub sheet : Sheet ls
   pub lined : Lined ls
   pub tables : TablesFit ls (length es)

@@ -1,4 +1,4 @@
-// The estimates of a sheet's lines: node, table and cell in a cycle of calls. A line is a record of two numbers.
+// The estimates of a sheet's lines: node, table and cell in a cycle of calls.
 // A table's grid is made where its figures are, in records that every table uses in turn.
 #![tactic(auto)]
 
@@ -6,14 +6,15 @@ pub mod single;
 pub mod spread;
 
 ghost use Rattle.std.specs.Prelude.{◌≡◌, ◌<◌, length, get_or};
-ghost use Rattle.kinds.specs.Kinds.{table_kind};
-ghost use Rattle.records.specs.Kept.{kepts_of, kept_count, no_kept, entries_of, rows_of};
+ghost use Rattle.kinds.specs.Kinds.{kind_number, table_kind};
+ghost use Rattle.records.specs.Kept.{no_kept};
 ghost use Rattle.estimates.specs.Estimates.{estimate};
 ghost use Rattle.estimates.specs.Sheet.{line_at};
 ghost use Rattle.estimates.specs.Meets.{Lent, Measured, CellsMeasured};
 ghost use Rattle.estimates.specs.inner.Cycle.{NodeReady, Plain, Holder, FilledAt, CellsPassed, NodeMeets, CellMeets, TableMeets};
 
-use kinds::is_leaf;
+use kinds::Kind;
+use records::{Entry, Kept, RowEnd};
 use text::Estimate;
 
 // What the lines below a line come to: the line after them, size and least width, and how many children there are.
@@ -48,24 +49,24 @@ pub const NONE: text::Estimate = text::Estimate {
 // Measures the line at `at` and all below it, and returns the line after those. Ports `RenderNode::calc_size_estimate`.
 #[cycle(cell_node_table)]
 fn node(
-    lines: &[u32],
+    lines: &[Kept],
     figures: &mut [Estimate],
     leasts: &mut [u32],
-    entries: &mut [u32],
-    rows: &mut [u32],
+    entries: &mut [Entry],
+    rows: &mut [RowEnd],
     wrap: u32,
     at: usize,
 ) -> usize
     requires node_ready { NodeReady lines.now figures.old leasts.old entries.old rows.old at }
-    requires plain { Plain (line_at (kepts_of lines.now) at) }
-    ensures { NodeMeets wrap (kepts_of lines.now) figures.old figures.new at result }
+    requires plain { Plain (line_at lines.now at) }
+    ensures { NodeMeets wrap lines.now figures.old figures.new at result }
 {
-    let line = records::kept_at(lines, at);
-    if is_leaf(line.kind) {
+    let line = lines[at];
+    if line.kind.is_leaf() {
         let e = single::leaf(line, wrap);
         figures[at] = e;
         at + 1
-    } else if line.kind == kinds::TABLE {
+    } else if line.kind == Kind::Table {
         let p = table(lines, figures, leasts, entries, rows, wrap, at);
         figures[at] = p.estimate();
         p.after
@@ -78,37 +79,35 @@ fn node(
 }
 
 // Whether the line at `i` is a cell that holds anything: the line after it is deeper.
-fn is_filled(lines: &[u32], i: usize) -> bool
-    requires { i < kept_count lines.now }
-    ensures { FilledAt (kepts_of lines.now) i result }
+fn is_filled(lines: &[Kept], i: usize) -> bool
+    requires { i < length lines.now }
+    ensures { FilledAt lines.now i result }
 {
-    let line = records::kept_at(lines, i);
-    line.kind == kinds::CELL
-        && i + 1 < records::count(lines)
-        && line.depth < records::kept_at(lines, i + 1).depth
+    let line = lines[i];
+    line.kind == Kind::Cell && i + 1 < lines.len() && line.depth < lines[i + 1].depth
 }
 
 // Measures all below the table at `at`, and returns the line after those.
 #[cycle(cell_node_table)]
 fn below_table(
-    lines: &[u32],
+    lines: &[Kept],
     figures: &mut [Estimate],
     leasts: &mut [u32],
-    entries: &mut [u32],
-    rows: &mut [u32],
+    entries: &mut [Entry],
+    rows: &mut [RowEnd],
     wrap: u32,
     at: usize,
 ) -> usize
     requires node_ready { NodeReady lines.now figures.old leasts.old entries.old rows.old at }
-    requires at_table { (line_at (kepts_of lines.now) at).kind ≡ table_kind }
-    ensures { CellsPassed wrap (kepts_of lines.now) figures.old figures.new at result }
+    requires at_table { kind_number (line_at lines.now at).kind ≡ table_kind }
+    ensures { CellsPassed wrap lines.now figures.old figures.new at result }
 {
-    let top = records::kept_at(lines, at);
-    let n = records::count(lines);
+    let top = lines[at];
+    let n = lines.len();
     let mut i = at + 1;
     // A while: a turn moves on by the lines that its call passes.
     while i < n {
-        let line = records::kept_at(lines, i);
+        let line = lines[i];
         if line.depth <= top.depth {
             break;
         }
@@ -129,17 +128,17 @@ fn below_table(
 // call holds it over others. Ports `RenderTable::calc_size_estimate`.
 #[cycle(cell_node_table)]
 fn table(
-    lines: &[u32],
+    lines: &[Kept],
     figures: &mut [Estimate],
     leasts: &mut [u32],
-    entries: &mut [u32],
-    rows: &mut [u32],
+    entries: &mut [Entry],
+    rows: &mut [RowEnd],
     wrap: u32,
     at: usize,
 ) -> Part
     requires node_ready { NodeReady lines.now figures.old leasts.old entries.old rows.old at }
-    requires at_table { (line_at (kepts_of lines.now) at).kind ≡ table_kind }
-    ensures { TableMeets wrap (kepts_of lines.now) figures.old figures.new at result }
+    requires at_table { kind_number (line_at lines.now at).kind ≡ table_kind }
+    ensures { TableMeets wrap lines.now figures.old figures.new at result }
 {
     let end = below_table(lines, figures, leasts, entries, rows, wrap, at);
     spread::table_figures(lines, at, end, figures, leasts, entries, rows)
@@ -149,31 +148,31 @@ fn table(
 // children of `RenderNode::calc_size_estimate`.
 #[cycle(cell_node_table)]
 fn cell(
-    lines: &[u32],
+    lines: &[Kept],
     figures: &mut [Estimate],
     leasts: &mut [u32],
-    entries: &mut [u32],
-    rows: &mut [u32],
+    entries: &mut [Entry],
+    rows: &mut [RowEnd],
     wrap: u32,
     at: usize,
 ) -> Part
     requires node_ready { NodeReady lines.now figures.old leasts.old entries.old rows.old at }
-    requires holder { Holder (line_at (kepts_of lines.now) at) }
-    ensures { CellMeets wrap (kepts_of lines.now) figures.old figures.new at result }
+    requires holder { Holder (line_at lines.now at) }
+    ensures { CellMeets wrap lines.now figures.old figures.new at result }
 {
-    let top = records::kept_at(lines, at);
-    let n = records::count(lines);
+    let top = lines[at];
+    let n = lines.len();
     let mut sum: u32 = 0;
     let mut most: u32 = 0;
     let mut children: u32 = 0;
     let mut i = at + 1;
     // A while: a turn moves on by the lines that its call passes.
     while i < n {
-        let line = records::kept_at(lines, i);
+        let line = lines[i];
         if line.depth <= top.depth {
             break;
         }
-        if is_leaf(line.kind) {
+        if line.kind.is_leaf() {
             // most children are texts, which need no call of `node`
             let e = single::leaf(line, wrap);
             figures[i] = e;
@@ -201,14 +200,14 @@ fn cell(
 // Measures every line of a sheet; `leasts`, `entries` and `rows` are scratch. Ports `precalc_size_estimate`.
 pub fn measure(
     wrap: u32,
-    lines: &[u32],
+    lines: &[Kept],
     figures: &mut [Estimate],
     leasts: &mut [u32],
-    entries: &mut [u32],
-    rows: &mut [u32],
+    entries: &mut [Entry],
+    rows: &mut [RowEnd],
 )
-    requires { Lent (kepts_of lines.now) figures.old leasts.old (entries_of entries.old) (rows_of rows.old) }
-    ensures { Measured wrap (kepts_of lines.now) figures.old figures.new }
+    requires { Lent lines.now figures.old leasts.old entries.old rows.old }
+    ensures { Measured wrap lines.now figures.old figures.new }
 {
     node(lines, figures, leasts, entries, rows, wrap, 0);
 }
@@ -216,17 +215,17 @@ pub fn measure(
 // Measures what lies below the table at `at`, and not the table itself: all that its layout needs. No grid of this table is made.
 pub fn measure_below(
     wrap: u32,
-    lines: &[u32],
+    lines: &[Kept],
     at: usize,
     figures: &mut [Estimate],
     leasts: &mut [u32],
-    entries: &mut [u32],
-    rows: &mut [u32],
+    entries: &mut [Entry],
+    rows: &mut [RowEnd],
 )
-    requires lent { Lent (kepts_of lines.now) figures.old leasts.old (entries_of entries.old) (rows_of rows.old) }
-    requires at_in_bounds { at < length (kepts_of lines.now) }
-    requires at_table { (get_or (kepts_of lines.now) at no_kept).kind ≡ table_kind }
-    ensures { CellsMeasured wrap (kepts_of lines.now) at figures.old figures.new }
+    requires lent { Lent lines.now figures.old leasts.old entries.old rows.old }
+    requires at_in_bounds { at < length lines.now }
+    requires at_table { kind_number (get_or lines.now at no_kept).kind ≡ table_kind }
+    ensures { CellsMeasured wrap lines.now at figures.old figures.new }
 {
     below_table(lines, figures, leasts, entries, rows, wrap, at);
 }

@@ -12,9 +12,10 @@ use lib.ListN.{length, get_or, drop, drop_of_length-le}
 use lib.Seq.{drop-cons}
 use borrow.Author.Tests.{eq-eqb, ne_eqb, eqb-true, lt-ltb, le-ltb, lt-leb, leb-true}
 use Rattle.std.specs.Prelude.{Option, Some, None}
-use Rattle.kinds.specs.Kinds.{same, place, kind_of, kind_names, kind_count}
+use Rattle.kinds.specs.declared.Kind.{Kind}
+use Rattle.kinds.specs.Kinds.{kind_at, same, place, kind_of, kind_names, kind_count}
 use Rattle.fields.specs.Blanks.{field, longer, until_blank, blank}
-use Rattle.fields.specs.Reading.{on_field, kind_read, FieldRead, sound, is_letter, nine_letters, key_from, key_of, key_place, kind_keys, kind_named}
+use Rattle.fields.specs.Reading.{on_field, kind_read, KindRead, sound_kind, is_letter, nine_letters, key_from, key_of, key_place, kind_keys, kind_named}
 use Rattle.fields.specs.declared.naming.Key.{Key}
 use Rattle.fields.proofs.OnField.{on_longer, on_same, on_unsound, and_0, and_1}
 
@@ -56,11 +57,11 @@ name_key k at f = cond (named k f) (Some (record { key = key_of k f; next = at +
 
 -- the kind of a key, and where the next field starts
 
-abbrev pub kind_until : ℕ → Option ℕ → FieldRead
+abbrev pub kind_until : ℕ → Option Kind → KindRead
 kind_until next None = None
-kind_until next (Some kind) = sound kind next
+kind_until next (Some kind) = sound_kind kind next
 
-abbrev pub kind_with : Option Key → FieldRead
+abbrev pub kind_with : Option Key → KindRead
 kind_with None = None
 kind_with (Some r) = kind_until r.next (kind_named (key_place r.key kind_keys))
 
@@ -194,16 +195,16 @@ place_none f (m ∷ ms) e g = go (same f m) refl (place_none f ms e (and_1 (name
 
 -- a kind is found by its key
 
-until_cond : (t : Bool) (kind next : ℕ) → cond t (sound kind next) None ≡ kind_until next (cond t (Some kind) None)
+until_cond : (t : Bool) (kind : Kind) (next : ℕ) → cond t (sound_kind kind next) None ≡ kind_until next (cond t (Some kind) None)
 until_cond true kind next = refl
 until_cond false kind next = refl
 
-kind_name : (at : ℕ) (f : List ℕ) → cond (ltb (kind_of f) kind_count) (sound (kind_of f) (at + length f + 1)) None
+kind_name : (at : ℕ) (f : List ℕ) → cond (ltb (kind_of f) kind_count) (sound_kind (kind_at (kind_of f)) (at + length f + 1)) None
     ≡ kind_with (name_key 1 at f)
 unfolding kind_of kind_keys
 kind_name at f = go (named 1 f) refl
   where
-    go : (t : Bool) → named 1 f ≡ t → cond (ltb (place f kind_names) kind_count) (sound (place f kind_names) (at + length f + 1)) None
+    go : (t : Bool) → named 1 f ≡ t → cond (ltb (place f kind_names) kind_count) (sound_kind (kind_at (place f kind_names)) (at + length f + 1)) None
         ≡ kind_with (cond t (Some (record { key = key_of 1 f; next = at + length f + 1 })) None)
     go true e = rw (place_key f kind_names e names_named) (until_cond _ _ _)
     go false e = rw (place_none f kind_names e names_named)

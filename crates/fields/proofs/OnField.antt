@@ -4,21 +4,21 @@ use mathlib.Core.Path.{◌≡◌, refl, sym}
 use mathlib.Core.Bool.{Bool, true, false, ◌&&◌}
 use mathlib.Core.List.{List, ◌∷◌}
 use Prim.Native.Nat.{ℕ}
-use Rattle.std.specs.Prelude.{None}
+use Rattle.std.specs.Prelude.{Option, None}
 use Rattle.text.specs.Decimal.{Number}
 use Rattle.fields.specs.Blanks.{Field, field, endless, longer}
 use Rattle.fields.specs.Numbers.{Numeral, numeral, unwritten}
 use Rattle.fields.specs.Reading.{FieldRead, on_field, on_numeral}
 
-pub on_longer : (b : ℕ) (x : Field) (g : List ℕ → FieldRead) → on_field (longer b x) g ≡ on_field x (λ f. g (b ∷ f))
+pub on_longer : {A : Type 0} (b : ℕ) (x : Field) (g : List ℕ → Option A) → on_field (longer b x) g ≡ on_field x (λ f. g (b ∷ f))
 on_longer b (field f r) g = refl
 on_longer b endless g = refl
 
-pub on_same : (x : Field) (g h : List ℕ → FieldRead) → ((f : List ℕ) → g f ≡ h f) → on_field x g ≡ on_field x h
+pub on_same : {A : Type 0} (x : Field) (g h : List ℕ → Option A) → ((f : List ℕ) → g f ≡ h f) → on_field x g ≡ on_field x h
 on_same (field f r) g h e = e f
 on_same endless g h e = refl
 
-pub on_unsound : (x : Field) (g : List ℕ → FieldRead) → ((f : List ℕ) → g f ≡ None) → on_field x g ≡ None
+pub on_unsound : {A : Type 0} (x : Field) (g : List ℕ → Option A) → ((f : List ℕ) → g f ≡ None) → on_field x g ≡ None
 on_unsound (field f r) g e = e f
 on_unsound endless g e = refl
 

@@ -1,11 +1,13 @@
 -- Reading one field at a place of the sheet: what the reader's inner functions answer. These are definitions; nothing is assumed.
 use Rattle.std.specs.Prelude.{◌≡◌, Bool, false, cond, ◌&&◌, List, [], ◌∷◌, map, ℕ, suc, ◌+◌, ◌-◌, ◌*◌, ◌/◌, ◌%◌, ◌≤◌, leb, ltb, eqb, length, drop, Option, Some, None}
 use Rattle.text.specs.Decimal.{Number, plain, minus}
-use Rattle.kinds.specs.Kinds.{kind_of, kind_names, kind_count}
+use Rattle.kinds.specs.declared.Kind.{Kind}
+use Rattle.kinds.specs.Kinds.{kind_at, kind_of, kind_names, kind_count}
 use Rattle.fields.specs.Numbers.{Numeral, numeral, unwritten, number_of, is_digit}
 use Rattle.fields.specs.Blanks.{Field, field, endless, until_blank, blank}
 use Rattle.fields.specs.declared.Field as declared
 use Rattle.fields.specs.declared.naming.Key.{Key}
+use Rattle.fields.specs.declared.naming.KindField.{KindField}
 
 -- what reading a field answers, and a field that is read
 
@@ -15,8 +17,16 @@ FieldRead = Option declared.Field
 abbrev pub sound : ℕ → ℕ → FieldRead
 sound value next = Some (record { value = value; next = next })
 
+-- what reading a field that names a kind answers, and one that names this kind
+
+abbrev pub KindRead : Type 0
+KindRead = Option KindField
+
+abbrev pub sound_kind : Kind → ℕ → KindRead
+sound_kind kind next = Some (record { kind = kind; next = next })
+
 -- the bytes up to the first space, if there is one
-abbrev pub on_field : Field → (List ℕ → FieldRead) → FieldRead
+abbrev pub on_field : {A : Type 0} → Field → (List ℕ → Option A) → Option A
 on_field (field f r) g = g f
 on_field endless g = None
 
@@ -36,9 +46,10 @@ number_read allowed kept at s =
     (λ f. on_numeral (number_of f) (λ n. cond (allowed n) (sound (kept n) (at + length f + 1)) None))
 
 -- the kind at the front of bytes that stand at a place, likewise
-unfoldable pub kind_read : ℕ → List ℕ → FieldRead
+unfoldable pub kind_read : ℕ → List ℕ → KindRead
 kind_read at s =
-    on_field (until_blank s) (λ f. cond (ltb (kind_of f) kind_count) (sound (kind_of f) (at + length f + 1)) None)
+    on_field (until_blank s)
+    (λ f. cond (ltb (kind_of f) kind_count) (sound_kind (kind_at (kind_of f)) (at + length f + 1)) None)
 
 -- digits and the space after them, after digits of value v; a value above most is left at once
 unfoldable pub digits_read : ℕ → ℕ → ℕ → List ℕ → FieldRead
@@ -78,8 +89,8 @@ key_place k [] = 0
 key_place k (m ∷ ms) = cond (eqb k m) 0 (suc (key_place k ms))
 
 -- the kind at a place among them, if there is one
-abbrev pub kind_named : ℕ → Option ℕ
-kind_named kind = cond (ltb kind kind_count) (Some kind) None
+abbrev pub kind_named : ℕ → Option Kind
+kind_named place = cond (ltb place kind_count) (Some (kind_at place)) None
 
 -- the keys of the kinds' names
 unfoldable pub kind_keys : List ℕ
@@ -98,6 +109,6 @@ pub record Spelt (four : ℕ) (s : List ℕ) (at next : ℕ) (rest : List ℕ) :
   pub is : drop at s ≡ four % 256 ∷ four / 256 % 256 ∷ four / 65536 % 256 ∷ four / 16777216 ∷ rest
 
 -- the field at a place names a kind, and the next field starts at another place of the sheet, or at its end
-pub record Named (kind : ℕ) (s : List ℕ) (at next : ℕ) : Type 0 where
+pub record Named (kind : Kind) (s : List ℕ) (at next : ℕ) : Type 0 where
   pub inside : next ≤ length s
-  pub is : kind_read at (drop at s) ≡ sound kind next
+  pub is : kind_read at (drop at s) ≡ sound_kind kind next

@@ -1,11 +1,11 @@
 // The field that names a kind.
 ghost use Rattle.std.specs.Prelude.{◌≡◌, true, ◌∷◌, ◌+◌, ◌-◌, ◌*◌, ◌≤◌, ◌<◌, drop};
-ghost use Rattle.kinds.specs.Kinds.{table_kind};
+ghost use Rattle.kinds.specs.declared.Kind.TheVariants.{Table};
 ghost use Rattle.fields.specs.Blanks.{blank};
 ghost use Rattle.fields.specs.Reading.{Spelt, Named, nine_letters, key_from, key_place, kind_keys, kind_named, kind_read};
 
-use super::Field;
 use super::fours::four_at;
+use kinds::Kind;
 
 // `text`, `cell`, `body`, `row` with its space, and `table` with its space in two parts that overlap, as `four_at` takes them.
 const TEXT_NAME: u32 = 1954047348;
@@ -22,6 +22,13 @@ const TABLE_END: u32 = 543517794;
 
 // The least key of nine letters, which the longest name has.
 const NINE_LETTERS: u64 = 35184372088832;
+
+// The kind that a field names, and the place after its space.
+#[derive(Clone, Copy)]
+pub struct KindField {
+    pub kind: Kind,
+    pub next: usize,
+}
 
 // A name as a number, and the place after the space that follows it.
 #[derive(Clone, Copy)]
@@ -58,38 +65,38 @@ fn key_at(bytes: &[u8], at: usize) -> Option<Key>
 }
 
 // The kind whose name has the key.
-#[tactic(auto, unfolding(crate::specs::Reading::key_of, crate::specs::Reading::key_place, crate::specs::Reading::kind_keys))]
-fn kind_of(key: u64) -> Option<u32>
+#[tactic(auto, unfolding(kinds::specs::Kinds::kind_at, crate::specs::Reading::key_of, crate::specs::Reading::key_place, crate::specs::Reading::kind_keys))]
+fn kind_of(key: u64) -> Option<Kind>
     ensures { result ≡ kind_named (key_place key kind_keys) }
 {
     let kind = match key {
-        1709844 => 0, // text
-        42407 => 1, // img
-        52935 => 2, // svg
-        39014007879858 => 3, // container
-        1451467 => 4, // link
-        1197 => 5, // em
-        1732853191 => 6, // strong
-        1732846949 => 7, // strike
-        1162373 => 8, // code
-        36060267 => 9, // block
-        1315876 => 10, // head
-        37174 => 11, // div
-        52084357 => 12, // quote
-        1708 => 13, // ul
-        1516 => 14, // ol
-        1164 => 15, // dl
-        1172 => 16, // dt
-        1156 => 17, // dd
-        36246571 => 18, // break
-        54561157 => 19, // table
-        1129625 => 20, // body
-        51703 => 21, // row
-        1152396 => 22, // cell
-        1263655 => 23, // frag
-        1364141 => 24, // item
-        52912 => 25, // sup
-        1148291 => 26, // calc
+        1709844 => Kind::Text,
+        42407 => Kind::Img,
+        52935 => Kind::Svg,
+        39014007879858 => Kind::Container,
+        1451467 => Kind::Link,
+        1197 => Kind::Em,
+        1732853191 => Kind::Strong,
+        1732846949 => Kind::Strike,
+        1162373 => Kind::Code,
+        36060267 => Kind::Block,
+        1315876 => Kind::Head,
+        37174 => Kind::Div,
+        52084357 => Kind::Quote,
+        1708 => Kind::Ul,
+        1516 => Kind::Ol,
+        1164 => Kind::Dl,
+        1172 => Kind::Dt,
+        1156 => Kind::Dd,
+        36246571 => Kind::Break,
+        54561157 => Kind::Table,
+        1129625 => Kind::Body,
+        51703 => Kind::Row,
+        1152396 => Kind::Cell,
+        1263655 => Kind::Frag,
+        1364141 => Kind::Item,
+        52912 => Kind::Sup,
+        1148291 => Kind::Calc,
         _ => return None,
     };
     Some(kind)
@@ -104,28 +111,28 @@ fn name_at(bytes: &[u8], at: usize, four: u32) -> bool
 
 // Whether `table` and a space stand at a place.
 fn table_at(bytes: &[u8], at: usize) -> bool
-    ensures { result ≡ true → Named table_kind bytes.now at (at + 6) }
+    ensures { result ≡ true → Named Table bytes.now at (at + 6) }
 {
     four_at(bytes, at, TABLE_FRONT) && four_at(bytes, at + 2, TABLE_END)
 }
 
 // The kind that the field at a place names. The commonest names are looked for first.
-pub fn kind_at(bytes: &[u8], at: usize) -> Option<Field>
+pub fn kind_at(bytes: &[u8], at: usize) -> Option<KindField>
     ensures { result ≡ kind_read at (drop at bytes.now) }
 {
-    let (value, next) = if name_at(bytes, at, CELL_NAME) {
-        (kinds::CELL, at + 5)
+    let (kind, next) = if name_at(bytes, at, CELL_NAME) {
+        (Kind::Cell, at + 5)
     } else if name_at(bytes, at, TEXT_NAME) {
-        (kinds::TEXT, at + 5)
+        (Kind::Text, at + 5)
     } else if four_at(bytes, at, ROW_NAME) {
-        (kinds::ROW, at + 4)
+        (Kind::Row, at + 4)
     } else if name_at(bytes, at, BODY_NAME) {
-        (kinds::BODY, at + 5)
+        (Kind::Body, at + 5)
     } else if table_at(bytes, at) {
-        (kinds::TABLE, at + 6)
+        (Kind::Table, at + 6)
     } else {
         let k = key_at(bytes, at)?;
         (kind_of(k.key)?, k.next)
     };
-    Some(Field { value, next })
+    Some(KindField { kind, next })
 }

@@ -11,7 +11,7 @@ use Rattle.lists.specs.Refusals.{Check, check, first_answer, verdict_of}
 use Rattle.lists.specs.declared.Reason.TheVariants.{RowEnd, TooManyEntries, ColumnEdge}
 use Rattle.std.specs.Prelude.{Ok, Err}
 use Rattle.lists.specs.Lists.{All}
-use Rattle.kinds.specs.Kinds.{table_kind}
+use Rattle.kinds.specs.Kinds.{kind_number, table_kind}
 use Rattle.records.specs.declared.Kept.{Kept}
 use Rattle.edges.specs.Edges.{all_at}
 use Rattle.cells.specs.Cells.{bodies_of, fill_body, resolved}
@@ -72,14 +72,14 @@ then_rest (c ∷ cs) xs ys e = ap (cond c.applies (Err c.refusal)) (then_rest cs
 pub tables_same : (t : ℕ) (ls : List Kept) → AllEnding t ls → verdict_of (tables_before t ls) ≡ verdict_of (tables_checks t ls)
 unfolding tables_before tables_checks
 tables_same t [] a = refl
-tables_same t (l ∷ ls) a = go (tables_same (suc t) ls a.1) (eqb l.kind table_kind) refl
+tables_same t (l ∷ ls) a = go (tables_same (suc t) ls a.1) (eqb (kind_number l.kind) table_kind) refl
   where
     bs : List (List cells.Row)
     bs = bodies_of l.depth t ls
 
-    go : verdict_of (tables_before (suc t) ls) ≡ verdict_of (tables_checks (suc t) ls) → (b : Bool) → eqb l.kind table_kind ≡ b
+    go : verdict_of (tables_before (suc t) ls) ≡ verdict_of (tables_checks (suc t) ls) → (b : Bool) → eqb (kind_number l.kind) table_kind ≡ b
         → verdict_of (cond b (checks_before t (resolved_before bs)) [] ++ tables_before (suc t) ls) ≡ verdict_of (cond b (table_checks t (resolved bs)) [] ++ tables_checks (suc t) ls)
     go ih true e =
-        checks_same bs (a.0 (eqb-true l.kind table_kind e)) t (tables_before (suc t) ls)
+        checks_same bs (a.0 (eqb-true (kind_number l.kind) table_kind e)) t (tables_before (suc t) ls)
         ∙ then_rest (table_checks t (resolved bs)) (tables_before (suc t) ls) (tables_checks (suc t) ls) ih
     go ih false e = ih

@@ -2,8 +2,8 @@
 -- cells than there are lines from the table's on. Assumes nothing.
 use mathlib.Core.Path.{◌≡◌, refl, sym, ap, ap₂, ◌∙◌, subst}
 use mathlib.Core.Bool.{Bool, ◌||◌}
-use mathlib.Core.List.{List, [], ◌∷◌, ◌++◌, map}
-use Prim.Native.Nat.{ℕ, ◌+◌, ◌*◌, ◌-◌, ◌≤◌, ◌<◌}
+use mathlib.Core.List.{List, [], ◌∷◌, ◌++◌, map, map-append}
+use Prim.Native.Nat.{ℕ, ◌+◌, ◌-◌, ◌≤◌, ◌<◌}
 use native.Mathlib.Omega.{arith}
 use lib.Dec.{ltb}
 use lib.ListN.{length, get_or, take, drop, length-map, length-drop}
@@ -11,11 +11,10 @@ use Rattle.lists.specs.Lists.{over}
 use Rattle.lists.specs.Limits.{max_lines, max_position}
 use Rattle.lists.proofs.Over.{over_front}
 use lib.Seq.{length-take-le}
+use Rattle.std.proofs.lemmas.List.{drop-map}
 use Rattle.records.specs.Kept.{no_kept}
 use Rattle.records.specs.declared.Kept.{Kept}
-use Rattle.cells.specs.Held.{figures}
 use Rattle.cells.specs.Cells.{Row}
-use Rattle.cells.proofs.Figures.{figures_append, figures_drop}
 use Rattle.cells.specs.Listed.{cell_line, cell_cols, cell_rows, all_cells, cell_ends, table_rows, ListingReady, TableListed}
 use Rattle.cells.proofs.Rows.{length_ends}
 use Rattle.cells.proofs.Facts.{rows_few}
@@ -49,12 +48,9 @@ module _ (lines spans rows : List ℕ) where
 pub front : (l o₀ o : List ℕ) (n : ℕ) → n ≡ length l → o ≡ over l o₀ → take n o ≡ l
 front l o₀ o n q e = ap₂ take q e ∙ over_front l o₀
 
--- records whose front is lent and comes back
-pub figures_front : {A : Type 0} (w : ℕ) (make : List ℕ → A) (f : A → ℕ) → 0 < w → (m : ℕ) (xs ys : List ℕ) → w * m ≤ length xs → length ys ≡ length (take (w * m) xs)
-    → figures w make f (ys ++ drop (w * m) xs) ≡ figures w make f ys ++ drop m (figures w make f xs)
-figures_front w make f p m xs ys h e =
-    figures_append w make f p m ys (drop (w * m) xs) (e ∙ length-take-le (w * m) xs h)
-    ∙ ap (λ (l : List ℕ). figures w make f ys ++ l) (figures_drop w make f p m xs h)
+-- a list whose front is lent and comes back
+pub map_front : {A : Type 0} (f : A → ℕ) (m : ℕ) (xs ys : List A) → map f (ys ++ drop m xs) ≡ map f ys ++ drop m (map f xs)
+map_front f m xs ys = map-append f ys (drop m xs) ∙ ap (λ (l : List ℕ). map f ys ++ l) (sym (drop-map f m xs))
 
 module _ {rs : List Row} {line₀ span₀ rows₀ row₀ end₀ line span rows row end : List ℕ} {cells count : ℕ}
     (w : TableListed rs line₀ span₀ rows₀ row₀ end₀ line span rows row end cells count) where

@@ -5,7 +5,7 @@ use Rattle.lists.specs.Limits.{max_entries}
 use Rattle.lists.specs.Refusals.{Check, check}
 use Rattle.lists.specs.declared.Reason.TheVariants.{RowEnd, TooManyEntries, ColumnEdge}
 use Rattle.lists.specs.Lists.{All}
-use Rattle.kinds.specs.Kinds.{table_kind}
+use Rattle.kinds.specs.Kinds.{kind_number, table_kind}
 use Rattle.records.specs.declared.Kept.{Kept}
 use Rattle.edges.specs.Edges.{all_at}
 use Rattle.cells.specs.Cells.{bodies_of, fill_body}
@@ -66,9 +66,9 @@ checks_before t table =
 unfoldable pub tables_before : ℕ → List Kept → List Check
 tables_before t [] = []
 tables_before t (l ∷ ls) =
-    cond (eqb l.kind table_kind) (checks_before t (resolved_before (bodies_of l.depth t ls))) [] ++ tables_before (suc t) ls
+    cond (eqb (kind_number l.kind) table_kind) (checks_before t (resolved_before (bodies_of l.depth t ls))) [] ++ tables_before (suc t) ls
 
 -- no table has a cell with rows 0 or a span that leaves its body
 abbrev pub AllEnding : ℕ → List Kept → Type 0
 AllEnding t [] = Unit {0}
-AllEnding t (l ∷ ls) = (l.kind ≡ table_kind → All Ending (bodies_of l.depth t ls)) × AllEnding (suc t) ls
+AllEnding t (l ∷ ls) = (kind_number l.kind ≡ table_kind → All Ending (bodies_of l.depth t ls)) × AllEnding (suc t) ls

@@ -4,7 +4,6 @@
 
 ghost use Rattle.std.specs.Prelude.{◌≡◌, true, ◌-◌, ◌<◌, length};
 ghost use Rattle.edges.specs.Edges.{is_edge, rows_from, RowsFit};
-ghost use Rattle.records.specs.Kept.{kepts_of, entries_of};
 ghost use Rattle.cells.specs.Held.{row_lines_of, row_ends_of, entry_cells_of, entry_spans_of};
 ghost use Rattle.cells.specs.Listed.{table_rows};
 ghost use Rattle.positions.specs.Positions.{all_rows, entry_count};
@@ -15,18 +14,19 @@ ghost use Rattle.grid.specs.inner.Placing.{edge_of_rows, RowsReady, PlacedNumber
 
 use edges::Numbers;
 use positions::Positions;
+use records::{Entry, Kept, RowEnd};
 
 // All rows' entries in columns, in the place of the same entries in positions; a row's record says how many entries there are up to and including
 // it. The columns of the longest row, or that an entry ends at no edge.
-fn number_rows(numbers: &Numbers, rows: &[u32], entries: &mut [u32]) -> Option<usize>
+fn number_rows(numbers: &Numbers, rows: &[RowEnd], entries: &mut [Entry]) -> Option<usize>
     requires words_value { is_edge numbers.now.words 0 ≡ true }
     requires rows_fit { RowsFit 0 (row_ends_of rows.now) (entry_spans_of entries.old) }
-    ensures { RowsNumbered (is_edge numbers.now.words) (rows_from 0 (row_ends_of rows.now) (entry_spans_of entries.old)) (entry_cells_of entries.old) result (entries_of entries.new) }
+    ensures { RowsNumbered (is_edge numbers.now.words) (rows_from 0 (row_ends_of rows.now) (entry_spans_of entries.old)) (entry_cells_of entries.old) result entries.new }
 {
     let mut columns: usize = 0;
     let mut start: usize = 0;
-    for r in 0..rows.len() / 2 {
-        let row = records::row_at(rows, r);
+    for r in 0..rows.len() {
+        let row = rows[r];
         let end = row.end as usize;
         let n = numbers.renumber(start, end, entries)?;
         columns = columns.max(n);
@@ -36,9 +36,9 @@ fn number_rows(numbers: &Numbers, rows: &[u32], entries: &mut [u32]) -> Option<u
 }
 
 // The same by the edges of these rows.
-fn number_table(rows: &[u32], entries: &mut [u32]) -> Option<usize>
+fn number_table(rows: &[RowEnd], entries: &mut [Entry]) -> Option<usize>
     requires { RowsFit 0 (row_ends_of rows.now) (entry_spans_of entries.old) }
-    ensures { RowsNumbered (edge_of_rows (rows_from 0 (row_ends_of rows.now) (entry_spans_of entries.old))) (rows_from 0 (row_ends_of rows.now) (entry_spans_of entries.old)) (entry_cells_of entries.old) result (entries_of entries.new) }
+    ensures { RowsNumbered (edge_of_rows (rows_from 0 (row_ends_of rows.now) (entry_spans_of entries.old))) (rows_from 0 (row_ends_of rows.now) (entry_spans_of entries.old)) (entry_cells_of entries.old) result entries.new }
 {
     let none = edges::Edges::new();
     let start = none.with(0);
@@ -49,13 +49,11 @@ fn number_table(rows: &[u32], entries: &mut [u32]) -> Option<usize>
 // The grid of rows by positions, in the place of their entries: how many columns it has. That an entry ends at no edge, refusal 7, is never found:
 // the edges are those of all rows.
 #[tactic(auto, using(crate::proofs::GridLists::rows_long, crate::proofs::GridLists::spans_long))]
-pub fn placed_grid(placed: Positions, rows: &[u32], entries: &mut [u32]) -> usize
+pub fn placed_grid(placed: Positions, rows: &[RowEnd], entries: &mut [Entry]) -> usize
     requires { RowsReady placed.rows placed.entries (entry_spans_of entries.old) (row_ends_of rows.now) }
-    ensures { PlacedNumbered placed.rows placed.entries (entry_spans_of entries.old) (entry_cells_of entries.old) (row_ends_of rows.now) result (entries_of entries.new) }
+    ensures { PlacedNumbered placed.rows placed.entries (entry_spans_of entries.old) (entry_cells_of entries.old) (row_ends_of rows.now) result entries.new }
 {
-    let r = 2 * placed.rows;
-    let n = 3 * placed.entries;
-    let Some(columns) = number_table(&rows[..r], &mut entries[..n]) else {
+    let Some(columns) = number_table(&rows[..placed.rows], &mut entries[..placed.entries]) else {
         return 0;
     };
     columns
@@ -64,22 +62,27 @@ pub fn placed_grid(placed: Positions, rows: &[u32], entries: &mut [u32]) -> usiz
 // The rows of the table at the place `at` by positions: a record for each entry, with its line and its span, and one for each row, with its line
 // and its end. The slices from cells to next are scratch. The table is sound, and there is a place for each of its entries.
 pub fn place_table(
-    lines: &[u32],
+    lines: &[Kept],
     at: usize,
     cells: &mut [u32],
     overhang: &mut [u32],
     next: &mut [u32],
-    entries: &mut [u32],
-    rows: &mut [u32],
+    entries: &mut [Entry],
+    rows: &mut [RowEnd],
 ) -> Positions
-    requires at_in_bounds { at < length (kepts_of lines.now) }
-    requires lined { Lined (kepts_of lines.now) }
-    requires sound { Sound (table_rows (kepts_of lines.now) at) }
-    requires room { Room (length (kepts_of lines.now) - at) (entry_count (all_rows (table_rows (kepts_of lines.now) at))) cells.old overhang.old next.old entries.old rows.old }
-    ensures { TablePlaced (table_rows (kepts_of lines.now) at) result (entry_spans_of entries.new) (entry_cells_of entries.new) (row_lines_of rows.new) (row_ends_of rows.new) }
+    requires at_in_bounds { at < length lines.now }
+    requires lined { Lined lines.now }
+    requires sound { Sound (table_rows lines.now at) }
+    requires room { Room (length lines.now - at) (entry_count (all_rows (table_rows lines.now at))) cells.old overhang.old next.old entries.old rows.old }
+    ensures { TablePlaced (table_rows lines.now at) result (entry_spans_of entries.new) (entry_cells_of entries.new) (row_lines_of rows.new) (row_ends_of rows.new) }
 {
     let listed = cells::list_rows(lines, at, cells, rows);
     let n = 3 * listed.cells;
-    let r = 2 * listed.rows;
-    positions::position_rows(&cells[..n], &mut rows[..r], entries, overhang, next)
+    positions::position_rows(
+        &cells[..n],
+        &mut rows[..listed.rows],
+        entries,
+        overhang,
+        next,
+    )
 }

@@ -94,22 +94,16 @@ module _ {ks : List Kept} {at h w e i : ℕ} (z : Bounding ks at h w e i) where
       bound_fits (frame d (suc (at + 1)) (drop (at + 1) ks)).bodies t.bodies_fit (omega (arith, t.few))
 
   -- the line of a turn
-  module _ (l : Kept) (q : l ≡ get_or ks i no_kept) (s : d < l.depth) where
-    abbrev l' : Kept
-    l' = get_or ks i no_kept
+  abbrev l : Kept
+  l = get_or ks i no_kept
 
-    depth_is : l.depth ≡ l'.depth
-    depth_is = ap (λ (k : Kept). k.depth) q
-
-    deep : d < l'.depth
-    deep = omega (arith, depth_is)
-
+  module _ (deep : d < l.depth) where
     pub more : i < length ks
     more = inside ks i d deep
 
     pub bound_body : l.depth - d ≡ 1 → Bounding ks at 0 0 e (i + 1)
     bound_body b = record {
-      whole = λ r. z.whole (subst (Rest h w e) (sym (frame_body ks d i deep (omega (arith, depth_is)))) (rest_body h w e (after ks d i) z.within r));
+      whole = λ r. z.whole (subst (Rest h w e) (sym (frame_body ks d i deep (omega arith))) (rest_body h w e (after ks d i) z.within r));
       order = omega arith;
       within = omega arith;
       few = z.few;
@@ -118,29 +112,31 @@ module _ {ks : List Kept} {at h w e i : ℕ} (z : Bounding ks at h w e i) where
 
     pub bound_row : l.depth - d ≡ 2 → Bounding ks at h h e (i + 1)
     bound_row b = record {
-      whole = λ r. z.whole (subst (Rest h w e) (sym (frame_row ks d i deep (λ o. omega (arith, depth_is, o)) (omega (arith, depth_is)))) (rest_row h w e (after ks d i) (i + 1) z.within r));
+      whole = λ r. z.whole (subst (Rest h w e) (sym (frame_row ks d i deep (λ o. omega (arith, o)) (omega arith))) (rest_row h w e (after ks d i) (i + 1) z.within r));
       order = omega arith;
       within = omega (arith, z.order, z.within);
       few = z.few;
       place = omega (arith, more);
     }
 
-    pub bound_cell : l.depth - d ≡ 3 → (g : ℕ) → HungBy l.cols l.rows g → Room l.cols l.rows w e max_entries
-        → Bounding ks at (h + g) (w + l.cols) (e + l.rows) (i + 1)
-    bound_cell b g p r = record {
-      whole = λ x. z.whole (subst (Rest h w e)
-          (sym (frame_cell ks d i deep (λ o. omega (arith, depth_is, o)) (λ o. omega (arith, depth_is, o)) (omega (arith, depth_is)) ∙ ap (λ (k : Kept). open_cell (i + 1) k (after ks d i)) (sym q)))
-          (rest_cell h w e (after ks d i) (i + 1) l g p.is r x));
-      order = omega (arith, z.order, p.small);
-      within = r.within;
-      few = r.few;
-      place = omega (arith, more);
-    }
+    pub bound_cell : l.depth - d ≡ 3 → (cols rows g : ℕ) → cols ≡ l.cols → rows ≡ l.rows → HungBy cols rows g → Room cols rows w e max_entries
+        → Bounding ks at (h + g) (w + cols) (e + rows) (i + 1)
+    bound_cell b cols rows g u v =
+        rw (u, v) (λ p r.
+        record {
+          whole = λ x. z.whole (subst (Rest h w e)
+              (sym (frame_cell ks d i deep (λ o. omega (arith, o)) (λ o. omega (arith, o)) (omega arith)))
+              (rest_cell h w e (after ks d i) (i + 1) l g p.is r x));
+          order = omega (arith, z.order, p.small);
+          within = r.within;
+          few = r.few;
+          place = omega (arith, more);
+        })
 
     pub bound_deeper : (l.depth - d ≡ 3 → ⊥) → (l.depth - d ≡ 2 → ⊥) → (l.depth - d ≡ 1 → ⊥) → Bounding ks at h w e (i + 1)
     bound_deeper a b c = record {
       whole = λ r. z.whole (subst (Rest h w e)
-          (sym (frame_deeper ks d i deep (λ o. c (omega (arith, depth_is, o))) (λ o. b (omega (arith, depth_is, o))) (λ o. a (omega (arith, depth_is, o))))) r);
+          (sym (frame_deeper ks d i deep (λ o. c (omega (arith, o))) (λ o. b (omega (arith, o))) (λ o. a (omega (arith, o))))) r);
       order = z.order;
       within = z.within;
       few = z.few;

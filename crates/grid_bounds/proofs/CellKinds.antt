@@ -8,7 +8,7 @@ use native.Mathlib.Decide.{dec_lt, ℕ_discrete}
 use native.Mathlib.Omega.{arith}
 use lib.ListN.{length, get_or}
 use borrow.Author.Tests.{eqb-true}
-use Rattle.kinds.specs.Kinds.{table_kind, body_kind, row_kind, cell_kind, may_hold}
+use Rattle.kinds.specs.Kinds.{kind_number, table_kind, body_kind, row_kind, cell_kind, may_hold}
 use Rattle.records.specs.Parents.{Parent}
 use Rattle.records.specs.Kept.{no_kept}
 use Rattle.records.specs.declared.Kept.{Kept}
@@ -49,7 +49,7 @@ module _ (ks : List Kept) (step : (k : ℕ) → k + 1 < length ks → (get_or ks
   above u i l w h = above_from u i (i - 1 - u) w h (omega arith) (λ k a b. absurd (omega arith))
 
   -- the kinds on the way from a table down to its cell
-  module _ (z : Nests ks) (t i : ℕ) (c : CellOf ks t i) (e : (get_or ks t no_kept).kind ≡ table_kind) where
+  module _ (z : Nests ks) (t i : ℕ) (c : CellOf ks t i) (e : kind_number (get_or ks t no_kept).kind ≡ table_kind) where
     holds_body : (k : ℕ) → may_hold table_kind k ≡ true → k ≡ body_kind
     unfolding may_hold
     holds_body k h = eqb-true k body_kind h
@@ -63,10 +63,10 @@ module _ (ks : List Kept) (step : (k : ℕ) → k + 1 < length ks → (get_or ks
     holds_cell k h = eqb-true k cell_kind h
 
     -- what a parent of the kind a holds
-    child : (a b : ℕ) → ((k : ℕ) → may_hold a k ≡ true → k ≡ b) → (p q : ℕ) → Parent ks p q → (get_or ks p no_kept).kind ≡ a → (get_or ks q no_kept).kind ≡ b
-    child a b h p q r f = h (get_or ks q no_kept).kind (sym (ap (λ (x : ℕ). may_hold x (get_or ks q no_kept).kind) f) ∙ z.holds p q r)
+    child : (a b : ℕ) → ((k : ℕ) → may_hold a k ≡ true → k ≡ b) → (p q : ℕ) → Parent ks p q → kind_number (get_or ks p no_kept).kind ≡ a → kind_number (get_or ks q no_kept).kind ≡ b
+    child a b h p q r f = h (kind_number (get_or ks q no_kept).kind) (sym (ap (λ (x : ℕ). may_hold x (kind_number (get_or ks q no_kept).kind)) f) ∙ z.holds p q r)
 
-    pub cell_kind_lem : (get_or ks i no_kept).kind ≡ cell_kind
+    pub cell_kind_lem : kind_number (get_or ks i no_kept).kind ≡ cell_kind
     cell_kind_lem =
         let d = c.deeper in
         let x = above t i c.before c.within (omega arith) in
@@ -79,7 +79,7 @@ module _ (ks : List Kept) (step : (k : ℕ) → k + 1 < length ks → (get_or ks
         let wp = w.parent in
         let w' : w.p ≡ t = first w.p w.from (omega (arith, xp.before, yp.before, wp.before)) (omega (arith, xp.deeper, yp.deeper, wp.deeper)) in
         child row_kind cell_kind holds_cell x.p i xp
-        (child body_kind row_kind holds_row y.p x.p yp (child table_kind body_kind holds_body w.p y.p wp (ap (λ (k : ℕ). (get_or ks k no_kept).kind) w' ∙ e)))
+        (child body_kind row_kind holds_row y.p x.p yp (child table_kind body_kind holds_body w.p y.p wp (ap (λ (k : ℕ). kind_number (get_or ks k no_kept).kind) w' ∙ e)))
       where
         -- another depth, so another line
         later : (q : ℕ) → t ≤ q → ((get_or ks q no_kept).depth ≡ (get_or ks t no_kept).depth → ⊥) → t < q

@@ -1,15 +1,17 @@
 -- The loop of `sheet_fits` on plain lists: what is summed, with the lines from place i on, is the sum of all. Assumes nothing.
+use mathlib.Core.Bool.{true, false}
 use mathlib.Core.Path.{◌≡◌}
 use mathlib.Core.List.{List, ◌∷◌, map}
 use Prim.Native.Nat.{ℕ, ◌+◌, ◌≤◌, ◌<◌}
 use native.Mathlib.Numerals.{add-one}
 use native.Mathlib.Omega.{arith}
+use lib.Dec.{eqb}
 use lib.ListN.{length, get_or, drop, drop_of_length-le}
 use lib.Seq.{drop-cons}
-use borrow.Author.Tests.{eq-eqb, ne_eqb}
+use borrow.Author.Tests.{ne_eqb}
 use Rattle.lists.specs.Lists.{sum}
 use Rattle.lists.specs.Limits.{max_position}
-use Rattle.kinds.specs.Kinds.{cell_kind}
+use Rattle.kinds.specs.Kinds.{kind_number, cell_kind}
 use Rattle.records.specs.Kept.{no_kept}
 use Rattle.records.specs.declared.Kept.{Kept}
 use Rattle.grid_bounds.specs.Bound.{Room}
@@ -32,14 +34,16 @@ module _ {ks : List Kept} {most end entries i : ℕ} (z : SheetLoop ks most end 
       let e = drop_of_length-le ks {i = i} h in
       record { cols = let v = rw e at z.cols in omega (arith, z.within); rows = let v = rw e at z.rows in omega (arith, z.few) }
 
-  module _ (h : i < length ks) (l : Kept) (q : l ≡ get_or ks i no_kept) where
-    rests : drop i ks ≡ l ∷ drop (i + 1) ks
-    rests = rw (q, add-one, drop-cons ks i no_kept)
+  abbrev l : Kept
+  l = get_or ks i no_kept
 
-    pub sheet_other : (l.kind ≡ cell_kind → ⊥) → SheetLoop ks most end entries (i + 1)
+  module _ (h : i < length ks) where
+    rests : drop i ks ≡ l ∷ drop (i + 1) ks
+    rests = rw (add-one, drop-cons ks i no_kept)
+
+    pub sheet_other : eqb (kind_number l.kind) cell_kind ≡ false → SheetLoop ks most end entries (i + 1)
     unfolding sum
-    sheet_other n =
-        let b = ne_eqb l.kind cell_kind n in
+    sheet_other b =
         record {
           place = omega arith;
           cols = let v = rw (rests, b) at z.cols in omega arith;
@@ -48,10 +52,11 @@ module _ {ks : List Kept} {most end entries i : ℕ} (z : SheetLoop ks most end 
           few = z.few;
         }
 
-    pub sheet_cell : l.kind ≡ cell_kind → Room l.cols l.rows end entries most → SheetLoop ks most (end + l.cols) (entries + l.rows) (i + 1)
+    pub sheet_cell : eqb (kind_number l.kind) cell_kind ≡ true → (cols rows : ℕ) → cols ≡ l.cols → rows ≡ l.rows → Room cols rows end entries most
+        → SheetLoop ks most (end + cols) (entries + rows) (i + 1)
     unfolding sum
-    sheet_cell e r =
-        let b = eq-eqb l.kind cell_kind e in
+    sheet_cell b cols rows u v =
+        rw (u, v) (λ r.
         let c = ne_eqb l.cols 0 (λ o. omega (arith, r.some_cols, o)) in
         let d = ne_eqb l.rows 0 (λ o. omega (arith, r.some_rows, o)) in
         record {
@@ -60,4 +65,4 @@ module _ {ks : List Kept} {most end entries i : ℕ} (z : SheetLoop ks most end 
           rows = let v = rw (rests, b, d) at z.rows in omega arith;
           within = r.within;
           few = r.few;
-        }
+        })

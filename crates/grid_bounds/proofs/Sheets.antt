@@ -14,7 +14,7 @@ use borrow.Author.Tests.{eq-eqb, eqb-true, leb-false}
 use Rattle.lists.specs.Lists.{sum}
 use Rattle.lists.specs.Limits.{max_position, max_entries}
 use Rattle.lists.proofs.Sum.{sum_append}
-use Rattle.kinds.specs.Kinds.{table_kind, cell_kind}
+use Rattle.kinds.specs.Kinds.{kind_number, table_kind, cell_kind}
 use Rattle.records.specs.Kept.{no_kept}
 use Rattle.records.specs.declared.Kept.{Kept}
 use Rattle.cells.specs.Cells.{Cell, Row, Frame, cell, frame}
@@ -119,12 +119,12 @@ sum_rest weight (suc n) [] = omega arith
 sum_rest weight (suc n) (l ∷ ls) = omega (arith, sum_rest weight n ls)
 
 abbrev by_kind : (Cell → ℕ) → Kept → ℕ
-by_kind m l = cond (eqb l.kind cell_kind) (m (cell 0 l.cols l.rows)) 0
+by_kind m l = cond (eqb (kind_number l.kind) cell_kind) (m (cell 0 l.cols l.rows)) 0
 
-cell_weighs : (m : Cell → ℕ) (l : Kept) → l.kind ≡ cell_kind → m (cell 0 l.cols l.rows) ≤ by_kind m l
-cell_weighs m l e = rw (eq-eqb l.kind cell_kind e) (omega arith)
+cell_weighs : (m : Cell → ℕ) (l : Kept) → kind_number l.kind ≡ cell_kind → m (cell 0 l.cols l.rows) ≤ by_kind m l
+cell_weighs m l e = rw (eq-eqb (kind_number l.kind) cell_kind e) (omega arith)
 
-module _ {ks : List Kept} (step : (k : ℕ) → k + 1 < length ks → (get_or ks (k + 1) no_kept).depth ≤ (get_or ks k no_kept).depth + 1) (nests : Nests ks) (t : ℕ) (h : t < length ks) (e : (get_or ks t no_kept).kind ≡ table_kind) where
+module _ {ks : List Kept} (step : (k : ℕ) → k + 1 < length ks → (get_or ks (k + 1) no_kept).depth ≤ (get_or ks k no_kept).depth + 1) (nests : Nests ks) (t : ℕ) (h : t < length ks) (e : kind_number (get_or ks t no_kept).kind ≡ table_kind) where
   table_total : (m : Cell → ℕ) → ((k : ℕ) (c : Cell) → m (cell k c.cols c.rows) ≡ m (cell 0 c.cols c.rows))
       → totals m (frame (get_or ks t no_kept).depth (suc (t + 1)) (drop (t + 1) ks)).bodies ≤ sum (map (by_kind m) ks)
   table_total m any =
@@ -142,7 +142,7 @@ module _ {ks : List Kept} (step : (k : ℕ) → k + 1 < length ks → (get_or ks
 
 -- no table has more entries than the bound
 pub sheet_entries : {ks : List Kept} {most : ℕ} → ((k : ℕ) → k + 1 < length ks → (get_or ks (k + 1) no_kept).depth ≤ (get_or ks k no_kept).depth + 1) → Nests ks → most ≤ max_entries → SheetBound most ks
-    → (t : ℕ) → t < length ks → (get_or ks t no_kept).kind ≡ table_kind → entry_count (all_rows (table_rows ks t)) ≤ most
+    → (t : ℕ) → t < length ks → kind_number (get_or ks t no_kept).kind ≡ table_kind → entry_count (all_rows (table_rows ks t)) ≤ most
 unfolding table_rows
 sheet_entries {ks} step nests m z t h e =
     let bs = (frame (get_or ks t no_kept).depth (suc (t + 1)) (drop (t + 1) ks)).bodies in
@@ -156,5 +156,5 @@ sheet_sound step nests z = record { at = λ t h e. table_sound step nests t h e 
 
 -- where so many records suffice, no table has more entries
 pub suffice_entries : {ks : List Kept} {entries rows : ℕ} → ((k : ℕ) → k + 1 < length ks → (get_or ks (k + 1) no_kept).depth ≤ (get_or ks k no_kept).depth + 1) → Nests ks → Suffice entries rows ks
-    → (t : ℕ) → t < length ks → (get_or ks t no_kept).kind ≡ table_kind → entry_count (all_rows (table_rows ks t)) ≤ entries
+    → (t : ℕ) → t < length ks → kind_number (get_or ks t no_kept).kind ≡ table_kind → entry_count (all_rows (table_rows ks t)) ≤ entries
 suffice_entries step nests z t h e = omega (arith, sheet_entries step nests z.small z.bound t h e, z.within)

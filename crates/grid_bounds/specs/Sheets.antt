@@ -2,7 +2,7 @@
 use Rattle.std.specs.Prelude.{◌≡◌, true, cond, List, map, ℕ, ◌≤◌, ◌<◌, eqb, length, get_or}
 use Rattle.lists.specs.Lists.{sum}
 use Rattle.lists.specs.Limits.{max_position, max_entries}
-use Rattle.kinds.specs.Kinds.{table_kind, cell_kind, may_hold}
+use Rattle.kinds.specs.Kinds.{kind_number, table_kind, cell_kind, may_hold}
 use Rattle.records.specs.Parents.{Parent}
 use Rattle.records.specs.Kept.{no_kept}
 use Rattle.records.specs.declared.Kept.{Kept}
@@ -13,10 +13,10 @@ use Rattle.grid_bounds.specs.Bound.{wide_of, rows_of}
 
 -- what a line's cell spans and asks for
 abbrev pub cols_by : Kept → ℕ
-cols_by l = cond (eqb l.kind cell_kind) (wide_of (cell 0 l.cols l.rows)) 0
+cols_by l = cond (eqb (kind_number l.kind) cell_kind) (wide_of (cell 0 l.cols l.rows)) 0
 
 abbrev pub rows_by : Kept → ℕ
-rows_by l = cond (eqb l.kind cell_kind) (rows_of (cell 0 l.cols l.rows)) 0
+rows_by l = cond (eqb (kind_number l.kind) cell_kind) (rows_of (cell 0 l.cols l.rows)) 0
 
 -- all cells of the sheet together span no more columns than a row may, and ask for at most so many rows; none has cols 0 or rows 0
 pub record SheetBound (most : ℕ) (ks : List Kept) : Type 0 where
@@ -33,8 +33,8 @@ pub record Suffice (entries rows : ℕ) (ks : List Kept) : Type 0 where
 
 -- each line's parent may hold it
 pub record Nests (ks : List Kept) : Type 0 where
-  pub holds : (p i : ℕ) → Parent ks p i → may_hold (get_or ks p no_kept).kind (get_or ks i no_kept).kind ≡ true
+  pub holds : (p i : ℕ) → Parent ks p i → may_hold (kind_number (get_or ks p no_kept).kind) (kind_number (get_or ks i no_kept).kind) ≡ true
 
 -- neither of the refusals 5 and 6 applies to any table
 pub record AllSound (ks : List Kept) : Type 0 where
-  pub at : (t : ℕ) → t < length ks → (get_or ks t no_kept).kind ≡ table_kind → Sound (table_rows ks t)
+  pub at : (t : ℕ) → t < length ks → kind_number (get_or ks t no_kept).kind ≡ table_kind → Sound (table_rows ks t)

@@ -5,12 +5,12 @@ pub mod whole; // whole.rt: all tables of a sheet at once
 
 ghost use Rattle.std.specs.Prelude.{◌≡◌, true, cond, ◌≤◌, ◌<◌, eqb, length};
 ghost use Rattle.lists.specs.Limits.{max_lines, max_position};
-ghost use Rattle.records.specs.Kept.{kepts_of};
 ghost use Rattle.cells.specs.Listed.{table_rows};
 ghost use Rattle.grid.specs.Facts.{Sound};
 ghost use Rattle.grid_bounds.specs.Bound.{Room, HungBy};
 
 use lists::{MAX_ENTRIES, MAX_POSITION};
+use records::Kept;
 
 // The entries that a table may have.
 pub const MOST_ENTRIES: u32 = MAX_ENTRIES as u32;
@@ -33,28 +33,30 @@ fn hung_by(cols: u32, rows: u32) -> u32
 
 // Whether the table at the place `at` is within the bound: what hangs is taken to hang to its body's end, and each cell to take all rows that it asks for.
 // `hung` hang into the row after the open one, which ends at `end`, and there are so many entries.
-pub fn table_fits(lines: &[u32], at: usize) -> bool
-    requires { (at < length (kepts_of lines.now)) × (length (kepts_of lines.now) ≤ max_lines) }
-    ensures { result ≡ true → Sound (table_rows (kepts_of lines.now) at) }
+pub fn table_fits(lines: &[Kept], at: usize) -> bool
+    requires { (at < length lines.now) × (length lines.now ≤ max_lines) }
+    ensures { result ≡ true → Sound (table_rows lines.now at) }
 {
-    let table = records::kept_at(lines, at);
+    let table = lines[at];
     let d = table.depth;
     let mut hung: u32 = 0;
     let mut end: u32 = 0;
     let mut entries: u32 = 0;
-    for i in at + 1..records::count(lines) {
-        let line = records::kept_at(lines, i);
+    for i in at + 1..lines.len() {
+        let line = lines[i];
         if line.depth <= d {
             break;
         }
         let e = line.depth - d;
         if e == 3 {
-            if !has_room(line.cols, line.rows, end, entries, MOST_ENTRIES) {
+            let cols = u32::from(line.cols);
+            let rows = u32::from(line.rows);
+            if !has_room(cols, rows, end, entries, MOST_ENTRIES) {
                 return false;
             }
-            hung += hung_by(line.cols, line.rows);
-            end += line.cols;
-            entries += line.rows;
+            hung += hung_by(cols, rows);
+            end += cols;
+            entries += rows;
         } else if e == 2 {
             end = hung;
         } else if e == 1 {

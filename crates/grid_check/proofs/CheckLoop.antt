@@ -15,7 +15,7 @@ use Rattle.std.specs.Prelude.{Result, Ok, Err}
 use Rattle.lists.specs.Refusals.{refusal, first_answer, verdict_of}
 use Rattle.lists.specs.declared.Reason.{Reason}
 use Rattle.lists.specs.declared.Refusal.{Refusal}
-use Rattle.kinds.specs.Kinds.{table_kind}
+use Rattle.kinds.specs.Kinds.{kind_number, table_kind}
 use Rattle.records.specs.Kept.{no_kept}
 use Rattle.records.specs.declared.Kept.{Kept}
 use Rattle.cells.specs.Listed.{table_rows}
@@ -35,20 +35,20 @@ module _ (ks : List Kept) (t : ℕ) (h : t < length ks) where
   abbrev rest : Result (Unit {0}) Refusal
   rest = verdict_of (tables_checks (t + 1 + 1) (drop (t + 1) ks))
 
-  checks_here : (b : Bool) → eqb here.kind table_kind ≡ b
+  checks_here : (b : Bool) → eqb (kind_number here.kind) table_kind ≡ b
       → tables_checks (t + 1) (drop t ks) ≡ cond b (table_checks (t + 1) (table_rows ks t)) [] ++ tables_checks (t + 1 + 1) (drop (t + 1) ks)
   unfolding tables_checks table_rows
   checks_here b e =
       ap (tables_checks (t + 1)) lines_here
       ∙ (λ i. cond (e i) (table_checks (t + 1) (table_rows ks t)) [] ++ tables_checks (sym (add-one (t + 1)) i) (drop (t + 1) ks))
 
-  verdict_other : (here.kind ≡ table_kind → ⊥) → verdict_of (tables_checks (t + 1) (drop t ks)) ≡ rest
-  verdict_other n = ap verdict_of (checks_here false (ne_eqb here.kind table_kind n))
+  verdict_other : (kind_number here.kind ≡ table_kind → ⊥) → verdict_of (tables_checks (t + 1) (drop t ks)) ≡ rest
+  verdict_other n = ap verdict_of (checks_here false (ne_eqb (kind_number here.kind) table_kind n))
 
-  module _ (e : here.kind ≡ table_kind) (r : Result (Unit {0}) Reason) (j : r ≡ refusal_of (table_rows ks t)) where
+  module _ (e : kind_number here.kind ≡ table_kind) (r : Result (Unit {0}) Reason) (j : r ≡ refusal_of (table_rows ks t)) where
     verdict_table : verdict_of (tables_checks (t + 1) (drop t ks)) ≡ or_rest r (t + 1) rest
     verdict_table =
-        ap verdict_of (checks_here true (eq-eqb here.kind table_kind e)) ∙ verdict_reason (table_rows ks t) (t + 1) (tables_checks (t + 1 + 1) (drop (t + 1) ks))
+        ap verdict_of (checks_here true (eq-eqb (kind_number here.kind) table_kind e)) ∙ verdict_reason (table_rows ks t) (t + 1) (tables_checks (t + 1 + 1) (drop (t + 1) ks))
         ∙ ap (λ (x : Result (Unit {0}) Reason). or_rest x (t + 1) rest) (sym j)
 
     verdict_none : r ≡ Ok tt → verdict_of (tables_checks (t + 1) (drop t ks)) ≡ rest
@@ -62,7 +62,7 @@ module _ (ks : List Kept) (t : ℕ) (h : t < length ks) where
 pub record Sofar (ks : List Kept) (t : ℕ) : Type 0 where
   pub at : t ≤ length ks
   pub left : verdict_of (tables_checks (t + 1) (drop t ks)) ≡ verdict_of (tables_checks 1 ks)
-  pub sound : (u : ℕ) → u < t → (get_or ks u no_kept).kind ≡ table_kind → Sound (table_rows ks u)
+  pub sound : (u : ℕ) → u < t → kind_number (get_or ks u no_kept).kind ≡ table_kind → Sound (table_rows ks u)
 
 pub start : (ks : List Kept) → Sofar ks 0
 start ks = record { at = omega arith; left = refl; sound = λ u l. absurd (omega arith) }
@@ -72,37 +72,29 @@ module _ {ks : List Kept} {t : ℕ} (z : Sofar ks t) where
   unfolding tables_checks verdict_of first_answer
   stop h = record { answer = rw (drop_of_length-le ks {i = t} h) at z.left; sound = λ _. record { at = λ u l e. z.sound u (omega (arith, z.at)) e } }
 
-  module _ (h : t < length ks) (k : Kept) (q : k ≡ get_or ks t no_kept) where
-    kind_is : k.kind ≡ (get_or ks t no_kept).kind
-    kind_is = ap (λ (x : Kept). x.kind) q
-
-    pub turn_other : (k.kind ≡ table_kind → ⊥) → Sofar ks (t + 1)
-    turn_other n =
-        let m : (get_or ks t no_kept).kind ≡ table_kind → ⊥ = λ e. n (kind_is ∙ e) in
-        record { at = omega arith; left = sym (verdict_other ks t h m) ∙ z.left; sound = λ u l e. each m u l e (ℕ_discrete u t) }
+  module _ (h : t < length ks) where
+    pub turn_other : (kind_number (get_or ks t no_kept).kind ≡ table_kind → ⊥) → Sofar ks (t + 1)
+    turn_other n = record { at = omega arith; left = sym (verdict_other ks t h n) ∙ z.left; sound = λ u l e. each u l e (ℕ_discrete u t) }
       where
-        each : ((get_or ks t no_kept).kind ≡ table_kind → ⊥) → (u : ℕ) → u < t + 1 → (get_or ks u no_kept).kind ≡ table_kind → Dec (u ≡ t) → Sound (table_rows ks u)
-        each m u l e (yes v) = absurd (m (ap (λ (i : ℕ). (get_or ks i no_kept).kind) (sym v) ∙ e))
-        each m u l e (no v) = z.sound u (omega arith) e
+        each : (u : ℕ) → u < t + 1 → kind_number (get_or ks u no_kept).kind ≡ table_kind → Dec (u ≡ t) → Sound (table_rows ks u)
+        each u l e (yes v) = absurd (n (ap (λ (i : ℕ). kind_number (get_or ks i no_kept).kind) (sym v) ∙ e))
+        each u l e (no v) = z.sound u (omega arith) e
 
-    module _ (e : k.kind ≡ table_kind) (r : Result (Unit {0}) Reason) (j : r ≡ refusal_of (table_rows ks t)) where
-      table_here : (get_or ks t no_kept).kind ≡ table_kind
-      table_here = sym kind_is ∙ e
-
+    module _ (e : kind_number (get_or ks t no_kept).kind ≡ table_kind) (r : Result (Unit {0}) Reason) (j : r ≡ refusal_of (table_rows ks t)) where
       pub turn_refused : (why : Reason) → r ≡ Err why → TablesChecked ks (Err (refusal why (t + 1)))
       turn_refused why n = record {
-        answer = sym (verdict_refused ks t h table_here r j why n) ∙ z.left;
+        answer = sym (verdict_refused ks t h e r j why n) ∙ z.left;
         sound = λ a. cc;
       }
 
       pub turn_table : r ≡ Ok tt → Sofar ks (t + 1)
       turn_table n = record {
         at = omega arith;
-        left = sym (verdict_none ks t h table_here r j n) ∙ z.left;
+        left = sym (verdict_none ks t h e r j n) ∙ z.left;
         sound = λ u l g. each u l g (ℕ_discrete u t);
       }
         where
-          each : (u : ℕ) → u < t + 1 → (get_or ks u no_kept).kind ≡ table_kind → Dec (u ≡ t) → Sound (table_rows ks u)
+          each : (u : ℕ) → u < t + 1 → kind_number (get_or ks u no_kept).kind ≡ table_kind → Dec (u ≡ t) → Sound (table_rows ks u)
           each u l g (yes v) = subst (λ (i : ℕ). Sound (table_rows ks i)) (sym v) (none_sound (table_rows ks t) (sym j ∙ n))
           each u l g (no v) = z.sound u (omega arith) g
 
@@ -111,11 +103,11 @@ module _ {ks : List Kept} {t : ℕ} (z : Sofar ks t) where
 module _ {ks : List Kept} (f : AllSound ks) where
   from_fit : (n t : ℕ) → t + n ≡ length ks → Sofar ks t → TablesChecked ks (Ok tt)
   from_fit zero t e z = stop z (omega arith)
-  from_fit (suc n) t e z = go (from_fit n (t + 1) (omega arith)) (ℕ_discrete (get_or ks t no_kept).kind table_kind)
+  from_fit (suc n) t e z = go (from_fit n (t + 1) (omega arith)) (ℕ_discrete (kind_number (get_or ks t no_kept).kind) table_kind)
     where
-      go : (Sofar ks (t + 1) → TablesChecked ks (Ok tt)) → Dec ((get_or ks t no_kept).kind ≡ table_kind) → TablesChecked ks (Ok tt)
-      go ih (yes k) = ih (turn_table z (omega arith) (get_or ks t no_kept) refl k (refusal_of (table_rows ks t)) refl (sym (fits_none (table_rows ks t) (f.at t (omega arith) k))))
-      go ih (no k) = ih (turn_other z (omega arith) (get_or ks t no_kept) refl k)
+      go : (Sofar ks (t + 1) → TablesChecked ks (Ok tt)) → Dec (kind_number (get_or ks t no_kept).kind ≡ table_kind) → TablesChecked ks (Ok tt)
+      go ih (yes k) = ih (turn_table z (omega arith) k (refusal_of (table_rows ks t)) refl (sym (fits_none (table_rows ks t) (f.at t (omega arith) k))))
+      go ih (no k) = ih (turn_other z (omega arith) k)
 
   pub fit_accepted : TablesChecked ks (Ok tt)
   fit_accepted = from_fit (length ks) 0 (omega arith) (start ks)

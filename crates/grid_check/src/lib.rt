@@ -3,20 +3,21 @@
 
 ghost use Rattle.std.specs.Prelude.{◌≡◌, true, ◌≤◌, ◌<◌, length};
 ghost use Rattle.lists.specs.Limits.{max_entries};
-ghost use Rattle.records.specs.Kept.{kepts_of};
 ghost use Rattle.cells.specs.Listed.{table_rows};
 ghost use Rattle.grid.specs.Judging.{Lined};
 ghost use Rattle.grid_bounds.specs.Sheets.{Nests, SheetBound};
 ghost use Rattle.grid_check.specs.Checking.{refusal_of, TablesChecked};
 
+use kinds::Kind;
 use lists::{Reason, Refusal};
+use records::Kept;
 
 // Which refusal applies to the table at the place `at`: by the bound, which decides nearly every table, and where it does not, by counting.
-pub fn check_table(lines: &[u32], at: usize, ends: &mut [u32]) -> Result<(), Reason>
-    requires at_in_bounds { at < length (kepts_of lines.now) }
-    requires lined { Lined (kepts_of lines.now) }
-    requires lines_in_bounds { length (kepts_of lines.now) ≤ length ends.old }
-    ensures { result ≡ refusal_of (table_rows (kepts_of lines.now) at) }
+pub fn check_table(lines: &[Kept], at: usize, ends: &mut [u32]) -> Result<(), Reason>
+    requires at_in_bounds { at < length lines.now }
+    requires lined { Lined lines.now }
+    requires lines_in_bounds { length lines.now ≤ length ends.old }
+    ensures { result ≡ refusal_of (table_rows lines.now at) }
 {
     if grid_bounds::table_fits(lines, at) {
         return Ok(());
@@ -25,14 +26,14 @@ pub fn check_table(lines: &[u32], at: usize, ends: &mut [u32]) -> Result<(), Rea
 }
 
 // Checks each table of a sheet by itself, in the order of lines.
-fn check_each(lines: &[u32], ends: &mut [u32]) -> Result<(), Refusal>
-    requires lined { Lined (kepts_of lines.now) }
-    requires lines_in_bounds { length (kepts_of lines.now) ≤ length ends.old }
-    ensures { TablesChecked (kepts_of lines.now) result }
+fn check_each(lines: &[Kept], ends: &mut [u32]) -> Result<(), Refusal>
+    requires lined { Lined lines.now }
+    requires lines_in_bounds { length lines.now ≤ length ends.old }
+    ensures { TablesChecked lines.now result }
 {
-    for t in 0..records::count(lines) {
-        let here = records::kept_at(lines, t);
-        let is_table = here.kind == kinds::TABLE;
+    for t in 0..lines.len() {
+        let here = lines[t];
+        let is_table = here.kind == Kind::Table;
         if is_table {
             if let Err(reason) = check_table(lines, t, ends) {
                 return Err(reason.at((t + 1) as u32));
@@ -43,12 +44,12 @@ fn check_each(lines: &[u32], ends: &mut [u32]) -> Result<(), Refusal>
 }
 
 // Checks each table of a sheet, of which it may be known that its cells are within the bound of a whole sheet: a reader that adds them up knows it.
-pub fn check_known(bounded: bool, lines: &[u32], ends: &mut [u32]) -> Result<(), Refusal>
-    requires lined { Lined (kepts_of lines.now) }
-    requires nests { Nests (kepts_of lines.now) }
-    requires lines_in_bounds { length (kepts_of lines.now) ≤ length ends.old }
-    requires sheet_bound { bounded ≡ true → SheetBound max_entries (kepts_of lines.now) }
-    ensures { TablesChecked (kepts_of lines.now) result }
+pub fn check_known(bounded: bool, lines: &[Kept], ends: &mut [u32]) -> Result<(), Refusal>
+    requires lined { Lined lines.now }
+    requires nests { Nests lines.now }
+    requires lines_in_bounds { length lines.now ≤ length ends.old }
+    requires sheet_bound { bounded ≡ true → SheetBound max_entries lines.now }
+    ensures { TablesChecked lines.now result }
 {
     if bounded {
         return Ok(());
@@ -58,11 +59,11 @@ pub fn check_known(bounded: bool, lines: &[u32], ends: &mut [u32]) -> Result<(),
 
 // Checks each table of a sheet, in the order of lines: the first refusal that applies, on the table's line. The bound on all cells of the sheet together
 // decides nearly every sheet in one pass.
-pub fn check_tables(lines: &[u32], ends: &mut [u32]) -> Result<(), Refusal>
-    requires lined { Lined (kepts_of lines.now) }
-    requires nests { Nests (kepts_of lines.now) }
-    requires lines_in_bounds { length (kepts_of lines.now) ≤ length ends.old }
-    ensures { TablesChecked (kepts_of lines.now) result }
+pub fn check_tables(lines: &[Kept], ends: &mut [u32]) -> Result<(), Refusal>
+    requires lined { Lined lines.now }
+    requires nests { Nests lines.now }
+    requires lines_in_bounds { length lines.now ≤ length ends.old }
+    ensures { TablesChecked lines.now result }
 {
     let bounded = grid_bounds::whole::sheet_fits(lines, grid_bounds::MOST_ENTRIES);
     check_known(bounded, lines, ends)

@@ -84,13 +84,16 @@ module _ {ks : List Kept} {d i n most entries₀ : ℕ} {ends₀ ends : List ℕ
             };
       }
 
-  module _ (l : Kept) (p : l ≡ get_or ks j no_kept) (h : d + 1 < l.depth) where
+  abbrev l : Kept
+  l = get_or ks j no_kept
+
+  module _ (h : d + 1 < l.depth) where
     pub body_there : j < length ks
-    body_there = there ks d j l p (omega arith)
+    body_there = there ks d j (omega arith)
 
     pub body_on : (l.depth - (d + 1) ≡ 1 → ⊥) → BodyCounting ks d i n most entries₀ ends₀ ends reach count q (j + 1)
     body_on o =
-        let e = rows_on ks d j l p h o in
+        let e = rows_on ks d j h o in
         record {
           hs = z.hs;
           place = omega (arith, body_there);
@@ -119,14 +122,14 @@ module _ {ks : List Kept} {d i n most entries₀ : ℕ} {ends₀ ends : List ℕ
       X = entries z.hs R
 
       left_is : q + suc (length rs) ≡ n
-      left_is = rw (rows_more ks d j l p h e) at z.rows_left
+      left_is = rw (rows_more ks d j h e) at z.rows_left
 
       pub some_left : q < n
       some_left = omega (arith, left_is)
 
       largest_is : max (row_sum cs) (widest rs) ≤ most
       unfolding widest
-      largest_is = rw (rows_more ks d j l p h e) at z.largest
+      largest_is = rw (rows_more ks d j h e) at z.largest
 
       pub sum_small : s ≤ most
       sum_small = omega (arith, r.is, largest_is)
@@ -135,7 +138,7 @@ module _ {ks : List Kept} {d i n most entries₀ : ℕ} {ends₀ ends : List ℕ
       rows_are =
           let a : most - row_sum cs + 1 ≡ most - s + 1 = omega (arith, r.is) in
           let b : length rs ≡ n - q - 1 = omega (arith, left_is) in
-          ap (rest_of most) (rows_more ks d j l p h e) ∙ rest_row most (j + 1) cs rs ∙ ap₂ (λ (x y : ℕ). row (j + 1) (ready x y cs) ∷ rest_of most rs) a b
+          ap (rest_of most) (rows_more ks d j h e) ∙ rest_row most (j + 1) cs rs ∙ ap₂ (λ (x y : ℕ). row (j + 1) (ready x y cs) ∷ rest_of most rs) a b
 
       pub row_ready : RowReady ks d (most - s + 1) q (n - q - 1) reach count ends
       row_ready = record {

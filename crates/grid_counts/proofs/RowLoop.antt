@@ -77,13 +77,16 @@ module _ {ks : List Kept} {d instead q left i reach₀ entries₀ : ℕ} {ends�
               };
         }
 
-    module _ (l : Kept) (p : l ≡ get_or ks j no_kept) (h : d + 2 < l.depth) where
+    abbrev l : Kept
+    l = get_or ks j no_kept
+
+    module _ (h : d + 2 < l.depth) where
       pub row_there : j < length ks
-      row_there = there ks d j l p (omega arith)
+      row_there = there ks d j (omega arith)
 
       pub row_on : (l.depth - (d + 2) ≡ 1 → ⊥) → Counting ks d instead q left i reach₀ entries₀ ends₀ ends reach entries (j + 1)
       row_on n =
-          let e = cells_on ks d j l p h n in
+          let e = cells_on ks d j h n in
           record {
             place = omega (arith, row_there);
             cols = let w = rw e at z.cols in w;
@@ -97,13 +100,13 @@ module _ {ks : List Kept} {d instead q left i reach₀ entries₀ : ℕ} {ends�
 
       module _ (e : l.depth - (d + 2) ≡ 1) (wide : ℕ) (f : Filled l.cols instead wide) where
         pub wide_small : wide ≤ max_lines * max_cols + 1 + max_cols
-        wide_small = omega (arith, f.small, t.small, t.lines.narrow j, ap (λ (k : Kept). k.cols) p)
+        wide_small = omega (arith, f.small, t.small, t.lines.narrow j)
 
         abbrev c : Cell
         c = cut_cell left (resolve_cell instead (cell (j + 1) l.cols l.rows))
 
         cells_are : ready_from ks d instead left j ≡ c ∷ ready_from ks d instead left (j + 1)
-        cells_are = ap (ready instead left) (cells_more ks d j l p h e)
+        cells_are = ap (ready instead left) (cells_more ks d j h e)
 
         -- past 4,096 already
         pub row_past : max_position < reach + wide → (ends' : List ℕ) → RowCounted (ready_from ks d instead left i) q left reach₀ entries₀ ends₀ ends' (Err RowEnd)

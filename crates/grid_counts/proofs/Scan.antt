@@ -1,5 +1,5 @@
 -- The cells of a row, the rows of a body and the bodies of a table, line by line. Assumes nothing.
-use mathlib.Core.Path.{◌≡◌, sym, ap, ◌∙◌}
+use mathlib.Core.Path.{◌≡◌, ap}
 use mathlib.Core.List.{List, [], ◌∷◌}
 use Prim.Native.Nat.{ℕ, ◌+◌, ◌-◌, ◌≤◌, ◌<◌}
 use native.Mathlib.Decide.{dec_lt, ℕ_discrete}
@@ -46,67 +46,65 @@ module _ (ks : List Kept) (d i : ℕ) where
 
   -- ---- a line
 
-  module _ (l : Kept) (q : l ≡ get_or ks i no_kept) where
-    is : l.depth ≡ depth
-    is = ap (λ (k : Kept). k.depth) q
+  abbrev l : Kept
+  l = get_or ks i no_kept
 
-    pub there : d < l.depth → i < length ks
-    there h = inside ks i d (omega (arith, is))
+  pub there : d < depth → i < length ks
+  there h = inside ks i d h
 
-    pub body_here : d < l.depth → l.depth - d ≡ 1 → framed ks d i ≡ open_body (framed ks d (i + 1))
-    body_here h e = frame_body ks d i (omega (arith, is)) (omega (arith, is))
+  pub body_here : d < depth → depth - d ≡ 1 → framed ks d i ≡ open_body (framed ks d (i + 1))
+  body_here h e = frame_body ks d i (omega arith) (omega arith)
 
-    pub row_here : d + 1 < l.depth → l.depth - (d + 1) ≡ 1 → framed ks d i ≡ open_row (i + 1) (framed ks d (i + 1))
-    row_here h e = frame_row ks d i (omega (arith, is)) (λ o. omega (arith, is, o)) (omega (arith, is))
+  pub row_here : d + 1 < depth → depth - (d + 1) ≡ 1 → framed ks d i ≡ open_row (i + 1) (framed ks d (i + 1))
+  row_here h e = frame_row ks d i (omega arith) (λ o. omega (arith, o)) (omega arith)
 
-    pub cell_here : d + 2 < l.depth → l.depth - (d + 2) ≡ 1 → framed ks d i ≡ open_cell (i + 1) l (framed ks d (i + 1))
-    cell_here h e =
-        frame_cell ks d i (omega (arith, is)) (λ o. omega (arith, is, o)) (λ o. omega (arith, is, o)) (omega (arith, is))
-        ∙ ap (λ (k : Kept). open_cell (i + 1) k (framed ks d (i + 1))) (sym q)
+  pub cell_here : d + 2 < depth → depth - (d + 2) ≡ 1 → framed ks d i ≡ open_cell (i + 1) l (framed ks d (i + 1))
+  cell_here h e =
+      frame_cell ks d i (omega arith) (λ o. omega (arith, o)) (λ o. omega (arith, o)) (omega arith)
 
-    -- a line that is deeper changes nothing of what stands above it
-    pub cells_on : d + 2 < l.depth → (l.depth - (d + 2) ≡ 1 → ⊥) → (framed ks d i).cells ≡ (framed ks d (i + 1)).cells
-    cells_on h n =
-        ap cells_of (frame_deeper ks d i (omega (arith, is)) (λ o. omega (arith, is, o)) (λ o. omega (arith, is, o)) (λ o. n (omega (arith, is, o))))
+  -- a line that is deeper changes nothing of what stands above it
+  pub cells_on : d + 2 < depth → (depth - (d + 2) ≡ 1 → ⊥) → (framed ks d i).cells ≡ (framed ks d (i + 1)).cells
+  cells_on h n =
+      ap cells_of (frame_deeper ks d i (omega arith) (λ o. omega (arith, o)) (λ o. omega (arith, o)) (λ o. n (omega (arith, o))))
 
-    pub rows_on : d + 1 < l.depth → (l.depth - (d + 1) ≡ 1 → ⊥) → (framed ks d i).rows ≡ (framed ks d (i + 1)).rows
-    rows_on h n = go (ℕ_discrete depth (d + 3))
-      where
-        a : d < depth
-        a = omega (arith, is)
+  pub rows_on : d + 1 < depth → (depth - (d + 1) ≡ 1 → ⊥) → (framed ks d i).rows ≡ (framed ks d (i + 1)).rows
+  rows_on h n = go (ℕ_discrete depth (d + 3))
+    where
+      a : d < depth
+      a = omega arith
 
-        b : depth ≡ d + 1 → ⊥
-        b o = omega (arith, is, o)
+      b : depth ≡ d + 1 → ⊥
+      b o = omega (arith, o)
 
-        c : depth ≡ d + 2 → ⊥
-        c o = n (omega (arith, is, o))
+      c : depth ≡ d + 2 → ⊥
+      c o = n (omega (arith, o))
 
-        go : Dec (depth ≡ d + 3) → (framed ks d i).rows ≡ (framed ks d (i + 1)).rows
-        go (yes e) = ap rows_of (frame_cell ks d i a b c e)
-        go (no e) = ap rows_of (frame_deeper ks d i a b c e)
+      go : Dec (depth ≡ d + 3) → (framed ks d i).rows ≡ (framed ks d (i + 1)).rows
+      go (yes e) = ap rows_of (frame_cell ks d i a b c e)
+      go (no e) = ap rows_of (frame_deeper ks d i a b c e)
 
-    pub bodies_on : d < l.depth → (l.depth - d ≡ 1 → ⊥) → (framed ks d i).bodies ≡ (framed ks d (i + 1)).bodies
-    bodies_on h n = go (ℕ_discrete depth (d + 2)) (ℕ_discrete depth (d + 3))
-      where
-        a : d < depth
-        a = omega (arith, is)
+  pub bodies_on : d < depth → (depth - d ≡ 1 → ⊥) → (framed ks d i).bodies ≡ (framed ks d (i + 1)).bodies
+  bodies_on h n = go (ℕ_discrete depth (d + 2)) (ℕ_discrete depth (d + 3))
+    where
+      a : d < depth
+      a = omega arith
 
-        b : depth ≡ d + 1 → ⊥
-        b o = n (omega (arith, is, o))
+      b : depth ≡ d + 1 → ⊥
+      b o = n (omega (arith, o))
 
-        go : Dec (depth ≡ d + 2) → Dec (depth ≡ d + 3) → (framed ks d i).bodies ≡ (framed ks d (i + 1)).bodies
-        go (yes e) f = ap bodies_of (frame_row ks d i a b e)
-        go (no e) (yes f) = ap bodies_of (frame_cell ks d i a b e f)
-        go (no e) (no f) = ap bodies_of (frame_deeper ks d i a b e f)
+      go : Dec (depth ≡ d + 2) → Dec (depth ≡ d + 3) → (framed ks d i).bodies ≡ (framed ks d (i + 1)).bodies
+      go (yes e) f = ap bodies_of (frame_row ks d i a b e)
+      go (no e) (yes f) = ap bodies_of (frame_cell ks d i a b e f)
+      go (no e) (no f) = ap bodies_of (frame_deeper ks d i a b e f)
 
-    pub cells_more : d + 2 < l.depth → l.depth - (d + 2) ≡ 1 → (framed ks d i).cells ≡ cell (i + 1) l.cols l.rows ∷ (framed ks d (i + 1)).cells
-    cells_more h e = ap cells_of (cell_here h e)
+  pub cells_more : d + 2 < depth → depth - (d + 2) ≡ 1 → (framed ks d i).cells ≡ cell (i + 1) l.cols l.rows ∷ (framed ks d (i + 1)).cells
+  cells_more h e = ap cells_of (cell_here h e)
 
-    pub rows_more : d + 1 < l.depth → l.depth - (d + 1) ≡ 1 → (framed ks d i).rows ≡ row (i + 1) (framed ks d (i + 1)).cells ∷ (framed ks d (i + 1)).rows
-    rows_more h e = ap rows_of (row_here h e)
+  pub rows_more : d + 1 < depth → depth - (d + 1) ≡ 1 → (framed ks d i).rows ≡ row (i + 1) (framed ks d (i + 1)).cells ∷ (framed ks d (i + 1)).rows
+  rows_more h e = ap rows_of (row_here h e)
 
-    pub bodies_more : d < l.depth → l.depth - d ≡ 1 → (framed ks d i).bodies ≡ (framed ks d (i + 1)).rows ∷ (framed ks d (i + 1)).bodies
-    bodies_more h e = ap bodies_of (body_here h e)
+  pub bodies_more : d < depth → depth - d ≡ 1 → (framed ks d i).bodies ≡ (framed ks d (i + 1)).rows ∷ (framed ks d (i + 1)).bodies
+  bodies_more h e = ap bodies_of (body_here h e)
 
 -- past the last line there is none
 pub past_lines : (ks : List Kept) (i : ℕ) → length ks ≤ i → (get_or ks i no_kept).depth ≡ 0

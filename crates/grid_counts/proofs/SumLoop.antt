@@ -29,20 +29,23 @@ module _ {ks : List Kept} {d i s j : ℕ} (t : Lines ks d) (z : Summing ks d i s
   unfolding row_sum sum
   sum_stop h = record { is = let e = rw (cells_none ks d j h) at z.whole in omega arith; small = omega (arith, z.small, z.place, t.short) }
 
-  module _ (l : Kept) (q : l ≡ get_or ks j no_kept) (h : d + 2 < l.depth) where
+  abbrev l : Kept
+  l = get_or ks j no_kept
+
+  module _ (h : d + 2 < l.depth) where
     here : j < length ks
-    here = there ks d j l q (omega arith)
+    here = there ks d j (omega arith)
 
     pub sum_more : l.depth - (d + 2) ≡ 1 → (n : ℕ) → n ≡ max l.cols 1 → Summing ks d i (s + n) (j + 1)
     unfolding row_sum sum
     sum_more e n m = record {
       place = omega (arith, here);
-      whole = let w = rw (cells_more ks d j l q h e) at z.whole in omega arith;
-      small = omega (arith, z.small, t.narrow j, ap (λ (k : Kept). k.cols) q);
+      whole = let w = rw (cells_more ks d j h e) at z.whole in omega arith;
+      small = omega (arith, z.small, t.narrow j);
     }
 
     pub sum_on : (l.depth - (d + 2) ≡ 1 → ⊥) → Summing ks d i s (j + 1)
-    sum_on n = record { place = omega (arith, here); whole = let w = rw (cells_on ks d j l q h n) at z.whole in w; small = omega (arith, z.small) }
+    sum_on n = record { place = omega (arith, here); whole = let w = rw (cells_on ks d j h n) at z.whole in w; small = omega (arith, z.small) }
 
 -- ---- a body's rows and their largest sum
 
@@ -78,14 +81,17 @@ module _ {ks : List Kept} {d i : ℕ} {ends₀ ends : List ℕ} {rows most j : �
     clear = z.clear;
   }
 
-  module _ (l : Kept) (q : l ≡ get_or ks j no_kept) (h : d + 1 < l.depth) where
-    pub line_there : j < length ks
-    line_there = there ks d j l q (omega arith)
+  abbrev depth : ℕ
+  depth = (get_or ks j no_kept).depth
 
-    pub survey_more : l.depth - (d + 1) ≡ 1 → (n m : ℕ) → RowSum (framed ks d (j + 1)).cells n → m ≡ max most n → Surveying ks d i ends₀ (set ends rows 0) (rows + 1) m (j + 1)
+  module _ (h : d + 1 < depth) where
+    pub line_there : j < length ks
+    line_there = there ks d j (omega arith)
+
+    pub survey_more : depth - (d + 1) ≡ 1 → (n m : ℕ) → RowSum (framed ks d (j + 1)).cells n → m ≡ max most n → Surveying ks d i ends₀ (set ends rows 0) (rows + 1) m (j + 1)
     unfolding widest
     survey_more e n m r v =
-        let w = rows_more ks d j l q h e in
+        let w = rows_more ks d j h e in
         record {
           place = omega (arith, line_there);
           count = let u = rw w at z.count in omega arith;
@@ -100,9 +106,9 @@ module _ {ks : List Kept} {d i : ℕ} {ends₀ ends : List ℕ} {rows most j : �
         cleared k g (yes e) = ap (λ (x : ℕ). get_or (set ends rows 0) x 0) e ∙ get_or-set_same ends rows 0 0 (omega (arith, z.few, line_there, t.room, z.same))
         cleared k g (no n) = get_or-set_other ends rows k 0 0 n ∙ z.clear k (omega arith)
 
-    pub survey_on : (l.depth - (d + 1) ≡ 1 → ⊥) → Surveying ks d i ends₀ ends rows most (j + 1)
+    pub survey_on : (depth - (d + 1) ≡ 1 → ⊥) → Surveying ks d i ends₀ ends rows most (j + 1)
     survey_on n =
-        let w = rows_on ks d j l q h n in
+        let w = rows_on ks d j h n in
         record {
           place = omega (arith, line_there);
           count = let u = rw w at z.count in u;

@@ -62,13 +62,16 @@ module _ {ks : List Kept} {at count i : ℕ} (z : TableCounting ks at count i) w
       ap (λ (b : Bool). cond b (Err TooManyEntries) (Ok tt)) (capped count (entry_count (all_rows (table_rows ks at))) c)
       ∙ ap (λ (b : Bool). cond b (Err RowEnd) (judged_by (entry_count (all_rows (table_rows ks at))))) p
 
-  module _ (l : Kept) (q : l ≡ get_or ks i no_kept) (h : d < l.depth) where
+  abbrev l : Kept
+  l = get_or ks i no_kept
+
+  module _ (h : d < l.depth) where
     pub table_there : i < length ks
-    table_there = there ks d i l q h
+    table_there = there ks d i h
 
     pub table_on : (l.depth - d ≡ 1 → ⊥) → TableCounting ks at count (i + 1)
     table_on n =
-        let e = bodies_on ks d i l q h n in
+        let e = bodies_on ks d i h n in
         record {
           place = omega (arith, table_there);
           past = let w = rw e at z.past in w;
@@ -84,7 +87,7 @@ module _ {ks : List Kept} {at count i : ℕ} (z : TableCounting ks at count i) w
       bs = (framed ks d (i + 1)).bodies
 
       past_here : (ends_past (all_rows (resolve_body b)) || ends_past (all_rows (resolved bs))) ≡ ends_past (all_rows (table_rows ks at))
-      past_here = sym (past_bodies b bs) ∙ rw (bodies_more ks d i l q h e) at z.past
+      past_here = sym (past_bodies b bs) ∙ rw (bodies_more ks d i h e) at z.past
 
       pub table_past : ends_past (all_rows (resolve_body b)) ≡ true → Err RowEnd ≡ count_of (table_rows ks at)
       unfolding count_of
@@ -96,6 +99,6 @@ module _ {ks : List Kept} {at count i : ℕ} (z : TableCounting ks at count i) w
       table_more n w = record {
         place = omega (arith, table_there);
         past = sym (ap (λ (x : Bool). x || ends_past (all_rows (resolved bs))) w.within) ∙ past_here;
-        entries_are = let v = rw (bodies_more ks d i l q h e) at z.entries_are in omega (arith, w.entries_are, count_bodies b bs);
+        entries_are = let v = rw (bodies_more ks d i h e) at z.entries_are in omega (arith, w.entries_are, count_bodies b bs);
         few = omega (arith, w.entries_are);
       }

@@ -4,12 +4,13 @@
 
 ghost use Rattle.std.specs.Prelude.{◌≡◌, ◌≤◌, ◌<◌, ◌+◌, min, length, get_or, set};
 ghost use Rattle.lists.specs.Limits.{max_lines};
-ghost use Rattle.records.specs.Kept.{no_kept, kepts_of};
+ghost use Rattle.records.specs.Kept.{no_kept};
 ghost use Rattle.cells.specs.Listed.{table_rows};
 ghost use Rattle.grid_counts.specs.Count.{count_of, judged_by};
 ghost use Rattle.grid_counts.specs.inner.Tallies.{framed, many_entries, Lines, RowSum, Surveyed, Filled, Hanging, ready, RowReady, RowCounted, BodyReady, BodyCounted};
 
 use lists::{MAX_ENTRIES, MAX_POSITION, Reason};
+use records::Kept;
 
 // What a row comes to: what ends with it or hangs on, and how many entries there are up to it.
 #[derive(Clone, Copy)]
@@ -52,36 +53,36 @@ fn widen(ends: &mut [u32], at: usize, wide: u32)
 }
 
 // The sum of the cols of the row whose cells stand from place i on, in a table of depth d; 0 counts as 1.
-fn row_sum(lines: &[u32], i: usize, d: u32) -> u32
-    requires lines { Lines (kepts_of lines.now) d }
-    requires i_in_bounds { i ≤ length (kepts_of lines.now) }
-    ensures { RowSum (framed (kepts_of lines.now) d i).cells result }
+fn row_sum(lines: &[Kept], i: usize, d: u8) -> u32
+    requires lines { Lines lines.now d }
+    requires i_in_bounds { i ≤ length lines.now }
+    ensures { RowSum (framed lines.now d i).cells result }
 {
     let row = d + 2;
     let mut sum: u32 = 0;
-    for j in i..records::count(lines) {
-        let line = records::kept_at(lines, j);
+    for j in i..lines.len() {
+        let line = lines[j];
         if line.depth <= row {
             break;
         }
         if line.depth == row + 1 {
-            sum += line.cols.max(1);
+            sum += u32::from(line.cols.max(1));
         }
     }
     sum
 }
 
 // How many rows the body has that stands from place i on, and their largest sum; and a clear place for each of its rows.
-fn survey(lines: &[u32], i: usize, d: u32, ends: &mut [u32]) -> Body
-    requires body_ready { BodyReady (kepts_of lines.now) d 0 ends.old }
-    requires i_in_bounds { i ≤ length (kepts_of lines.now) }
-    ensures { Surveyed (framed (kepts_of lines.now) d i).rows result.rows result.most ends.new }
+fn survey(lines: &[Kept], i: usize, d: u8, ends: &mut [u32]) -> Body
+    requires body_ready { BodyReady lines.now d 0 ends.old }
+    requires i_in_bounds { i ≤ length lines.now }
+    ensures { Surveyed (framed lines.now d i).rows result.rows result.most ends.new }
 {
     let body = d + 1;
     let mut rows = 0;
     let mut most: u32 = 0;
-    for j in i..records::count(lines) {
-        let line = records::kept_at(lines, j);
+    for j in i..lines.len() {
+        let line = lines[j];
         if line.depth <= body {
             break;
         }
@@ -97,9 +98,9 @@ fn survey(lines: &[u32], i: usize, d: u32, ends: &mut [u32]) -> Body
 // Counts the row whose cells stand from place i on: `instead` takes the place of cols 0, the row is row q of its body, and `left` rows follow it; `reach` hang
 // into it, and there are so many entries before it. Refusal 5 at the first cell that ends past 4,096.
 fn count_row(
-    lines: &[u32],
+    lines: &[Kept],
     i: usize,
-    d: u32,
+    d: u8,
     instead: u32,
     q: usize,
     left: u32,
@@ -107,25 +108,27 @@ fn count_row(
     entries: u32,
     ends: &mut [u32],
 ) -> Result<Tally, Reason>
-    requires row_ready { RowReady (kepts_of lines.now) d instead q left reach entries ends.old }
-    requires i_in_bounds { i ≤ length (kepts_of lines.now) }
-    ensures { RowCounted (ready instead left (framed (kepts_of lines.now) d i).cells) q left reach entries ends.old ends.new result }
+    requires row_ready { RowReady lines.now d instead q left reach entries ends.old }
+    requires i_in_bounds { i ≤ length lines.now }
+    ensures { RowCounted (ready instead left (framed lines.now d i).cells) q left reach entries ends.old ends.new result }
 {
     let row = d + 2;
     let mut sum = reach;
     let mut n = entries;
-    for j in i..records::count(lines) {
-        let line = records::kept_at(lines, j);
+    for j in i..lines.len() {
+        let line = lines[j];
         if line.depth <= row {
             break;
         }
         if line.depth == row + 1 {
-            let wide = cells::filled(line.cols, instead);
+            let cols = u32::from(line.cols);
+            let rows = u32::from(line.rows);
+            let wide = cells::filled(cols, instead);
             sum += wide;
             if MAX_POSITION < sum as usize {
                 return Err(Reason::RowEnd);
             }
-            let hangs = hangs_within(line.rows, left);
+            let hangs = hangs_within(rows, left);
             widen(ends, q + hangs as usize, wide);
             n = added(n, hangs);
         }
@@ -139,15 +142,15 @@ fn count_row(
 // Counts the body that stands from place i on, where there are so many entries before it: how many there are up to its end, or refusal 5. Row q is next,
 // and `reach` hang into it.
 fn count_body(
-    lines: &[u32],
+    lines: &[Kept],
     i: usize,
-    d: u32,
+    d: u8,
     entries: u32,
     ends: &mut [u32],
 ) -> Result<u32, Reason>
-    requires body_ready { BodyReady (kepts_of lines.now) d entries ends.old }
-    requires i_in_bounds { i ≤ length (kepts_of lines.now) }
-    ensures { BodyCounted (framed (kepts_of lines.now) d i).rows entries result }
+    requires body_ready { BodyReady lines.now d entries ends.old }
+    requires i_in_bounds { i ≤ length lines.now }
+    ensures { BodyCounted (framed lines.now d i).rows entries result }
 {
     let found = survey(lines, i, d, ends);
     let rows = found.rows;
@@ -156,8 +159,8 @@ fn count_body(
     let mut reach: u32 = 0;
     let mut n = entries;
     let mut q = 0;
-    for j in i..records::count(lines) {
-        let line = records::kept_at(lines, j);
+    for j in i..lines.len() {
+        let line = lines[j];
         if line.depth <= body {
             break;
         }
@@ -184,16 +187,16 @@ fn judged(entries: u32) -> Result<(), Reason>
 }
 
 // Which of the refusals 5 and 6 applies to the table at the place `at`: 5 if a row ends past 4,096, however late, and else 6.
-pub fn count_table(lines: &[u32], at: usize, ends: &mut [u32]) -> Result<(), Reason>
-    requires at_in_bounds { at < length (kepts_of lines.now) }
-    requires body_ready { BodyReady (kepts_of lines.now) (get_or (kepts_of lines.now) at no_kept).depth 0 ends.old }
-    ensures { result ≡ count_of (table_rows (kepts_of lines.now) at) }
+pub fn count_table(lines: &[Kept], at: usize, ends: &mut [u32]) -> Result<(), Reason>
+    requires at_in_bounds { at < length lines.now }
+    requires body_ready { BodyReady lines.now (get_or lines.now at no_kept).depth 0 ends.old }
+    ensures { result ≡ count_of (table_rows lines.now at) }
 {
-    let table = records::kept_at(lines, at);
+    let table = lines[at];
     let d = table.depth;
     let mut n: u32 = 0;
-    for i in at + 1..records::count(lines) {
-        let line = records::kept_at(lines, i);
+    for i in at + 1..lines.len() {
+        let line = lines[i];
         if line.depth <= d {
             break;
         }

@@ -22,7 +22,7 @@ use Rattle.cells.specs.Cells.{Cell, Frame, cell, open_cell}
 use Rattle.cells.proofs.Lines.{frame_stop, frame_body, frame_row, frame_cell, frame_deeper, inside}
 use Rattle.grid.specs.Grid as grid
 use Rattle.gridding.specs.Packed.{entry, shown}
-use Rattle.grid_plain.specs.declared.RowEnd.{RowEnd}
+use Rattle.grid_plain.specs.declared.RowCells.{RowCells}
 use Rattle.std.specs.Prelude.{Some}
 use Rattle.grid_plain.specs.Plain.{Plain, plain_entries}
 use Rattle.grid_plain.specs.inner.Walking.{lines_from, cells_from, RowReady, RowDone, RowWalked}
@@ -82,8 +82,8 @@ pub record RowLoop (ks : List Kept) (d from n : ℕ) (es₀ es : List Entry) (k 
   pub written : take (n + k) es ≡ take n es₀ ++ map shown (plain_entries 0 cells)
   pub same : length es ≡ length es₀
 
-found_plain : {ks : List Kept} {d from n : ℕ} {end : RowEnd} {es₀ es : List Entry} → RowDone ks d from n end es₀ es → RowWalked ks d from n (Some end) es₀ es
-found_plain {ks} {d} {from} {n} {end} {es₀} {es} w = record { done = λ end' e. let q : end ≡ end' = cc in subst (λ (x : RowEnd). RowDone ks d from n x es₀ es) q w }
+found_plain : {ks : List Kept} {d from n : ℕ} {end : RowCells} {es₀ es : List Entry} → RowDone ks d from n end es₀ es → RowWalked ks d from n (Some end) es₀ es
+found_plain {ks} {d} {from} {n} {end} {es₀} {es} w = record { done = λ end' e. let q : end ≡ end' = cc in subst (λ (x : RowCells). RowDone ks d from n x es₀ es) q w }
 
 pub row_start : (ks : List Kept) (d from n : ℕ) (es : List Entry) → from ≤ length ks → RowLoop ks d from n es es 0 from
 unfolding plain_entries All

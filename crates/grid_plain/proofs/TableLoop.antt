@@ -4,7 +4,7 @@ use mathlib.Core.Path.{◌≡◌, refl, sym, ap, ap₂, subst, ◌∙◌}
 use mathlib.Core.Bool.{Bool, true}
 use mathlib.Core.List.{List, [], ◌∷◌, ◌++◌, map, map-append, append_assoc, append-nil}
 use Prim.{tt}
-use Prim.Native.Nat.{ℕ, suc, ◌+◌, ◌/◌, ◌≤◌, ◌<◌, max}
+use Prim.Native.Nat.{ℕ, suc, ◌+◌, ◌≤◌, ◌<◌, max}
 use native.Mathlib.Decide.{dec_lt}
 use native.Mathlib.Numerals.{add-one}
 use native.Mathlib.Omega.{arith}
@@ -12,13 +12,12 @@ use lib.ListN.{length, get_or, set, take, drop, length-append, length-set, lengt
 use lib.Dec.{ltb}
 use lib.Seq.{take-suc-set}
 use borrow.Author.Tests.{ltb-true}
+use Rattle.records.specs.declared.RowEnd.{RowEnd}
 use Rattle.lists.specs.Lists.{All}
 use Rattle.lists.proofs.All.{all_append}
-use Rattle.records.specs.Kept.{no_kept, entries_of, entry_by, rows_of, row_by}
+use Rattle.records.specs.Kept.{no_kept}
 use Rattle.records.specs.declared.Kept.{Kept}
 use Rattle.records.specs.declared.Entry.{Entry}
-use Rattle.records.specs.declared.Row as packed
-use Rattle.records.proofs.Records.{length_of}
 use Rattle.cells.specs.Cells.{Cell, Row, Frame, row, frame, resolved}
 use Rattle.cells.specs.Listed.{all_cells, table_rows}
 use Rattle.cells.proofs.Lines.{frame_stop, frame_body, frame_row, inside}
@@ -29,7 +28,7 @@ use Rattle.grid.specs.Grid as grid
 use Rattle.gridding.specs.declared.Counts.{Counts}
 use Rattle.gridding.specs.Packed.{shown, ended_rows, TableReady, TableMade}
 use Rattle.gridding.specs.Packed as packing
-use Rattle.grid_plain.specs.declared.RowEnd.{RowEnd}
+use Rattle.grid_plain.specs.declared.RowCells.{RowCells}
 use Rattle.std.specs.Prelude.{Some}
 use Rattle.grid_plain.specs.Plain.{PlainRow, PlainTable, plain_entries, plain_row, plain_grid, most_cells}
 use Rattle.grid_plain.specs.inner.Walking.{lines_from, RowReady, RowDone, TableWalked}
@@ -56,7 +55,7 @@ ended_more n (q ∷ g) r =
     let m = n + length q.entries in
     let e : m + length (grid.entries_of g) + length r.entries ≡ n + length (q.entries ++ grid.entries_of g) + length r.entries =
     omega (arith, length-append q.entries (grid.entries_of g)) in
-    ap (λ (l : List packed.Row). packing.row q.line m ∷ l)
+    ap (λ (l : List RowEnd). packing.row q.line m ∷ l)
     (ended_more m g r ∙ ap (λ (x : ℕ). ended_rows m g ++ (packing.row r.line x ∷ [])) e)
 
 most_more : (rs : List Row) (r : Row) → most_cells (rs ++ (r ∷ [])) ≡ max (most_cells rs) (length r.cells)
@@ -100,9 +99,9 @@ step_on ks h k = at (dec_lt (k + 1) (length ks))
     at (no g) = rw (get_or-eq_default ks no_kept {n = k + 1} (omega arith)) (omega arith)
 
 -- a line that the loop's test lets pass is deeper than the table
-pub test_deep : (ks : List Kept) (at i : ℕ) {table : Kept} {b : Bool} → table ≡ get_or ks at no_kept → b ≡ ltb table.depth (get_or ks i no_kept).depth → b ≡ true
+pub test_deep : (ks : List Kept) (at i : ℕ) {d : ℕ} {b : Bool} → d ≡ (get_or ks at no_kept).depth → b ≡ ltb d (get_or ks i no_kept).depth → b ≡ true
     → (get_or ks at no_kept).depth < (get_or ks i no_kept).depth
-test_deep ks at i {table} e is t = omega (arith, ap (λ (k : Kept). k.depth) e, ltb-true table.depth (get_or ks i no_kept).depth (sym is ∙ t))
+test_deep ks at i {d} e is t = omega (arith, e, ltb-true d (get_or ks i no_kept).depth (sym is ∙ t))
 
 -- the bodies of the table at a place, and their rows as they are written
 abbrev bodies_at : List Kept → ℕ → List (List Row)
@@ -114,7 +113,7 @@ table_is ks at = ap (λ (k : ℕ). resolved (frame (get_or ks at no_kept).depth 
 
 -- ---- the loop
 
-pub record TableLoop (ks : List Kept) (at : ℕ) (es₀ es : List Entry) (rs₀ rs : List packed.Row) (n r columns i : ℕ) : Type 0 where
+pub record TableLoop (ks : List Kept) (at : ℕ) (es₀ es : List Entry) (rs₀ rs : List RowEnd) (n r columns i : ℕ) : Type 0 where
   pub rows : List Row
   pub whole : rows ++ still (lines_from ks (get_or ks at no_kept).depth i) ≡ joined (bodies_at ks at)
   pub plain : PlainTable rows
@@ -129,10 +128,10 @@ pub record TableLoop (ks : List Kept) (at : ℕ) (es₀ es : List Entry) (rs₀ 
   pub same_entries : length es ≡ length es₀
   pub same_rows : length rs ≡ length rs₀
 
-found_plain : {table : List Row} {counts : Counts} {es : List Entry} {rs : List packed.Row} → TableMade table counts es rs → TableWalked table (Some counts) es rs
+found_plain : {table : List Row} {counts : Counts} {es : List Entry} {rs : List RowEnd} → TableMade table counts es rs → TableWalked table (Some counts) es rs
 found_plain {table} {counts} {es} {rs} w = record { made = λ counts' e. let q : counts ≡ counts' = cc in subst (λ (x : Counts). TableMade table x es rs) q w }
 
-module _ {ks : List Kept} {at : ℕ} {es₀ : List Entry} {rs₀ : List packed.Row} (t : TableReady ks at es₀ rs₀) where
+module _ {ks : List Kept} {at : ℕ} {es₀ : List Entry} {rs₀ : List RowEnd} (t : TableReady ks at es₀ rs₀) where
   abbrev d : ℕ
   d = (get_or ks at no_kept).depth
 
@@ -165,7 +164,7 @@ module _ {ks : List Kept} {at : ℕ} {es₀ : List Entry} {rs₀ : List packed.R
     same_rows = refl;
   }
 
-  module _ {es : List Entry} {rs : List packed.Row} {n r columns i : ℕ} (z : TableLoop ks at es₀ es rs₀ rs n r columns i) where
+  module _ {es : List Entry} {rs : List RowEnd} {n r columns i : ℕ} (z : TableLoop ks at es₀ es rs₀ rs n r columns i) where
     abbrev here : Kept
     here = get_or ks i no_kept
 
@@ -250,7 +249,7 @@ module _ {ks : List Kept} {at : ℕ} {es₀ : List Entry} {rs₀ : List packed.R
           room = omega (arith, row_few, t.entry_room, z.same_entries);
         }
 
-        pub table_row : (end : RowEnd) (es' : List Entry) → RowDone ks d (i + 1) n end es es' → length es' ≡ length es
+        pub table_row : (end : RowCells) (es' : List Entry) → RowDone ks d (i + 1) n end es es' → length es' ≡ length es
             → TableLoop ks at es₀ es' rs₀ (set rs r (packing.row (i + 1) (n + end.cells))) (n + end.cells) (r + 1) (max columns end.cells) end.next
         unfolding all_cells All
         table_row end es' w s =
@@ -289,29 +288,10 @@ module _ {ks : List Kept} {at : ℕ} {es₀ : List Entry} {rs₀ : List packed.R
               rows_in_fits =
                   ap (λ (x : ℕ). take x (set rs r added)) m
                   ∙ take-suc-set rs r added room
-                  ∙ ap₂ (λ (l : List packed.Row) (x : ℕ). l ++ (packing.row (i + 1) x ∷ [])) z.rows_in_fits k
+                  ∙ ap₂ (λ (l : List RowEnd) (x : ℕ). l ++ (packing.row (i + 1) x ∷ [])) z.rows_in_fits k
                   ∙ sym (ap (ended_rows 0) (grid_more z.rows new) ∙ ended_more 0 g (plain_row new));
               few = omega (arith, z.few, w.after);
               within = w.within;
               same_entries = s ∙ z.same_entries;
               same_rows = length-set rs r added ∙ z.same_rows;
             }
-
--- ---- slices of one length hold as many records
-
-pub same_entries : (a b : List ℕ) → length a ≡ length b → length (entries_of a) ≡ length (entries_of b)
-same_entries a b e = length_of 3 entry_by a ∙ ap (λ (m : ℕ). m / 3) e ∙ sym (length_of 3 entry_by b)
-
-pub same_rows : (a b : List ℕ) → length a ≡ length b → length (rows_of a) ≡ length (rows_of b)
-same_rows a b e = length_of 2 row_by a ∙ ap (λ (m : ℕ). m / 2) e ∙ sym (length_of 2 row_by b)
-
--- so after a table that is not plain there is the same room
-pub still_ready : {ks : List Kept} {at : ℕ} (es es' rs rs' : List ℕ) → TableReady ks at (entries_of es) (rows_of rs) → length es' ≡ length es → length rs' ≡ length rs
-    → TableReady ks at (entries_of es') (rows_of rs')
-still_ready es es' rs rs' t a b = record {
-  within = t.within;
-  lined = t.lined;
-  sound = t.sound;
-  entry_room = omega (arith, t.entry_room, same_entries es' es a);
-  row_room = omega (arith, t.row_room, same_rows rs' rs b);
-}

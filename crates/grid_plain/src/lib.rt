@@ -3,23 +3,22 @@
 #![tactic(auto)]
 
 ghost use Rattle.std.specs.Prelude.{◌≡◌, ◌&&◌, eqb};
-ghost use Rattle.records.specs.Kept.{kepts_of, entries_of, rows_of};
 ghost use Rattle.cells.specs.Listed.{table_rows};
 ghost use Rattle.gridding.specs.Packed.{TableReady, TableMade};
 ghost use Rattle.grid_plain.specs.inner.Walking.{RowReady, RowWalked, TableWalked};
 
 use gridding::Counts;
-use records::{Entry, Row};
+use records::{Entry, Kept, RowEnd};
 
 // Where a row's lines end, and how many cells it has.
 #[derive(Clone, Copy)]
-struct RowEnd {
+struct RowCells {
     next: usize,
     cells: usize,
 }
 
 // Whether a cell takes one column and one row.
-fn is_plain(cols: u32, rows: u32) -> bool
+fn is_plain(cols: u16, rows: u16) -> bool
     ensures { result ≡ (eqb cols 1 && eqb rows 1) }
 {
     cols == 1 && rows == 1
@@ -27,18 +26,19 @@ fn is_plain(cols: u32, rows: u32) -> bool
 
 // The entries of a row of a table of depth d, from entry n on, by the row's lines, which begin at the place `from`: its cells are three deeper than the
 // table, and what is still deeper stands in them. None at the first cell that is not plain.
-fn try_row(lines: &[u32], from: usize, d: u32, n: usize, entries: &mut [u32]) -> Option<RowEnd>
-    requires { RowReady (kepts_of lines.now) d from n (entries_of entries.old) }
-    ensures { RowWalked (kepts_of lines.now) d from n result (entries_of entries.old) (entries_of entries.new) }
+fn try_row(lines: &[Kept], from: usize, d: u32, n: usize, entries: &mut [Entry]) -> Option<RowCells>
+    requires { RowReady lines.now d from n entries.old }
+    ensures { RowWalked lines.now d from n result entries.old entries.new }
 {
-    let count = records::count(lines);
+    let count = lines.len();
     let mut k = 0;
     for i in from..count {
-        let line = records::kept_at(lines, i);
-        if line.depth <= d + 2 {
-            return Some(RowEnd { next: i, cells: k });
+        let line = lines[i];
+        let e = u32::from(line.depth);
+        if e <= d + 2 {
+            return Some(RowCells { next: i, cells: k });
         }
-        if line.depth == d + 3 {
+        if e == d + 3 {
             if !is_plain(line.cols, line.rows) {
                 return None;
             }
@@ -47,39 +47,43 @@ fn try_row(lines: &[u32], from: usize, d: u32, n: usize, entries: &mut [u32]) ->
                 first: k as u32,
                 span: 1,
             };
-            records::put_entry(entries, n + k, entry);
+            entries[n + k] = entry;
             k += 1;
         }
     }
-    Some(RowEnd {
+    Some(RowCells {
         next: count,
         cells: k,
     })
 }
 
 // The grid of the table at the place `at`, if it is plain: of each row its entries and its record. A line that is no row between rows is a body.
-fn try_plain(lines: &[u32], at: usize, entries: &mut [u32], rows: &mut [u32]) -> Option<Counts>
-    requires { TableReady (kepts_of lines.now) at (entries_of entries.old) (rows_of rows.old) }
-    ensures { TableWalked (table_rows (kepts_of lines.now) at) result (entries_of entries.new) (rows_of rows.new) }
+fn try_plain(
+    lines: &[Kept],
+    at: usize,
+    entries: &mut [Entry],
+    rows: &mut [RowEnd],
+) -> Option<Counts>
+    requires { TableReady lines.now at entries.old rows.old }
+    ensures { TableWalked (table_rows lines.now at) result entries.new rows.new }
 {
-    let table = records::kept_at(lines, at);
-    let d = table.depth;
+    let d = u32::from(lines[at].depth);
     let mut n = 0;
     let mut r = 0;
     let mut columns: usize = 0;
     let mut i = at + 1;
     // A while: a turn passes all lines of a row.
     while cells::below(lines, i, d) {
-        let line = records::kept_at(lines, i);
+        let line = lines[i];
         i += 1;
-        if line.depth == d + 2 {
+        if u32::from(line.depth) == d + 2 {
             let end = try_row(lines, i, d, n, entries)?;
             n += end.cells;
-            let row = Row {
+            let row = RowEnd {
                 line: i as u32,
                 end: n as u32,
             };
-            records::put_row(rows, r, row);
+            rows[r] = row;
             r += 1;
             columns = columns.max(end.cells);
             i = end.next;
@@ -94,9 +98,9 @@ fn try_plain(lines: &[u32], at: usize, entries: &mut [u32], rows: &mut [u32]) ->
 
 // The grid of the table at the place `at` of an opened sheet, to which no refusal applies: a record for each entry and for each row, and how many
 // there are. A table that is not plain is made by its edges.
-pub fn make(lines: &[u32], at: usize, entries: &mut [u32], rows: &mut [u32]) -> Counts
-    requires { TableReady (kepts_of lines.now) at (entries_of entries.old) (rows_of rows.old) }
-    ensures { TableMade (table_rows (kepts_of lines.now) at) result (entries_of entries.new) (rows_of rows.new) }
+pub fn make(lines: &[Kept], at: usize, entries: &mut [Entry], rows: &mut [RowEnd]) -> Counts
+    requires { TableReady lines.now at entries.old rows.old }
+    ensures { TableMade (table_rows lines.now at) result entries.new rows.new }
 {
     let Some(counts) = try_plain(lines, at, entries, rows) else {
         return gridding::make_sound(lines, at, entries, rows);

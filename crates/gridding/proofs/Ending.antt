@@ -13,7 +13,7 @@ use Rattle.lists.specs.Limits.{max_depth, max_cols}
 use Rattle.records.specs.Kept.{no_kept}
 use Rattle.records.specs.declared.Kept.{Kept}
 use Rattle.records.specs.declared.Entry.{Entry}
-use Rattle.records.specs.declared.Row.{Row}
+use Rattle.records.specs.declared.RowEnd.{RowEnd}
 use Rattle.cells.specs.Cells as cells
 use Rattle.cells.specs.Cells.{Frame, no_frame, open_body, open_row, open_cell, frame, resolved}
 use Rattle.cells.specs.Listed.{table_rows}
@@ -77,7 +77,7 @@ module _ {ks : List Kept} {at end : ℕ} (e : Ended ks at end) where
   pub held_front : table_rows (take end ks) at ≡ table_rows ks at
   held_front = held_take ks at end e.after e.stops
 
-  pub ready_front : {es : List Entry} {rs : List Row} → TableReady ks at es rs → TableReady (take end ks) at es rs
+  pub ready_front : {es : List Entry} {rs : List RowEnd} → TableReady ks at es rs → TableReady (take end ks) at es rs
   ready_front {es} z =
       let l = length-take-le end ks e.within in
       record {

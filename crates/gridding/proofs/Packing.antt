@@ -1,15 +1,13 @@
 -- The figures of a grid's rows as records. Assumes nothing.
 use mathlib.Core.Path.{◌≡◌, refl, sym, ap, ◌∙◌}
 use mathlib.Core.List.{List, [], ◌∷◌, map}
-use Prim.Native.Nat.{ℕ, ◌+◌, ◌/◌, ◌≤◌, ◌<◌}
+use Prim.Native.Nat.{ℕ, ◌+◌, ◌≤◌, ◌<◌}
 use native.Mathlib.Omega.{arith}
 use lib.ListN.{length, get_or, take, length-map, get_or-map}
 use lib.Seq.{get_or-take, length-take-le, ext_get_or}
-use Rattle.records.specs.Kept.{row_by, no_row, rows_of}
-use Rattle.records.specs.declared.Row.{Row}
-use Rattle.records.proofs.Records.{length_of}
+use Rattle.records.specs.Kept.{no_row}
+use Rattle.records.specs.declared.RowEnd.{RowEnd}
 use Rattle.cells.specs.Held.{row_line, row_end, row_lines_of, row_ends_of}
-use Rattle.cells.proofs.Figures.{figure_at_lem}
 use Rattle.grid.specs.Grid.{GridRow, row_ends}
 use Rattle.grid.specs.inner.Placing.{grid_line}
 use Rattle.gridding.specs.Packed.{row, ended_rows}
@@ -23,10 +21,10 @@ front_is d xs ys h e =
     ext_get_or d (take (length ys) xs) ys (length-take-le (length ys) xs h)
     (λ k l. let b : k < length ys = omega (arith, length-take-le (length ys) xs h) in get_or-take (length ys) xs k d b ∙ e k b)
 
-abbrev line_of : Row → ℕ
+abbrev line_of : RowEnd → ℕ
 line_of r = r.line
 
-abbrev end_of : Row → ℕ
+abbrev end_of : RowEnd → ℕ
 end_of r = r.end
 
 ended_lines : (n : ℕ) (g : List GridRow) → map line_of (ended_rows n g) ≡ map grid_line g
@@ -42,15 +40,14 @@ ended_ends n (r ∷ rs) = ap (λ (l : List ℕ). (n + length r.entries) ∷ l) (
 ended_length : (g : List GridRow) → length (ended_rows 0 g) ≡ length g
 ended_length g = sym (length-map (ended_rows 0 g) line_of) ∙ ap length (ended_lines 0 g) ∙ length-map g grid_line
 
-pub rows_are : (g : List GridRow) (rows : List ℕ) → take (length g) (row_lines_of rows) ≡ map grid_line g → take (length g) (row_ends_of rows) ≡ row_ends 0 g
-    → length g ≤ length (rows_of rows) → take (length g) (rows_of rows) ≡ ended_rows 0 g
+pub rows_are : (g : List GridRow) (rows : List RowEnd) → take (length g) (row_lines_of rows) ≡ map grid_line g → take (length g) (row_ends_of rows) ≡ row_ends 0 g
+    → length g ≤ length rows → take (length g) rows ≡ ended_rows 0 g
 rows_are g rows a b h =
     let n = ended_length g in
     let gs = ended_rows 0 g in
-    ap (λ (k : ℕ). take k (rows_of rows)) (sym n)
-    ∙ front_is no_row (rows_of rows) gs (omega arith)
+    ap (λ (k : ℕ). take k rows) (sym n)
+    ∙ front_is no_row rows gs (omega arith)
     (λ k l.
     let i : k < length g = omega arith in
-    let m : k < length rows / 2 = omega (arith, length_of 2 row_by rows) in
-    (λ j. row ((sym (figure_at_lem 2 row_by row_line rows k m) ∙ stands_at (length g) (row_lines_of rows) (map line_of gs) (a ∙ sym (ended_lines 0 g)) k i ∙ get_or-map line_of gs k no_row) j)
-    ((sym (figure_at_lem 2 row_by row_end rows k m) ∙ stands_at (length g) (row_ends_of rows) (map end_of gs) (b ∙ sym (ended_ends 0 g)) k i ∙ get_or-map end_of gs k no_row) j)))
+    (λ j. row ((sym (get_or-map row_line rows k no_row) ∙ stands_at (length g) (row_lines_of rows) (map line_of gs) (a ∙ sym (ended_lines 0 g)) k i ∙ get_or-map line_of gs k no_row) j)
+    ((sym (get_or-map row_end rows k no_row) ∙ stands_at (length g) (row_ends_of rows) (map end_of gs) (b ∙ sym (ended_ends 0 g)) k i ∙ get_or-map end_of gs k no_row) j)))

@@ -2,7 +2,7 @@
 use Rattle.std.specs.Prelude.{◌≡◌, List, [], ◌∷◌, map, ℕ, ◌+◌, ◌≤◌, ◌<◌, length, take}
 use Rattle.records.specs.declared.Kept.{Kept}
 use Rattle.records.specs.declared.Entry.{Entry}
-use Rattle.records.specs.declared.Row.{Row}
+use Rattle.records.specs.declared.RowEnd.{RowEnd}
 use Rattle.cells.specs.Cells as cells
 use Rattle.cells.specs.Listed.{table_rows}
 use Rattle.positions.specs.Positions.{entry_count, all_rows}
@@ -17,16 +17,16 @@ pub use Rattle.grid.specs.Judging.{shown}
 abbrev pub entry : ℕ → ℕ → ℕ → Entry
 entry cell first span = record { cell = cell; first = first; span = span }
 
-abbrev pub row : ℕ → ℕ → Row
+abbrev pub row : ℕ → ℕ → RowEnd
 row line end = record { line = line; end = end }
 
 -- for each row its line, and the number of entries up to and including it; n stand before
-unfoldable pub ended_rows : ℕ → List GridRow → List Row
+unfoldable pub ended_rows : ℕ → List GridRow → List RowEnd
 ended_rows n [] = []
 ended_rows n (r ∷ rs) = row r.line (n + length r.entries) ∷ ended_rows (n + length r.entries) rs
 
 -- a table of an opened sheet, and records for its entries and rows
-pub record TableReady (ks : List Kept) (at : ℕ) (es : List Entry) (rs : List Row) : Type 0 where
+pub record TableReady (ks : List Kept) (at : ℕ) (es : List Entry) (rs : List RowEnd) : Type 0 where
   pub within : at < length ks
   pub lined : Lined ks
   pub sound : Sound (table_rows ks at)
@@ -34,7 +34,7 @@ pub record TableReady (ks : List Kept) (at : ℕ) (es : List Entry) (rs : List R
   pub row_room : length ks ≤ length rs
 
 -- the grid stands in the first records
-pub record TableMade (table : List cells.Row) (counts : Counts) (es : List Entry) (rs : List Row) : Type 0 where
+pub record TableMade (table : List cells.Row) (counts : Counts) (es : List Entry) (rs : List RowEnd) : Type 0 where
   pub rows_are : counts.rows ≡ length (grid_of table)
   pub entries_are : counts.entries ≡ length (grid.entries_of (grid_of table))
   pub columns_are : counts.columns ≡ columns_of table

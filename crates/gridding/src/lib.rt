@@ -4,12 +4,12 @@
 
 ghost use Rattle.std.specs.Prelude.{◌-◌, ◌*◌, ◌≤◌, ◌<◌, length};
 ghost use Rattle.lists.specs.Limits.{max_lines};
-ghost use Rattle.records.specs.Kept.{kepts_of, entries_of, rows_of};
 ghost use Rattle.cells.specs.Listed.{table_rows};
 ghost use Rattle.gridding.specs.Packed.{TableReady, TableMade};
 ghost use Rattle.gridding.specs.inner.Making.{Ended, Roomy};
 
 use lists::MAX_LINES;
+use records::{Entry, Kept, RowEnd};
 
 // Lines of a table for which short arrays do, and the numbers of a record for each of them. The sizes are for speed alone.
 const FEW_LINES: usize = 16;
@@ -31,16 +31,15 @@ pub struct Counts {
 }
 
 // Where the lines of the table at the place `at` end: at the first that is no deeper than the table.
-fn end_of(lines: &[u32], at: usize) -> usize
-    requires at_in_bounds { at < length (kepts_of lines.now) }
-    requires lines_len_bound { length (kepts_of lines.now) ≤ max_lines }
-    ensures { Ended (kepts_of lines.now) at result }
+fn end_of(lines: &[Kept], at: usize) -> usize
+    requires at_in_bounds { at < length lines.now }
+    requires lines_len_bound { length lines.now ≤ max_lines }
+    ensures { Ended lines.now at result }
 {
-    let table = records::kept_at(lines, at);
-    let d = table.depth;
-    let count = records::count(lines);
+    let d = lines[at].depth;
+    let count = lines.len();
     for end in at + 1..count {
-        if records::kept_at(lines, end).depth <= d {
+        if lines[end].depth <= d {
             return end;
         }
     }
@@ -49,17 +48,17 @@ fn end_of(lines: &[u32], at: usize) -> usize
 
 // The grid of a table in room that does for it: for its cells, for what hangs into a row, and for what hangs into the next.
 fn make_in(
-    lines: &[u32],
+    lines: &[Kept],
     at: usize,
     cells: &mut [u32],
     overhang: &mut [u32],
     next: &mut [u32],
-    entries: &mut [u32],
-    rows: &mut [u32],
+    entries: &mut [Entry],
+    rows: &mut [RowEnd],
 ) -> Counts
-    requires table_ready { TableReady (kepts_of lines.now) at (entries_of entries.old) (rows_of rows.old) }
-    requires roomy { Roomy (length (kepts_of lines.now) - at) cells.old overhang.old next.old }
-    ensures { TableMade (table_rows (kepts_of lines.now) at) result (entries_of entries.new) (rows_of rows.new) }
+    requires table_ready { TableReady lines.now at entries.old rows.old }
+    requires roomy { Roomy (length lines.now - at) cells.old overhang.old next.old }
+    ensures { TableMade (table_rows lines.now at) result entries.new rows.new }
 {
     let placed = grid::place_table(lines, at, cells, overhang, next, entries, rows);
     let columns = grid::placed_grid(placed, rows, entries);
@@ -74,15 +73,15 @@ fn make_in(
 // for the room of a large one.
 #[inline(never)]
 fn make_sized<const N: usize>(
-    lines: &[u32],
+    lines: &[Kept],
     at: usize,
-    entries: &mut [u32],
-    rows: &mut [u32],
+    entries: &mut [Entry],
+    rows: &mut [RowEnd],
 ) -> Counts
-    requires table_ready { TableReady (kepts_of lines.now) at (entries_of entries.old) (rows_of rows.old) }
-    requires roomy { 3 * (length (kepts_of lines.now) - at) ≤ N }
+    requires table_ready { TableReady lines.now at entries.old rows.old }
+    requires roomy { 3 * (length lines.now - at) ≤ N }
     requires small { N ≤ 3 * max_lines }
-    ensures { TableMade (table_rows (kepts_of lines.now) at) result (entries_of entries.new) (rows_of rows.new) }
+    ensures { TableMade (table_rows lines.now at) result entries.new rows.new }
 {
     let mut cells = [0u32; N];
     let mut overhang = [0u32; N];
@@ -99,11 +98,11 @@ fn make_sized<const N: usize>(
 }
 
 // The grid of a table with which the lines end: in the shortest arrays that do for its lines.
-fn make_within(lines: &[u32], at: usize, entries: &mut [u32], rows: &mut [u32]) -> Counts
-    requires { TableReady (kepts_of lines.now) at (entries_of entries.old) (rows_of rows.old) }
-    ensures { TableMade (table_rows (kepts_of lines.now) at) result (entries_of entries.new) (rows_of rows.new) }
+fn make_within(lines: &[Kept], at: usize, entries: &mut [Entry], rows: &mut [RowEnd]) -> Counts
+    requires { TableReady lines.now at entries.old rows.old }
+    ensures { TableMade (table_rows lines.now at) result entries.new rows.new }
 {
-    let n = records::count(lines) - at;
+    let n = lines.len() - at;
     if n <= FEW_LINES {
         make_sized::<FEW>(lines, at, entries, rows)
     } else if n <= SOME_LINES {
@@ -115,10 +114,10 @@ fn make_within(lines: &[u32], at: usize, entries: &mut [u32], rows: &mut [u32]) 
 
 // The grid of the table at the place `at` of an opened sheet, to which no refusal applies: a record for each entry and for each row, and how many
 // there are.
-pub fn make_sound(lines: &[u32], at: usize, entries: &mut [u32], rows: &mut [u32]) -> Counts
-    requires { TableReady (kepts_of lines.now) at (entries_of entries.old) (rows_of rows.old) }
-    ensures { TableMade (table_rows (kepts_of lines.now) at) result (entries_of entries.new) (rows_of rows.new) }
+pub fn make_sound(lines: &[Kept], at: usize, entries: &mut [Entry], rows: &mut [RowEnd]) -> Counts
+    requires { TableReady lines.now at entries.old rows.old }
+    ensures { TableMade (table_rows lines.now at) result entries.new rows.new }
 {
-    let end = records::WIDTH * end_of(lines, at);
+    let end = end_of(lines, at);
     make_within(&lines[..end], at, entries, rows)
 }

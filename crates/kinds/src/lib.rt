@@ -1,54 +1,60 @@
-// The kinds of lines, by their places in the format's list.
+// The kinds of lines, in the order of the format's list.
 #![tactic(auto)]
 
 ghost use Rattle.std.specs.Prelude.{◌≡◌};
-ghost use Rattle.kinds.specs.Kinds.{has_text, is_leaf};
+ghost use Rattle.kinds.specs.Kinds.{kind_number, has_text, is_leaf, is_frame};
 
-pub const TEXT: u32 = 0;
-
-pub const IMG: u32 = 1;
-
-pub const SVG: u32 = 2;
-
-pub const LINK: u32 = 4;
-
-pub const HEAD: u32 = 10;
-
-pub const QUOTE: u32 = 12;
-
-pub const UL: u32 = 13;
-
-pub const OL: u32 = 14;
-
-pub const DD: u32 = 17;
-
-pub const BREAK: u32 = 18;
-
-pub const TABLE: u32 = 19;
-
-pub const BODY: u32 = 20;
-
-pub const ROW: u32 = 21;
-
-pub const CELL: u32 = 22;
-
-pub const FRAG: u32 = 23;
-
-pub const CALC: u32 = 26;
-
-// The number of kinds: what a name that is none of theirs gives.
-pub const KINDS: u32 = 27;
-
-// Text, img, svg and calc have a text.
-pub fn has_text(kind: u32) -> bool
-    ensures { result ≡ has_text kind }
-{
-    kind <= SVG || kind == CALC
+// What a line of a sheet is of.
+#[derive(Clone, Copy, Debug, PartialEq, Eq)]
+pub enum Kind {
+    Text,
+    Img,
+    Svg,
+    Container,
+    Link,
+    Em,
+    Strong,
+    Strike,
+    Code,
+    Block,
+    Head,
+    Div,
+    Quote,
+    Ul,
+    Ol,
+    Dl,
+    Dt,
+    Dd,
+    Break,
+    Table,
+    Body,
+    Row,
+    Cell,
+    Frag,
+    Item,
+    Sup,
+    Calc,
 }
 
-// Those, break and frag have no children.
-pub fn is_leaf(kind: u32) -> bool
-    ensures { result ≡ is_leaf kind }
-{
-    has_text(kind) || kind == BREAK || kind == FRAG
+impl Kind {
+    // Text, img, svg and calc have a text.
+    pub fn has_text(self) -> bool
+        ensures { result ≡ has_text (kind_number self) }
+    {
+        matches!(self, Kind::Text | Kind::Img | Kind::Svg | Kind::Calc)
+    }
+
+    // Those, break and frag have no children.
+    pub fn is_leaf(self) -> bool
+        ensures { result ≡ is_leaf (kind_number self) }
+    {
+        self.has_text() || matches!(self, Kind::Break | Kind::Frag)
+    }
+
+    // Body, row and cell stand only in a table's frame.
+    pub fn is_frame(self) -> bool
+        ensures { result ≡ is_frame (kind_number self) }
+    {
+        matches!(self, Kind::Body | Kind::Row | Kind::Cell)
+    }
 }

@@ -1,11 +1,11 @@
 -- The field n of each kind: the kind says which numbers. Assumes nothing.
 use mathlib.Core.Path.{◌≡◌, refl, ap}
-use mathlib.Core.Bool.{Bool, not, ◌&&◌, and-true}
+use mathlib.Core.Bool.{Bool, true, false, not, ◌&&◌, and-true}
 use mathlib.Core.List.{List}
 use Prim.Native.Nat.{ℕ, zero, suc}
 use native.Mathlib.Omega.{arith}
-use lib.Dec.{leb, leb-zero}
-use borrow.Author.Tests.{ne_eqb, le-leb, lt-leb}
+use lib.Dec.{eqb, leb, leb-zero}
+use borrow.Author.Tests.{le-leb, lt-leb}
 use Rattle.text.specs.Decimal.{Number, plain, minus, shift, shifted}
 use Rattle.kinds.specs.Kinds.{head_kind, ol_kind}
 use Rattle.fields.specs.Numbers.{within}
@@ -22,7 +22,7 @@ above_zero zero = refl
 above_zero (suc v) = rw (lt-leb (suc v) 0 (omega arith), le-leb 1 (suc v) (omega arith))
 
 module _ (kind at : ℕ) (s : List ℕ) where
-  pub n_head : kind ≡ head_kind → number_read (n_fits kind) shifted at s ≡ number_read (from_to 1 6) shifted at s
+  pub n_head : eqb kind head_kind ≡ true → number_read (n_fits kind) shifted at s ≡ number_read (from_to 1 6) shifted at s
   unfolding n_fits
   n_head e = number_same (n_fits kind) (from_to 1 6) same at s
     where
@@ -30,14 +30,14 @@ module _ (kind at : ℕ) (s : List ℕ) where
       same (plain v) = rw e (ap (λ (t : Bool). leb v 6 && t) (above_zero v))
       same (minus v) = rw e
 
-  pub n_ol : kind ≡ ol_kind → number_read (n_fits kind) shifted at s ≡ number_read (within shift) shifted at s
+  pub n_ol : eqb kind head_kind ≡ false → eqb kind ol_kind ≡ true → number_read (n_fits kind) shifted at s ≡ number_read (within shift) shifted at s
   unfolding n_fits
-  n_ol e = number_same (n_fits kind) (within shift) (λ n. rw e) at s
+  n_ol h e = number_same (n_fits kind) (within shift) (λ n. rw (h, e)) at s
 
-  pub n_else : (kind ≡ head_kind → ⊥) → (kind ≡ ol_kind → ⊥) → number_read (n_fits kind) shifted at s ≡ number_read (from_to 0 0) shifted at s
+  pub n_else : eqb kind head_kind ≡ false → eqb kind ol_kind ≡ false → number_read (n_fits kind) shifted at s ≡ number_read (from_to 0 0) shifted at s
   unfolding n_fits
   n_else h o = number_same (n_fits kind) (from_to 0 0) same at s
     where
       same : (n : Number) → n_fits kind n ≡ from_to 0 0 n
-      same (plain v) = rw (ne_eqb kind head_kind h, ne_eqb kind ol_kind o, leb-zero v, and-true)
-      same (minus v) = rw (ne_eqb kind head_kind h, ne_eqb kind ol_kind o)
+      same (plain v) = rw (h, o, leb-zero v, and-true)
+      same (minus v) = rw (h, o)

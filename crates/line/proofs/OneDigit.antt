@@ -14,11 +14,12 @@ use Rattle.lists.specs.Limits.{max_depth, max_cols, max_rows}
 use Rattle.text.specs.Decimal.{Number, plain, shift, shifted}
 use Rattle.text.specs.Text.{text_size, with_img, begins, trim_start, trim_end, widths, runs}
 use Rattle.text.specs.Fronts.{front_of}
-use Rattle.kinds.specs.Kinds.{has_text, img_kind, calc_kind}
+use Rattle.kinds.specs.declared.Kind.{Kind}
+use Rattle.kinds.specs.Kinds.{kind_number, has_text, img_kind, calc_kind}
 use Rattle.fields.specs.Lines.{feed}
 use Rattle.fields.specs.Numbers.{up_to, magnitude, is_natural, value_from, natural_of, number_of}
 use Rattle.fields.specs.Blanks.{until_blank, blank}
-use Rattle.fields.specs.Reading.{sound, number_read, kind_read}
+use Rattle.fields.specs.Reading.{sound, sound_kind, number_read, kind_read}
 use Rattle.line.specs.Fields.{n_fits}
 use Rattle.line.specs.Reading.{span_limit, rest_read, fields_read}
 use Rattle.line.specs.LineAt.{line_at}
@@ -47,12 +48,12 @@ past : (s : List ℕ) (at k : ℕ) (t : List ℕ) → drop at s ≡ t → drop (
 past s at k t e = sym (drop-drop k at s) ∙ ap (drop k) e
 
 -- the kind has this name
-abbrev pub Name : List ℕ → ℕ → Type 0
-Name name kind = (at : ℕ) (t : List ℕ) → kind_read at (name ++ (blank ∷ t)) ≡ sound kind (at + length name + 1)
+abbrev pub Name : List ℕ → Kind → Type 0
+Name name kind = (at : ℕ) (t : List ℕ) → kind_read at (name ++ (blank ∷ t)) ≡ sound_kind kind (at + length name + 1)
 
-module _ (s : List ℕ) (at depth kind cols rows : ℕ) (name rest : List ℕ) (deep : depth ≤ 9) (narrow : cols ≤ 9) (low : rows ≤ 9)
-    (named : Name name kind) (numbered : n_fits kind (plain 0) ≡ true) (wide : up_to (span_limit kind max_cols) (plain cols) ≡ true)
-    (high : up_to (span_limit kind max_rows) (plain rows) ≡ true)
+module _ (s : List ℕ) (at depth : ℕ) (kind : Kind) (cols rows : ℕ) (name rest : List ℕ) (deep : depth ≤ 9) (narrow : cols ≤ 9) (low : rows ≤ 9)
+    (named : Name name kind) (numbered : n_fits (kind_number kind) (plain 0) ≡ true) (wide : up_to (span_limit (kind_number kind) max_cols) (plain cols) ≡ true)
+    (high : up_to (span_limit (kind_number kind) max_rows) (plain rows) ≡ true)
     (stands : drop at s ≡ (48 + depth) ∷ blank ∷ (name ++ (blank ∷ 48 ∷ blank ∷ (48 + cols) ∷ blank ∷ (48 + rows) ∷ blank ∷ rest))) where
   -- the place of n
   abbrev n_place : ℕ
@@ -76,10 +77,10 @@ module _ (s : List ℕ) (at depth kind cols rows : ℕ) (name rest : List ℕ) (
         digit_read (up_to max_depth) magnitude at s _ depth deep stands (le-leb depth max_depth (omega arith)),
         at_kind,
         named (at + 2) _,
-        digit_read (n_fits kind) shifted n_place s _ 0 (omega arith) at_n numbered,
-        digit_read (up_to (span_limit kind max_cols)) magnitude (n_place + 2) s _ cols narrow (past s n_place 2 _ at_n) wide,
+        digit_read (n_fits (kind_number kind)) shifted n_place s _ 0 (omega arith) at_n numbered,
+        digit_read (up_to (span_limit (kind_number kind) max_cols)) magnitude (n_place + 2) s _ cols narrow (past s n_place 2 _ at_n) wide,
         two,
-        digit_read (up_to (span_limit kind max_rows)) magnitude (n_place + 4) s _ rows low (past s n_place 4 _ at_n) high,
+        digit_read (up_to (span_limit (kind_number kind) max_rows)) magnitude (n_place + 4) s _ rows low (past s n_place 4 _ at_n) high,
         four,
       )
 
@@ -91,15 +92,15 @@ module _ (s : List ℕ) (at depth kind cols rows : ℕ) (name rest : List ℕ) (
   text_at = past s n_place 6 _ at_n
 
   pub line_is : (stop size : ℕ) → stop ≡ from + length (front_of feed (drop from s)) → stop < length s → get_or s stop 0 ≡ feed
-      → (eqb (stop - from) 0 || has_text kind) ≡ true → eqb kind calc_kind ≡ false → size ≡ text_size (front_of feed (drop from s))
+      → (eqb (stop - from) 0 || has_text (kind_number kind)) ≡ true → eqb (kind_number kind) calc_kind ≡ false → size ≡ text_size (front_of feed (drop from s))
       → line_at s at
-      ≡ Ok (record { depth = depth; kind = kind; number = shift; cols = cols; rows = rows; own = with_img (eqb kind img_kind) size; from = from; to = stop; next = stop + 1 })
+      ≡ Ok (record { depth = depth; kind = kind; number = shift; cols = cols; rows = rows; own = with_img (eqb (kind_number kind) img_kind) size; from = from; to = stop; next = stop + 1 })
   line_is stop size end inside fed may other sized = front_good s at _ (reads s at _ fields_are) stop end inside fed may other size sized
 
   -- the line feed stands where the text would start
-  pub bare_is : (more : List ℕ) → rest ≡ feed ∷ more → eqb kind calc_kind ≡ false
+  pub bare_is : (more : List ℕ) → rest ≡ feed ∷ more → eqb (kind_number kind) calc_kind ≡ false
       → line_at s at
-      ≡ Ok (record { depth = depth; kind = kind; number = shift; cols = cols; rows = rows; own = with_img (eqb kind img_kind) 0; from = from; to = from; next = from + 1 })
+      ≡ Ok (record { depth = depth; kind = kind; number = shift; cols = cols; rows = rows; own = with_img (eqb (kind_number kind) img_kind) 0; from = from; to = from; next = from + 1 })
   unfolding front_of text_size begins trim_start trim_end widths runs
   bare_is more e other =
       let here : drop from s ≡ feed ∷ more = text_at ∙ e in

@@ -1,20 +1,22 @@
 // The numbers that a line of a kind may have: its n and its spans.
 ghost use Rattle.std.specs.Prelude.{◌≡◌, drop};
+ghost use Rattle.kinds.specs.Kinds.{kind_number};
 ghost use Rattle.text.specs.Decimal.{shifted};
 ghost use Rattle.fields.specs.Reading.{number_read};
 ghost use Rattle.line.specs.Fields.{n_fits};
 ghost use Rattle.line.specs.Reading.{span_limit};
 
 use fields::{Field, numbers};
+use kinds::Kind;
 
 // The field n of a line of the kind: a heading's rank, a list's first number, or 0.
-pub fn n_at(bytes: &[u8], at: usize, kind: u32) -> Option<Field>
-    ensures { result ≡ number_read (n_fits kind) shifted at (drop at bytes.now) }
+pub fn n_at(bytes: &[u8], at: usize, kind: Kind) -> Option<Field>
+    ensures { result ≡ number_read (n_fits (kind_number kind)) shifted at (drop at bytes.now) }
 {
-    if kind == kinds::HEAD {
+    if kind == Kind::Head {
         return numbers::shifted_at(bytes, at, 1, 6);
     }
-    if kind == kinds::OL {
+    if kind == Kind::Ol {
         return numbers::signed_at(bytes, at);
     }
     numbers::shifted_at(bytes, at, 0, 0)
@@ -22,8 +24,8 @@ pub fn n_at(bytes: &[u8], at: usize, kind: u32) -> Option<Field>
 
 // Cells alone have spans: the largest that a line of the kind may have, where a cell may have `most`.
 #[tactic(auto, unfolding(crate::specs::Reading::span_limit))]
-pub fn span_limit(kind: u32, most: u32) -> u32
-    ensures { result ≡ span_limit kind most }
+pub fn span_limit(kind: Kind, most: u32) -> u32
+    ensures { result ≡ span_limit (kind_number kind) most }
 {
-    if kind == kinds::CELL { most } else { 0 }
+    if kind == Kind::Cell { most } else { 0 }
 }

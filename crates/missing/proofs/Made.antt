@@ -6,16 +6,15 @@ use Rattle.lists.specs.declared.Refusal.{Refusal}
 use Rattle.std.specs.Prelude.{Result, Ok}
 use mathlib.Core.Path.{◌≡◌, refl, sym, ap, ◌∙◌}
 use mathlib.Core.List.{List, map}
-use Prim.Native.Nat.{ℕ, ◌-◌, ◌/◌, ◌≤◌}
+use Prim.Native.Nat.{ℕ, ◌-◌, ◌≤◌}
 use native.Mathlib.Omega.{arith}
 use lib.ListN.{length, take}
 use lib.Seq.{length-take-le}
 use Rattle.lists.specs.Limits.{max_size, max_entries, max_lines, max_position}
 use Rattle.text.specs.declared.Estimate.{Estimate}
-use Rattle.records.specs.Kept.{entries_of, rows_of}
 use Rattle.records.specs.declared.Kept.{Kept}
 use Rattle.records.specs.declared.Entry.{Entry}
-use Rattle.records.specs.declared.Row.{Row}
+use Rattle.records.specs.declared.RowEnd.{RowEnd}
 use Rattle.columns.specs.Boxes.{Box, flat, TilesAll}
 use Rattle.columns.specs.Columns.{size_of, least_of, largest}
 use Rattle.cells.specs.Listed.{table_rows}
@@ -64,17 +63,11 @@ module _ (es : List Entry) (figures : List Estimate) (rows : List (List Box)) (e
 
 -- ---- the table in a line
 
-module _ {ks : List Kept} {line : ℕ} (a : Asked ks line) {figures : List Estimate} (m : TableMeasured ks (line - 1) figures) (entries rows : List ℕ) {counts : Counts}
-    (w : TableMade (table_rows ks (line - 1)) counts (entries_of entries) (rows_of rows)) (he : max_entries ≤ length entries / 3) (hr : max_lines ≤ length rows / 2)
+module _ {ks : List Kept} {line : ℕ} (a : Asked ks line) {figures : List Estimate} (m : TableMeasured ks (line - 1) figures) (es : List Entry) (rs : List RowEnd) {counts : Counts}
+    (w : TableMade (table_rows ks (line - 1)) counts es rs) (he : max_entries ≤ length es) (hr : max_lines ≤ length rs)
     {width : ℕ} (small : width ≤ max_size) {entry₀ cause₀ : List ℕ} (room : ExplainRoom entry₀ cause₀) where
-  abbrev es : List Entry
-  es = entries_of entries
-
-  abbrev rs : List Row
-  rs = rows_of rows
-
   ready : TableReady ks (line - 1) es rs
-  ready = table_ready a (any_most a) entries rows he hr
+  ready = table_ready a (any_most a) es rs he hr
 
   layable : FrontLayable counts.rows counts.entries counts.columns es rs figures width cause₀ entry₀ entry₀
   layable =

@@ -1,5 +1,5 @@
 // The missing entries and the causes of the table in a line of a sheet, written to the lent buffers.
-ghost use Rattle.std.specs.Prelude.{true, ◌/◌, ◌≤◌, length, Some};
+ghost use Rattle.std.specs.Prelude.{true, ◌≤◌, length, Some};
 ghost use Rattle.lists.specs.Limits.{max_entries, max_lines, max_size};
 ghost use Rattle.opening.specs.Opening.{open_checks};
 ghost use Rattle.sheet_figures.specs.inner.Opened.{AskedIn, MeasuredIn};
@@ -8,32 +8,32 @@ ghost use Rattle.missing.specs.inner.Found.{ExplainRoom, MissingRead, MissingFou
 use answers::Causes;
 use arguments::Settings;
 use lists::{MAX_ENTRIES, MAX_LINES, Refusal};
+use records::{Entry, Kept, RowEnd};
 use text::Estimate;
 
 // Those of the table in a line of a measured sheet, or the refusal. The sheet's lines are the first records.
 fn explain_read(
     read: Result<usize, Refusal>,
     line: u32,
-    lines: &[u32],
+    lines: &[Kept],
     figures: &[Estimate],
     settings: Settings,
-    entries: &mut [u32],
-    rows: &mut [u32],
+    entries: &mut [Entry],
+    rows: &mut [RowEnd],
     entry: &mut [u32],
     cause: &mut [u32],
 ) -> Result<Causes, Refusal>
     requires asked_in { AskedIn read lines.now line }
-    requires max_entries_in_bounds { (max_entries ≤ length entries.old / 3) × (max_lines ≤ length rows.old / 2) }
+    requires max_entries_in_bounds { (max_entries ≤ length entries.old) × (max_lines ≤ length rows.old) }
     requires measured_in { MeasuredIn read lines.now line figures.now }
     requires width_le_max_size { settings.width ≤ max_size }
     requires explain_room { ExplainRoom entry.old cause.old }
     ensures { MissingRead read lines.now line figures.now settings.raw settings.width result entry.new cause.new }
 {
     let n = read?;
-    let end = records::WIDTH * n;
     let causes = crate::making::explain(
         line,
-        &lines[..end],
+        &lines[..n],
         figures,
         settings,
         entries,
@@ -56,10 +56,10 @@ pub fn explain_sheet(
     requires explain_room { ExplainRoom entry.old cause.old }
     ensures { MissingFound (open_checks (Some line) sheet.now) sheet.now line settings.wrap settings.raw settings.width result entry.new cause.new }
 {
-    let mut lines = [0u32; records::WIDTH * MAX_LINES];
+    let mut lines = [records::NO_LINE; MAX_LINES];
     let mut figures = [estimates::NONE; MAX_LINES];
-    let mut entries = [0u32; 3 * MAX_ENTRIES];
-    let mut rows = [0u32; 2 * MAX_LINES];
+    let mut entries = [records::NO_ENTRY; MAX_ENTRIES];
+    let mut rows = [records::NO_ROW; MAX_LINES];
     let read = opening::measuring::measure_table(
         sheet,
         line,

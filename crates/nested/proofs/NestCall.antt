@@ -1,4 +1,5 @@
 -- The call `nested`: what is found in the sheet is what it answers and leaves, and of it the third demand holds. Assumes nothing.
+use Rattle.records.specs.declared.Kept.{Kept}
 use Rattle.answers.specs.declared.Layout.{Layout}
 use Rattle.answers.specs.declared.Nested.{Nested}
 use Rattle.lists.specs.declared.Refusal.{Refusal}
@@ -16,7 +17,6 @@ use Rattle.lists.specs.Lists.{padded}
 use Rattle.lists.specs.Limits.{max_lines, max_entries, max_wrap, max_width, max_size}
 use Rattle.lists.specs.Refusals.{Check, first_answer, verdict_of, passes, if_passes}
 use Rattle.text.specs.declared.Estimate.{Estimate}
-use Rattle.records.specs.Kept.{kept_count}
 use Rattle.sheet.specs.Sheet.{sheet_lines}
 use Rattle.sheet.specs.Steps.{room_for}
 use Rattle.sheet.proofs.First.{neither, first_passes, first_accepts, first_carries, figures_pass, figures_fail}
@@ -49,7 +49,7 @@ same_width e = cc
 
 -- ---- the table asked for, of a sheet that was walked
 
-module _ {s : List ℕ} {line wrap raw width overflow : ℕ} {r : Result ℕ Refusal} {lines : List ℕ} {figures : List Estimate} {ps : List (Option ℕ)}
+module _ {s : List ℕ} {line wrap raw width overflow : ℕ} {r : Result ℕ Refusal} {lines : List Kept} {figures : List Estimate} {ps : List (Option ℕ)}
     (w : SheetWalked (Some line) s wrap raw width overflow r lines figures ps) where
   abbrev cs : List Check
   cs = walked_checks (Some line) s wrap raw width overflow
@@ -77,7 +77,7 @@ module _ {s : List ℕ} {line wrap raw width overflow : ℕ} {r : Result ℕ Ref
   all_pass n e = (first_accepts Err (Ok (length (sheet_lines s))) (Ok n) cs (λ why d. let z : ◌≡◌ {A = ℕ} 0 1 = cc in omega arith) (sym w.answer ∙ e)).0
 
   -- what is asked of it
-  pub nest_asked : room_for s ≤ kept_count lines → AskedIn r lines line
+  pub nest_asked : room_for s ≤ length lines → AskedIn r lines line
   nest_asked h = record {
     front = λ n e. (asked_in (lines_of n e).opened h).front n refl;
     asked = λ n e. (asked_in (lines_of n e).opened h).asked n refl;
@@ -188,7 +188,7 @@ module _ {s : List ℕ} {line wrap raw width overflow : ℕ} {r : Result ℕ Ref
 
 -- ---- what is laid out, by its width
 
-module _ {read : Result ℕ Refusal} {w : Option ℕ} {lines : List ℕ} {line : ℕ} {figures : List Estimate} {raw : ℕ} {r : Result (Option Nested) Refusal} {column x wide : List ℕ} where
+module _ {read : Result ℕ Refusal} {w : Option ℕ} {lines : List Kept} {line : ℕ} {figures : List Estimate} {raw : ℕ} {r : Result (Option Nested) Refusal} {column x wide : List ℕ} where
   pub read_without : w ≡ None → r ≡ without_in read → NestRead read w lines line figures raw r column x wide
   read_without e q = record {
     without = λ _. q;

@@ -11,6 +11,7 @@ ghost use Rattle.nested.specs.inner.Found.{width_for, PlaceIn, NestRead, columns
 use answers::Nested;
 use arguments::Settings;
 use lists::{MAX_ENTRIES, MAX_LINES, Refusal};
+use records::Kept;
 use text::Estimate;
 
 // The width at a line's place, if the sheet was read and the walk gives it one.
@@ -29,7 +30,7 @@ fn nest_read(
     read: Result<usize, Refusal>,
     at: Option<u32>,
     line: u32,
-    lines: &[u32],
+    lines: &[Kept],
     figures: &[Estimate],
     raw: u32,
     column: &mut [u32],
@@ -47,8 +48,8 @@ fn nest_read(
         read?;
         return Ok(None);
     };
-    let mut entries = [0u32; 3 * MAX_ENTRIES];
-    let mut rows = [0u32; 2 * MAX_LINES];
+    let mut entries = [records::NO_ENTRY; MAX_ENTRIES];
+    let mut rows = [records::NO_ROW; MAX_LINES];
     let layout = call_layout::read::layout_read(
         read,
         line,
@@ -79,7 +80,7 @@ fn nest_sheet(
     ensures { NestFound (walked_checks (Some line) sheet.now settings.wrap settings.raw settings.width settings.overflow) sheet.now line settings.wrap settings.raw settings.width result
         column.new x.new wide.new }
 {
-    let mut lines = [0u32; records::WIDTH * MAX_LINES];
+    let mut lines = [records::NO_LINE; MAX_LINES];
     let mut figures = [estimates::NONE; MAX_LINES];
     let mut walk = [None; MAX_LINES];
     let read = pacing::walk_sheet(

@@ -11,7 +11,7 @@ use lib.Dec.{leb, eqb}
 use lib.ListN.{length, get_or}
 use borrow.Author.Tests.{not-true, not-false, le-leb, lt-leb, leb-true, eqb-true}
 use Rattle.lists.specs.Refusals.{Check, first_answer, verdict_of, refusal}
-use Rattle.kinds.specs.Kinds.{table_kind}
+use Rattle.kinds.specs.Kinds.{kind_number, table_kind}
 use Rattle.records.specs.Kept.{no_kept}
 use Rattle.records.specs.declared.Kept.{Kept}
 use Rattle.sheet.proofs.First.{both_true, first_told}
@@ -30,7 +30,7 @@ module _ (ks : List Kept) (line : ℕ) where
   unfolding is_table
   past_lines z h = rw (le-leb 1 line (omega arith), lt-leb line (length ks) (omega arith))
 
-  pub at_line : (line ≡ 0 → ⊥) → line - 1 < length ks → (k : Kept) → k ≡ get_or ks (line - 1) no_kept → eqb k.kind table_kind ≡ is_table ks line
+  pub at_line : (line ≡ 0 → ⊥) → line - 1 < length ks → (k : Kept) → k ≡ get_or ks (line - 1) no_kept → eqb (kind_number k.kind) table_kind ≡ is_table ks line
   unfolding is_table
   at_line z h k q = rw (le-leb 1 line (omega arith), le-leb line (length ks) (omega arith), q)
 
@@ -48,7 +48,7 @@ module _ {A : Type 0} (refused : Refusal → A) (accepted : A) (ks : List Kept) 
 pub table_apt : (ks : List Kept) (line : ℕ) → is_table ks line ≡ true → Apt ks line
 unfolding is_table
 table_apt ks line e =
-    let (front, kind) = both_true (leb 1 line && leb line (length ks)) (eqb (get_or ks (line - 1) no_kept).kind table_kind) e in
+    let (front, kind) = both_true (leb 1 line && leb line (length ks)) (eqb (kind_number (get_or ks (line - 1) no_kept).kind) table_kind) e in
     let (low, high) = both_true (leb 1 line) (leb line (length ks)) front in
     record { from_one = leb-true 1 line low; within = leb-true line (length ks) high; kind = eqb-true _ _ kind }
 

@@ -1,10 +1,12 @@
 -- An opened sheet can be measured: its lines nest and are in range, its tables are sound. And what is measured are its estimates. Assumes nothing.
 use mathlib.Core.Logic.{inl, inr}
+use Rattle.records.specs.declared.RowEnd.{RowEnd}
+use Rattle.records.specs.declared.Entry.{Entry}
 use Rattle.lists.specs.declared.Refusal.{Refusal}
 use Rattle.std.specs.Prelude.{Ok, Result, Option, Some, None}
 use mathlib.Core.Path.{◌≡◌, refl, sym, ap, subst, ◌∙◌}
 use mathlib.Core.List.{List, [], ◌∷◌, map}
-use Prim.Native.Nat.{ℕ, zero, suc, ◌+◌, ◌-◌, ◌*◌, ◌/◌, ◌≤◌}
+use Prim.Native.Nat.{ℕ, zero, suc, ◌+◌, ◌-◌, ◌≤◌}
 use native.Mathlib.Omega.{arith}
 use lib.ListN.{length, get_or, take, length-map}
 use lib.Seq.{take_at}
@@ -12,12 +14,10 @@ use Rattle.lists.specs.Lists.{sum}
 use Rattle.lists.specs.Limits.{max_lines, max_entries, max_position}
 use Rattle.text.specs.Decimal.{shift}
 use Rattle.text.specs.declared.Estimate.{Estimate}
-use Rattle.kinds.specs.Kinds.{head_kind, ol_kind}
+use Rattle.kinds.specs.Kinds.{kind_number, head_kind, ol_kind}
 use Rattle.line.specs.Fields.{Line, no_line, own_size}
-use Rattle.records.specs.Kept.{no_kept, kept_count, kepts_of, entry_by, entries_of, row_by, rows_of}
+use Rattle.records.specs.Kept.{no_kept}
 use Rattle.records.specs.declared.Kept.{Kept}
-use Rattle.records.proofs.Records.{length_of}
-use Rattle.records.proofs.Kepts.{kepts_take}
 use Rattle.sheet.specs.Sheet.{sheet_lines}
 use Rattle.sheet.specs.Steps.{room_for}
 use Rattle.sheet.specs.Reading.{kept_of, reading_of}
@@ -63,37 +63,37 @@ sheet_of s n e =
       shallow = (kept_lined s n e).shallow;
       step = (kept_lined s n e).step;
       holds = λ p i w. (kept_nests s n e).holds p i (record { before = w.before; within = w.within; deeper = w.deeper; between = w.between });
-      rank_low = every_kept (λ (k : Kept). k.kind ≡ head_kind → shift ≤ k.number) (λ q. absurd (omega arith)) ls (λ k q. omega (arith, (lines_ranged s k).head q));
-      rank_high = every_kept (λ (k : Kept). k.kind ≡ head_kind → k.number ≤ shift + 6) (λ q. absurd (omega arith)) ls (λ k q. ((lines_ranged s k).head q).1);
-      start = every_kept (λ (k : Kept). k.kind ≡ ol_kind → k.number ≤ 2000000000) (λ q. absurd (omega arith)) ls (λ k q. omega (arith, (lines_ranged s k).numbered));
+      rank_low = every_kept (λ (k : Kept). (kind_number k.kind) ≡ head_kind → shift ≤ k.number) (λ q. absurd (omega arith)) ls (λ k q. omega (arith, (lines_ranged s k).head q));
+      rank_high = every_kept (λ (k : Kept). (kind_number k.kind) ≡ head_kind → k.number ≤ shift + 6) (λ q. absurd (omega arith)) ls (λ k q. ((lines_ranged s k).head q).1);
+      start = every_kept (λ (k : Kept). (kind_number k.kind) ≡ ol_kind → k.number ≤ 2000000000) (λ q. absurd (omega arith)) ls (λ k q. omega (arith, (lines_ranged s k).numbered));
       room = omega (arith, ap sum (owns_same ls), accepted_own s n e);
     }
 
 -- ---- the tables
 
 -- scratch with records for the entries and rows of every table
-module _ {ks : List Kept} {fs : List Estimate} (m : Measurable ks fs) (leasts entries rows : List ℕ) (h : max_position ≤ length leasts) where
-  pub lent_scratch : Suffice (length entries / 3) (length rows / 2) ks → Lent ks fs leasts (entries_of entries) (rows_of rows)
+module _ {ks : List Kept} {fs : List Estimate} (m : Measurable ks fs) (leasts : List ℕ) (entries : List Entry) (rows : List RowEnd) (h : max_position ≤ length leasts) where
+  pub lent_scratch : Suffice (length entries) (length rows) ks → Lent ks fs leasts entries rows
   lent_scratch z = record {
     sheet = m.sheet;
     lined = m.lined;
-    tables = record { sound = m.sound.at; room = λ t u e. omega (arith, suffice_entries m.lined.step m.nests z t u e, length_of 3 entry_by entries) };
+    tables = record { sound = m.sound.at; room = λ t u e. omega (arith, suffice_entries m.lined.step m.nests z t u e) };
     results = m.results;
     scratch = h;
-    row_room = omega (arith, z.few, length_of 2 row_by rows);
+    row_room = omega (arith, z.few);
   }
 
-  pub lent_large : max_entries ≤ length entries / 3 → max_lines ≤ length rows / 2 → Lent ks fs leasts (entries_of entries) (rows_of rows)
+  pub lent_large : max_entries ≤ length entries → max_lines ≤ length rows → Lent ks fs leasts entries rows
   lent_large a b = record {
     sheet = m.sheet;
     lined = m.lined;
-    tables = record { sound = m.sound.at; room = λ t u e. omega (arith, (m.sound.at t u e).few, length_of 3 entry_by entries) };
+    tables = record { sound = m.sound.at; room = λ t u e. omega (arith, (m.sound.at t u e).few) };
     results = m.results;
     scratch = h;
-    row_room = omega (arith, m.lined.short, length_of 2 row_by rows);
+    row_room = omega (arith, m.lined.short);
   }
 
-  pub lent_enough : Enough (length entries / 3) (length rows / 2) ks → Lent ks fs leasts (entries_of entries) (rows_of rows)
+  pub lent_enough : Enough (length entries) (length rows) ks → Lent ks fs leasts entries rows
   lent_enough (inl z) = lent_scratch z
   lent_enough (inr z) = lent_large z.0 z.1
 
@@ -117,22 +117,22 @@ module _ {s : Option ℕ} {wrap : ℕ} {ks : List Kept} {b c : List Estimate} wh
 
 -- ---- the lines that were read
 
-pub suffice_in : {r : Result ℕ Refusal} (lines : List ℕ) {e k n : ℕ} → r ≡ Ok n → n ≤ kept_count lines → Suffice e k (kepts_of (take (2 * n) lines)) → EnoughIn r lines e k
-suffice_in lines {n = n} q h s m f = let z : n ≡ m = cc in rw (← z) (inl (rw (kepts_take lines n h) at s))
+pub suffice_in : {r : Result ℕ Refusal} (lines : List Kept) {e k n : ℕ} → r ≡ Ok n → n ≤ length lines → Suffice e k (take n lines) → EnoughIn r lines e k
+suffice_in lines {n = n} q h s m f = let z : n ≡ m = cc in rw (← z) (inl s)
 
-pub measured_in : {r : Result ℕ Refusal} {s : Option ℕ} {wrap : ℕ} (lines : List ℕ) {b c : List Estimate} {n : ℕ} → r ≡ Ok n → ScopeMeasured s wrap (take n (kepts_of lines)) b c
+pub measured_in : {r : Result ℕ Refusal} {s : Option ℕ} {wrap : ℕ} (lines : List Kept) {b c : List Estimate} {n : ℕ} → r ≡ Ok n → ScopeMeasured s wrap (take n lines) b c
     → ReadMeasured r s wrap lines b c
 measured_in lines {n = n} q m k f = let z : n ≡ k = cc in rw (← z) m
 
 -- scratch that is as long as it was
-pub any_still : {leasts leasts' entries rows : List ℕ} → length leasts' ≡ length leasts → ScratchForAny leasts entries rows → ScratchForAny leasts' entries rows
+pub any_still : {leasts leasts' : List ℕ} {entries : List Entry} {rows : List RowEnd} → length leasts' ≡ length leasts → ScratchForAny leasts entries rows → ScratchForAny leasts' entries rows
 any_still e h = record { leasts_room = omega (arith, h.leasts_room); entries_room = h.entries_room; rows_room = h.rows_room }
 
 -- ---- a sheet
 
-module _ {asked : Option ℕ} {s : List ℕ} {r : Result ℕ Refusal} {lines : List ℕ} (w : Opened asked s r lines) where
-  pub front_measurable : (n : ℕ) → r ≡ Ok n → {fs : List Estimate} → room_for s ≤ kept_count lines → room_for s ≤ length fs
-      → (n ≤ kept_count lines) × Measurable (take n (kepts_of lines)) fs
+module _ {asked : Option ℕ} {s : List ℕ} {r : Result ℕ Refusal} {lines : List Kept} (w : Opened asked s r lines) where
+  pub front_measurable : (n : ℕ) → r ≡ Ok n → {fs : List Estimate} → room_for s ≤ length lines → room_for s ≤ length fs
+      → (n ≤ length lines) × Measurable (take n lines) fs
   front_measurable n e {fs = fs} a c =
       let o = opened_reads asked s n (sym w.answer ∙ e) in
       let m = accepted_room s n o in
@@ -142,20 +142,20 @@ module _ {asked : Option ℕ} {s : List ℕ} {r : Result ℕ Refusal} {lines : L
             (record { sheet = sheet_of s n o; lined = kept_lined s n o; nests = kept_nests s n o; sound = w.sound n e; results = omega arith }),
       )
 
-  pub front_table : {line : ℕ} → asked ≡ Some line → (n : ℕ) → r ≡ Ok n → InScope (Some line) (take n (kepts_of lines))
+  pub front_table : {line : ℕ} → asked ≡ Some line → (n : ℕ) → r ≡ Ok n → InScope (Some line) (take n lines)
   front_table {line} q n e = rw (w.holds n e) (table_in (table_apt (kept_lines s) line (opened_asked asked s n (sym w.answer ∙ e) line q)))
 
   -- scratch that suffices for the lines, or for any table
-  module _ {sc : Option ℕ} {fs : List Estimate} (a : room_for s ≤ kept_count lines) (c : room_for s ≤ length fs)
-      (i : (n : ℕ) → r ≡ Ok n → InScope sc (take n (kepts_of lines))) (leasts entries rows : List ℕ) where
-    pub lent_few : max_position ≤ length leasts → EnoughIn r lines (length entries / 3) (length rows / 2) → ReadLent r sc lines fs leasts (entries_of entries) (rows_of rows)
+  module _ {sc : Option ℕ} {fs : List Estimate} (a : room_for s ≤ length lines) (c : room_for s ≤ length fs)
+      (i : (n : ℕ) → r ≡ Ok n → InScope sc (take n lines)) (leasts : List ℕ) (entries : List Entry) (rows : List RowEnd) where
+    pub lent_few : max_position ≤ length leasts → EnoughIn r lines (length entries) (length rows) → ReadLent r sc lines fs leasts entries rows
     lent_few h z = record {
       front = λ n e. (front_measurable n e {fs = fs} a c).0;
       lent = λ n e. lent_enough (front_measurable n e {fs = fs} a c).1 leasts entries rows h (z n e);
       scope = i;
     }
 
-    pub lent_any : ScratchForAny leasts entries rows → ReadLent r sc lines fs leasts (entries_of entries) (rows_of rows)
+    pub lent_any : ScratchForAny leasts entries rows → ReadLent r sc lines fs leasts entries rows
     lent_any h = record {
       front = λ n e. (front_measurable n e {fs = fs} a c).0;
       lent = λ n e. lent_large (front_measurable n e {fs = fs} a c).1 leasts entries rows h.leasts_room h.entries_room h.rows_room;
@@ -173,7 +173,7 @@ module _ {asked : Option ℕ} {s : List ℕ} {r : Result ℕ Refusal} {lines : L
         };
   }
 
-module _ {s : List ℕ} {line : ℕ} {r : Result ℕ Refusal} {lines : List ℕ} (w : Opened (Some line) s r lines) where
+module _ {s : List ℕ} {line : ℕ} {r : Result ℕ Refusal} {lines : List Kept} (w : Opened (Some line) s r lines) where
   pub table_measured : {wrap : ℕ} {b figures : List Estimate} → ReadMeasured r (Some line) wrap lines b figures → TableMeasured s line wrap r lines figures
   table_measured {wrap} m₀ = record {
     opened = w;

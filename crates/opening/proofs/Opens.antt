@@ -1,4 +1,5 @@
 -- A sheet opened: the reader's answer with what is asked after it, and what is kept. Assumes nothing.
+use Rattle.records.specs.declared.Kept.{Kept}
 use Rattle.lists.specs.declared.Refusal.{Refusal}
 use Rattle.std.specs.Prelude.{Err, Ok, Result, Option, None, Some}
 use mathlib.Core.Path.{◌≡◌, refl, sym, ap, ◌∙◌}
@@ -8,7 +9,6 @@ use Prim.Native.Nat.{ℕ}
 use native.Mathlib.Omega.{arith}
 use lib.ListN.{length, take}
 use Rattle.lists.specs.Refusals.{first_answer, passes}
-use Rattle.records.specs.Kept.{kepts_of}
 use Rattle.sheet.specs.Sheet.{sheet_lines, sheet_checks}
 use Rattle.sheet.specs.Reading.{reading_of, Reads}
 use Rattle.sheet.proofs.First.{passes_both, both_true, first_accepts, first_passes, passes_append}
@@ -54,7 +54,7 @@ module _ (asked : Option ℕ) (s : List ℕ) (n : ℕ) (e : opened_of asked s �
       double true h = refl
       double false h = sym h
 
-module _ {asked : Option ℕ} {s : List ℕ} {lines : List ℕ} {q : Result ℕ Refusal} (w : Reads s q lines) where
+module _ {asked : Option ℕ} {s : List ℕ} {lines : List Kept} {q : Result ℕ Refusal} (w : Reads s q lines) where
   pub opened_refused : (why : Refusal) → q ≡ Err why → Opened asked s (Err why) lines
   unfolding opened_of
   opened_refused why e = record {
@@ -63,7 +63,7 @@ module _ {asked : Option ℕ} {s : List ℕ} {lines : List ℕ} {q : Result ℕ 
     sound = λ n f. let z : ◌≡◌ {A = ℕ} 0 1 = cc in absurd (omega arith);
   }
 
-  pub opened_read : (n : ℕ) → q ≡ Ok n → (r : Result ℕ Refusal) → TablesOpened asked (take n (kepts_of lines)) r → Opened asked s r lines
+  pub opened_read : (n : ℕ) → q ≡ Ok n → (r : Result ℕ Refusal) → TablesOpened asked (take n lines) r → Opened asked s r lines
   unfolding opened_of
   opened_read n e r t₀ =
       let a : reading_of s ≡ Ok n = sym w.answer ∙ e in
@@ -77,6 +77,6 @@ module _ {asked : Option ℕ} {s : List ℕ} {lines : List ℕ} {q : Result ℕ 
         holds = λ m f.
             let z : ◌≡◌ {A = Result ℕ Refusal} (Ok n) (Ok m) = sym a ∙ opened_reads asked s m (sym answer ∙ f) in
             let k : n ≡ m = cc in
-            ap (λ (i : ℕ). take i (kepts_of lines)) (sym k) ∙ w.stored n e;
+            ap (λ (i : ℕ). take i lines) (sym k) ∙ w.stored n e;
         sound = t.sound;
       }

@@ -1,4 +1,5 @@
 -- The lines of an accepted sheet as they are kept: they nest, and their tables can be checked. Assumes nothing.
+use Rattle.kinds.specs.Kinds.{kind_number}
 use Rattle.lists.specs.declared.Refusal.{Refusal}
 use Rattle.std.specs.Prelude.{Ok, Result}
 use mathlib.Core.Path.{◌≡◌, refl, sym, ◌∙◌}
@@ -6,7 +7,7 @@ use mathlib.Core.List.{List, [], ◌∷◌, map}
 use Prim.Native.Nat.{ℕ, zero, suc, ◌+◌, ◌≤◌}
 use native.Mathlib.Omega.{arith}
 use lib.ListN.{length, get_or, take, length-map}
-use Rattle.records.specs.Kept.{no_kept, kept_count, kepts_of}
+use Rattle.records.specs.Kept.{no_kept}
 use Rattle.records.specs.declared.Kept.{Kept}
 use Rattle.line.specs.Fields.{Line, no_line}
 use Rattle.sheet.specs.Sheet.{sheet_lines}
@@ -29,7 +30,7 @@ abbrev depth_of : Kept → ℕ
 depth_of k = k.depth
 
 abbrev kind_of : Kept → ℕ
-kind_of k = k.kind
+kind_of k = (kind_number k.kind)
 
 abbrev cols_of : Kept → ℕ
 cols_of k = k.cols
@@ -41,7 +42,7 @@ module _ (s : List ℕ) (n : ℕ) (e : reading_of s ≡ Ok n) where
   pub kept_depth : (k : ℕ) → (get_or (kept_lines s) k no_kept).depth ≡ (get_or (sheet_lines s) k no_line).depth
   kept_depth k = figure_at_lem depth_of refl (sheet_lines s) k
 
-  pub kept_kind : (k : ℕ) → (get_or (kept_lines s) k no_kept).kind ≡ (get_or (sheet_lines s) k no_line).kind
+  pub kept_kind : (k : ℕ) → kind_number (get_or (kept_lines s) k no_kept).kind ≡ kind_number (get_or (sheet_lines s) k no_line).kind
   kept_kind k = figure_at_lem kind_of refl (sheet_lines s) k
 
   pub kept_lined : Lined (kept_lines s)
@@ -71,8 +72,8 @@ module _ (s : List ℕ) (n : ℕ) (e : reading_of s ≡ Ok n) where
   kept_ready h = record { lined = kept_lined; nests = kept_nests; room = omega (arith, kept_count_lem, accepted_room s n e) }
 
 -- what was read into a slice can be checked
-pub front_ready : {s : List ℕ} {r : Result ℕ Refusal} {lines : List ℕ} (n : ℕ) → r ≡ Ok n → Reads s r lines → room_for s ≤ kept_count lines
-    → {scratch : List ℕ} → room_for s ≤ length scratch → (n ≤ kept_count lines) × TablesReady (take n (kepts_of lines)) scratch
+pub front_ready : {s : List ℕ} {r : Result ℕ Refusal} {lines : List Kept} (n : ℕ) → r ≡ Ok n → Reads s r lines → room_for s ≤ length lines
+    → {scratch : List ℕ} → room_for s ≤ length scratch → (n ≤ length lines) × TablesReady (take n lines) scratch
 front_ready {s} n e w h g =
     let a = sym w.answer ∙ e in
     (omega (arith, accepted_room s n a), rw (w.stored n e) (kept_ready s n a g))

@@ -2,27 +2,27 @@
 // made in lent scratch.
 ghost use Rattle.std.specs.Prelude.{◌≡◌, true, ◌≤◌, length, take};
 ghost use Rattle.lists.specs.Limits.{max_entries, max_lines};
-ghost use Rattle.records.specs.Kept.{kept_count, kepts_of, entries_of, rows_of};
 ghost use Rattle.sheet.specs.Steps.{room_for};
 ghost use Rattle.estimates.specs.Meets.{Lent};
 ghost use Rattle.opening.specs.inner.Measures.{InScope, ScopeMeasured, LinesIn, EnoughIn, ScratchForAny, ReadLent, ReadMeasured, SheetMeasured, TableMeasured};
 
 use lists::{MAX_ENTRIES, MAX_LINES, Refusal};
+use records::{Entry, Kept, RowEnd};
 use text::Estimate;
 
 // Measures every line, or what lies below the table in a line, if one is given; the other slices are scratch.
 fn measure_in(
     below: Option<u32>,
     wrap: u32,
-    lines: &[u32],
+    lines: &[Kept],
     figures: &mut [Estimate],
     leasts: &mut [u32],
-    entries: &mut [u32],
-    rows: &mut [u32],
+    entries: &mut [Entry],
+    rows: &mut [RowEnd],
 )
-    requires lent { Lent (kepts_of lines.now) figures.old leasts.old (entries_of entries.old) (rows_of rows.old) }
-    requires in_scope { InScope below (kepts_of lines.now) }
-    ensures { ScopeMeasured below wrap (kepts_of lines.now) figures.old figures.new }
+    requires lent { Lent lines.now figures.old leasts.old entries.old rows.old }
+    requires in_scope { InScope below lines.now }
+    ensures { ScopeMeasured below wrap lines.now figures.old figures.new }
 {
     match below {
         None => estimates::measure(wrap, lines, figures, leasts, entries, rows),
@@ -38,24 +38,23 @@ fn measure_front(
     n: usize,
     below: Option<u32>,
     wrap: u32,
-    lines: &[u32],
+    lines: &[Kept],
     figures: &mut [Estimate],
     leasts: &mut [u32],
-    entries: &mut [u32],
-    rows: &mut [u32],
+    entries: &mut [Entry],
+    rows: &mut [RowEnd],
 )
-    requires n_bound { n ≤ kept_count lines.now }
-    requires lent { Lent (take n (kepts_of lines.now)) figures.old leasts.old (entries_of entries.old) (rows_of rows.old) }
-    requires in_scope { InScope below (take n (kepts_of lines.now)) }
-    ensures { ScopeMeasured below wrap (take n (kepts_of lines.now)) figures.old figures.new }
+    requires n_bound { n ≤ length lines.now }
+    requires lent { Lent (take n lines.now) figures.old leasts.old entries.old rows.old }
+    requires in_scope { InScope below (take n lines.now) }
+    ensures { ScopeMeasured below wrap (take n lines.now) figures.old figures.new }
 {
-    let end = records::WIDTH * n;
-    measure_in(below, wrap, &lines[..end], figures, leasts, entries, rows);
+    measure_in(below, wrap, &lines[..n], figures, leasts, entries, rows);
 }
 
 // Whether records of so many entries and rows do for the grid of every table that was read: they are as many as a table may have, or as many as the cells
 // of the sheet ask for. If the sheet is refused, there is no table.
-pub fn enough(read: Result<usize, Refusal>, lines: &[u32], entries: usize, rows: usize) -> bool
+pub fn enough(read: Result<usize, Refusal>, lines: &[Kept], entries: usize, rows: usize) -> bool
     requires { LinesIn read lines.now }
     ensures enough_in { result ≡ true → EnoughIn read lines.now entries rows }
     ensures any { max_entries ≤ entries → max_lines ≤ rows → result ≡ true }
@@ -66,8 +65,7 @@ pub fn enough(read: Result<usize, Refusal>, lines: &[u32], entries: usize, rows:
     let Ok(n) = read else {
         return true;
     };
-    let end = records::WIDTH * n;
-    grid_bounds::whole::suffice(&lines[..end], entries, rows)
+    grid_bounds::whole::suffice(&lines[..n], entries, rows)
 }
 
 // Measures every line that was read, or what lies below the table in a line, if one is given. The last three slices are scratch, of which nothing is cleared: `leasts` has a place for
@@ -76,13 +74,13 @@ pub fn measure_read(
     read: Result<usize, Refusal>,
     below: Option<u32>,
     wrap: u32,
-    lines: &[u32],
+    lines: &[Kept],
     figures: &mut [Estimate],
     leasts: &mut [u32],
-    entries: &mut [u32],
-    rows: &mut [u32],
+    entries: &mut [Entry],
+    rows: &mut [RowEnd],
 )
-    requires { ReadLent read below lines.now figures.old leasts.old (entries_of entries.old) (rows_of rows.old) }
+    requires { ReadLent read below lines.now figures.old leasts.old entries.old rows.old }
     ensures { ReadMeasured read below wrap lines.now figures.old figures.new }
 {
     if let Ok(n) = read {
@@ -95,13 +93,13 @@ pub fn measure_sheet(
     bytes: &[u8],
     asked: Option<u32>,
     wrap: u32,
-    lines: &mut [u32],
+    lines: &mut [Kept],
     figures: &mut [Estimate],
     leasts: &mut [u32],
-    entries: &mut [u32],
-    rows: &mut [u32],
+    entries: &mut [Entry],
+    rows: &mut [RowEnd],
 ) -> Result<usize, Refusal>
-    requires bytes_bound { room_for bytes.now ≤ kept_count lines.old }
+    requires bytes_bound { room_for bytes.now ≤ length lines.old }
     requires bytes_in_bounds { room_for bytes.now ≤ length figures.old }
     requires scratch_for_any { ScratchForAny leasts.old entries.old rows.old }
     ensures { SheetMeasured asked bytes.now wrap result lines.new figures.new }
@@ -116,13 +114,13 @@ pub fn measure_table(
     bytes: &[u8],
     line: u32,
     wrap: u32,
-    lines: &mut [u32],
+    lines: &mut [Kept],
     figures: &mut [Estimate],
     leasts: &mut [u32],
-    entries: &mut [u32],
-    rows: &mut [u32],
+    entries: &mut [Entry],
+    rows: &mut [RowEnd],
 ) -> Result<usize, Refusal>
-    requires bytes_bound { room_for bytes.now ≤ kept_count lines.old }
+    requires bytes_bound { room_for bytes.now ≤ length lines.old }
     requires bytes_in_bounds { room_for bytes.now ≤ length figures.old }
     requires scratch_for_any { ScratchForAny leasts.old entries.old rows.old }
     ensures { TableMeasured bytes.now line wrap result lines.new figures.new }

@@ -9,9 +9,7 @@ use lib.ListN.{length, get_or, take}
 use lib.Seq.{get_or-take, length-take-le}
 use Rattle.lists.specs.Refusals.{Check, first_answer, verdict_of}
 use Rattle.text.specs.declared.Estimate.{Estimate}
-use Rattle.records.specs.Kept.{kept_count, kepts_of}
 use Rattle.records.specs.declared.Kept.{Kept}
-use Rattle.records.proofs.Kepts.{kepts_take, length_kepts}
 use Rattle.sheet.specs.Sheet.{sheet_lines}
 use Rattle.sheet.specs.Steps.{room_for}
 use Rattle.sheet.proofs.First.{first_passes, first_after, first_accepts, first_carries, accepted_passes}
@@ -30,8 +28,8 @@ use Rattle.pacing.specs.inner.Found.{SheetOpened, ReadWalkable, WalkRead, SheetW
 
 -- ---- opened and measured
 
-module _ {asked : Option ℕ} {s : List ℕ} {wrap : ℕ} {r : Result ℕ Refusal} {lines : List ℕ} {figures : List Estimate} (m : SheetMeasured asked s wrap r lines figures)
-    (a : room_for s ≤ kept_count lines) (c : room_for s ≤ length figures) where
+module _ {asked : Option ℕ} {s : List ℕ} {wrap : ℕ} {r : Result ℕ Refusal} {lines : List Kept} {figures : List Estimate} (m : SheetMeasured asked s wrap r lines figures)
+    (a : room_for s ≤ length lines) (c : room_for s ≤ length figures) where
   sheet_here : (n : ℕ) → r ≡ Ok n → Sheet (kept_lines s)
   sheet_here n e = rw (m.opened.holds n e) at (front_measurable m.opened n e {fs = figures} a c).1.sheet
 
@@ -46,15 +44,15 @@ module _ {asked : Option ℕ} {s : List ℕ} {wrap : ℕ} {r : Result ℕ Refusa
 
 -- ---- its lines
 
-module _ {asked : Option ℕ} {s : List ℕ} {wrap : ℕ} {r : Result ℕ Refusal} {lines : List ℕ} {figures : List Estimate} (o : SheetOpened asked s wrap r lines figures) where
+module _ {asked : Option ℕ} {s : List ℕ} {wrap : ℕ} {r : Result ℕ Refusal} {lines : List Kept} {figures : List Estimate} (o : SheetOpened asked s wrap r lines figures) where
   pub opened_passed : (n : ℕ) → r ≡ Ok n → Passed asked s n
   opened_passed n e = passed asked s n (sym o.answer ∙ e)
 
-  pub same_figures : (n : ℕ) → r ≡ Ok n → take n figures ≡ estimates wrap (take n (kepts_of lines))
+  pub same_figures : (n : ℕ) → r ≡ Ok n → take n figures ≡ estimates wrap (take n lines)
   same_figures n e =
       ap (λ (k : ℕ). take k figures) (opened_passed n e).kept ∙ (o.measured n e).figures ∙ ap (estimates wrap) (sym (o.holds n e))
 
-  module _ (a : room_for s ≤ kept_count lines) (c : room_for s ≤ length figures) where
+  module _ (a : room_for s ≤ length lines) (c : room_for s ≤ length figures) where
     lines_walkable : (n : ℕ) → r ≡ Ok n → Walkable (kept_lines s) figures
     lines_walkable n e =
         let p = opened_passed n e in
@@ -77,11 +75,11 @@ module _ {asked : Option ℕ} {s : List ℕ} {wrap : ℕ} {r : Result ℕ Refusa
     }
 
 -- the first n records stand in the first 2 * n places
-pub front_walkable : {read : Result ℕ Refusal} {lines : List ℕ} {figures : List Estimate} {ps : List (Option ℕ)} (n : ℕ) → ReadWalkable read lines figures ps → read ≡ Ok n
-    → Walkable (kepts_of (take (2 * n) lines)) figures × (length (kepts_of (take (2 * n) lines)) ≤ length ps)
+pub front_walkable : {read : Result ℕ Refusal} {lines : List Kept} {figures : List Estimate} {ps : List (Option ℕ)} (n : ℕ) → ReadWalkable read lines figures ps → read ≡ Ok n
+    → Walkable (take n lines) figures × (length (take n lines) ≤ length ps)
 front_walkable {lines = lines} n w e = (
-  rw (kepts_take lines n (w.front n e)) (w.walkable n e),
-  rw (kepts_take lines n (w.front n e)) (omega (arith, length-take-le n (kepts_of lines) (omega (arith, w.front n e, length_kepts lines)), w.room n e)),
+  (w.walkable n e),
+  (omega (arith, length-take-le n lines (omega (arith, w.front n e)), w.room n e)),
 )
 
 -- ---- what is told of its lines
@@ -94,7 +92,7 @@ carried : (n m : ℕ) (why : Refusal) (cs ds : List Check) → first_answer Err 
 carried n m why cs ds e =
     first_carries Err (Ok n) Err (Ok m) why (λ w f. cc) (λ f. let z : ◌≡◌ {A = ℕ} 0 1 = cc in omega arith) cs ds e
 
-module _ {read : Result ℕ Refusal} (lines : List ℕ) {figures : List Estimate} {raw width overflow : ℕ} {ps : List (Option ℕ)} where
+module _ {read : Result ℕ Refusal} (lines : List Kept) {figures : List Estimate} {raw width overflow : ℕ} {ps : List (Option ℕ)} where
   pub walk_refused : {why : Refusal} → read ≡ Err why → WalkRead read lines figures raw width overflow (Err why) ps
   walk_refused e = record {
     refused = λ why f. let z = sym e ∙ f in cc;
@@ -103,15 +101,15 @@ module _ {read : Result ℕ Refusal} (lines : List ℕ) {figures : List Estimate
     small = λ n f. let z : ◌≡◌ {A = ℕ} 0 1 = cc in absurd (omega arith);
   }
 
-  module _ (n : ℕ) (e : read ≡ Ok n) (h : n ≤ kept_count lines) (v : Result (Unit {0}) Refusal) (w : steps.Walked (kepts_of (take (2 * n) lines)) figures raw width overflow v ps) where
+  module _ (n : ℕ) (e : read ≡ Ok n) (h : n ≤ length lines) (v : Result (Unit {0}) Refusal) (w : steps.Walked (take n lines) figures raw width overflow v ps) where
     abbrev ks : List Kept
-    ks = take n (kepts_of lines)
+    ks = take n lines
 
     count : length ks ≡ n
-    count = length-take-le n (kepts_of lines) (omega (arith, length_kepts lines))
+    count = length-take-le n lines (omega arith)
 
-    here : steps.Walked (take n (kepts_of lines)) figures raw width overflow v ps
-    here = rw (kepts_take lines n h) at w
+    here : steps.Walked (take n lines) figures raw width overflow v ps
+    here = w
 
     verdict_is : (wrap : ℕ) → take n figures ≡ estimates wrap ks → v ≡ verdict_of (narrow_checks wrap raw width overflow ks)
     verdict_is wrap f = here.answer wrap (ap (λ (k : ℕ). take k figures) count ∙ f)
@@ -152,7 +150,7 @@ module _ {read : Result ℕ Refusal} (lines : List ℕ) {figures : List Estimate
 
 -- ---- of the sheet
 
-module _ {asked : Option ℕ} {s : List ℕ} {wrap raw width overflow : ℕ} {read r : Result ℕ Refusal} {lines : List ℕ} {figures : List Estimate} {ps : List (Option ℕ)}
+module _ {asked : Option ℕ} {s : List ℕ} {wrap raw width overflow : ℕ} {read r : Result ℕ Refusal} {lines : List Kept} {figures : List Estimate} {ps : List (Option ℕ)}
     (o : SheetOpened asked s wrap read lines figures) (w : WalkRead read lines figures raw width overflow r ps) where
   abbrev cs : List Check
   cs = open_checks asked s

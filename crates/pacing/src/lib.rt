@@ -3,7 +3,6 @@
 
 ghost use Rattle.std.specs.Prelude.{◌≤◌, length};
 ghost use Rattle.lists.specs.Limits.{max_position, max_size};
-ghost use Rattle.records.specs.Kept.{kept_count, kepts_of};
 ghost use Rattle.sheet.specs.Steps.{room_for};
 ghost use Rattle.walking.specs.inner.Steps as steps;
 ghost use Rattle.walking.specs.inner.Steps.{Walkable};
@@ -11,6 +10,7 @@ ghost use Rattle.pacing.specs.inner.Found.{SheetOpened, ReadWalkable, WalkRead, 
 
 use arguments::Settings;
 use lists::{MAX_ENTRIES, MAX_LINES, MAX_POSITION, Refusal};
+use records::Kept;
 use text::Estimate;
 
 // Opens and measures a sheet. The last slice is scratch.
@@ -18,17 +18,17 @@ fn open_measured(
     sheet: &[u8],
     asked: Option<u32>,
     wrap: u32,
-    lines: &mut [u32],
+    lines: &mut [Kept],
     figures: &mut [Estimate],
     leasts: &mut [u32],
 ) -> Result<usize, Refusal>
-    requires sheet_bound { room_for sheet.now ≤ kept_count lines.old }
+    requires sheet_bound { room_for sheet.now ≤ length lines.old }
     requires figures_in_bounds { room_for sheet.now ≤ length figures.old }
     requires max_position_in_bounds { max_position ≤ length leasts.old }
     ensures { SheetOpened asked sheet.now wrap result lines.new figures.new }
 {
-    let mut entries = [0u32; 3 * MAX_ENTRIES];
-    let mut rows = [0u32; 2 * MAX_LINES];
+    let mut entries = [records::NO_ENTRY; MAX_ENTRIES];
+    let mut rows = [records::NO_ROW; MAX_LINES];
     opening::measuring::measure_sheet(
         sheet,
         asked,
@@ -43,18 +43,18 @@ fn open_measured(
 
 // Walks the lines of a measured sheet. All tables are laid out in the same arrays.
 fn walk_lines(
-    lines: &[u32],
+    lines: &[Kept],
     figures: &[Estimate],
     settings: Settings,
     walk: &mut [Option<u32>],
 ) -> Result<(), Refusal>
-    requires walkable { Walkable (kepts_of lines.now) figures.now }
+    requires walkable { Walkable lines.now figures.now }
     requires raw_bound { (settings.raw ≤ 1) × (settings.width ≤ max_size) }
-    requires lines_in_bounds { length (kepts_of lines.now) ≤ length walk.old }
-    ensures { steps.Walked (kepts_of lines.now) figures.now settings.raw settings.width settings.overflow result walk.new }
+    requires lines_in_bounds { length lines.now ≤ length walk.old }
+    ensures { steps.Walked lines.now figures.now settings.raw settings.width settings.overflow result walk.new }
 {
-    let mut entries = [0u32; 3 * MAX_ENTRIES];
-    let mut rows = [0u32; 2 * MAX_LINES];
+    let mut entries = [records::NO_ENTRY; MAX_ENTRIES];
+    let mut rows = [records::NO_ROW; MAX_LINES];
     let mut column = [0u32; MAX_POSITION];
     let mut x = [0u32; MAX_ENTRIES];
     let mut wide = [0u32; MAX_ENTRIES];
@@ -76,7 +76,7 @@ fn walk_lines(
 // The same of the first records, which are a sheet's lines, if it was read.
 fn walk_read(
     read: Result<usize, Refusal>,
-    lines: &[u32],
+    lines: &[Kept],
     figures: &[Estimate],
     settings: Settings,
     walk: &mut [Option<u32>],
@@ -86,8 +86,7 @@ fn walk_read(
     ensures { WalkRead read lines.now figures.now settings.raw settings.width settings.overflow result walk.new }
 {
     let n = read?;
-    let end = records::WIDTH * n;
-    walk_lines(&lines[..end], figures, settings, walk)?;
+    walk_lines(&lines[..n], figures, settings, walk)?;
     Ok(n)
 }
 
@@ -96,12 +95,12 @@ pub fn walk_sheet(
     sheet: &[u8],
     asked: Option<u32>,
     settings: Settings,
-    lines: &mut [u32],
+    lines: &mut [Kept],
     figures: &mut [Estimate],
     walk: &mut [Option<u32>],
     leasts: &mut [u32],
 ) -> Result<usize, Refusal>
-    requires sheet_bound { room_for sheet.now ≤ kept_count lines.old }
+    requires sheet_bound { room_for sheet.now ≤ length lines.old }
     requires figures_in_bounds { room_for sheet.now ≤ length figures.old }
     requires places_in_bounds { room_for sheet.now ≤ length walk.old }
     requires max_position_in_bounds { max_position ≤ length leasts.old }

@@ -5,6 +5,8 @@ use Rattle.lists.specs.Refusals.{refusal, first_answer, verdict_of}
 use Rattle.lists.specs.declared.Reason.TheVariants.{TooNarrow}
 use Rattle.text.specs.Decimal.{writing, digits, digits_in}
 use Rattle.text.specs.Prefix.{last_number, ol_prefix}
+use Rattle.kinds.specs.declared.Kind.{Kind}
+use Rattle.kinds.specs.declared.Kind.TheVariants.{Text, Div, Quote, Ul, Table, Body, Row, Cell, Frag, Item}
 use Rattle.records.specs.declared.Kept.{Kept}
 use Rattle.columns.specs.Boxes.{flat}
 use Rattle.columns.specs.Columns.{up_to, sum_at, largest_at}
@@ -24,38 +26,38 @@ use Rattle.table.specs.Arranging.{boxes_at}
 use Rattle.placing.specs.Place.{place_side, place_down, place_row, place_rows}
 use Rattle.passing.specs.Walk.{takes_off, passed_on, too_narrow, printed_in, cell_width, from_nearest, line_width, walk_to, walk, narrow_from, narrow_checks}
 
-abbrev ln : (depth kind cols rows own : ℕ) → Kept
-ln depth kind cols rows own = record { depth = depth; kind = kind; number = 1000000000; cols = cols; rows = rows; own = own }
+abbrev ln : (depth : ℕ) (kind : Kind) (cols rows own : ℕ) → Kept
+ln depth kind cols rows own = record { depth = depth; kind = kind; cols = cols; rows = rows; number = 1000000000; own = own }
 
 -- a quote over a text of three characters
 abbrev quoted : List Kept
-quoted = ln 0 12 0 0 0 ∷ ln 1 0 0 0 3 ∷ []
+quoted = ln 0 Quote 0 0 0 ∷ ln 1 Text 0 0 3 ∷ []
 
 -- a list without children; a quote over a frag; `abc` in a list in a div
 abbrev bare : List Kept
-bare = ln 0 13 0 0 0 ∷ []
+bare = ln 0 Ul 0 0 0 ∷ []
 
 abbrev marked : List Kept
-marked = ln 0 12 0 0 0 ∷ ln 1 23 0 0 0 ∷ []
+marked = ln 0 Quote 0 0 0 ∷ ln 1 Frag 0 0 0 ∷ []
 
 abbrev listed : List Kept
-listed = ln 0 11 0 0 0 ∷ ln 1 13 0 0 0 ∷ ln 2 24 0 0 0 ∷ ln 3 0 0 0 3 ∷ []
+listed = ln 0 Div 0 0 0 ∷ ln 1 Ul 0 0 0 ∷ ln 2 Item 0 0 0 ∷ ln 3 Text 0 0 3 ∷ []
 
 -- a table in a quote, with the cells `abc`, an empty one, and one with a table whose only cell is `de`
 abbrev tabled_in : List Kept
 tabled_in =
-    ln 0 12 0 0 0 ∷ ln 1 19 0 0 0 ∷ ln 2 20 0 0 0 ∷ ln 3 21 0 0 0 ∷ ln 4 22 1 1 0 ∷ ln 5 0 0 0 3 ∷ ln 4 22 1 1 0 ∷ ln 5 23 0 0 0 ∷ ln 4 22 1 1 0
-    ∷ ln 5 19 0 0 0 ∷ ln 6 20 0 0 0 ∷ ln 7 21 0 0 0 ∷ ln 8 22 1 1 0 ∷ ln 9 0 0 0 2 ∷ []
+    ln 0 Quote 0 0 0 ∷ ln 1 Table 0 0 0 ∷ ln 2 Body 0 0 0 ∷ ln 3 Row 0 0 0 ∷ ln 4 Cell 1 1 0 ∷ ln 5 Text 0 0 3 ∷ ln 4 Cell 1 1 0 ∷ ln 5 Frag 0 0 0 ∷ ln 4 Cell 1 1 0
+    ∷ ln 5 Table 0 0 0 ∷ ln 6 Body 0 0 0 ∷ ln 7 Row 0 0 0 ∷ ln 8 Cell 1 1 0 ∷ ln 9 Text 0 0 2 ∷ []
 
 -- `abc` in the first cell of a table, and in its second a table with an empty cell
 abbrev lost : List Kept
 lost =
-    ln 0 19 0 0 0 ∷ ln 1 20 0 0 0 ∷ ln 2 21 0 0 0 ∷ ln 3 22 1 1 0 ∷ ln 4 0 0 0 3 ∷ ln 3 22 1 1 0 ∷ ln 4 19 0 0 0 ∷ ln 5 20 0 0 0 ∷ ln 6 21 0 0 0
-    ∷ ln 7 22 1 1 0 ∷ []
+    ln 0 Table 0 0 0 ∷ ln 1 Body 0 0 0 ∷ ln 2 Row 0 0 0 ∷ ln 3 Cell 1 1 0 ∷ ln 4 Text 0 0 3 ∷ ln 3 Cell 1 1 0 ∷ ln 4 Table 0 0 0 ∷ ln 5 Body 0 0 0 ∷ ln 6 Row 0 0 0
+    ∷ ln 7 Cell 1 1 0 ∷ []
 
 -- a table in a quote, with the cell `abc`
 abbrev squeezed : List Kept
-squeezed = ln 0 12 0 0 0 ∷ ln 1 19 0 0 0 ∷ ln 2 20 0 0 0 ∷ ln 3 21 0 0 0 ∷ ln 4 22 1 1 0 ∷ ln 5 0 0 0 3 ∷ []
+squeezed = ln 0 Quote 0 0 0 ∷ ln 1 Table 0 0 0 ∷ ln 2 Body 0 0 0 ∷ ln 3 Row 0 0 0 ∷ ln 4 Cell 1 1 0 ∷ ln 5 Text 0 0 3 ∷ []
 
 pub record Walks : Type 0 where
   -- the quote takes off its prefix

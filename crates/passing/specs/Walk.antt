@@ -3,7 +3,7 @@ use Rattle.lists.specs.declared.Reason.TheVariants.{TooNarrow}
 use Rattle.std.specs.Prelude.{Option, Some, None, Bool, false, cond, ◌&&◌, ◌||◌, List, [], ◌∷◌, ◌++◌, map, ℕ, zero, suc, ◌+◌, ◌-◌, max, eqb, ltb, length, get_or}
 use Rattle.lists.specs.Refusals.{Check, check}
 use Rattle.text.specs.declared.Estimate.{Estimate}
-use Rattle.kinds.specs.Kinds.{head_kind, quote_kind, ul_kind, ol_kind, dd_kind, cell_kind}
+use Rattle.kinds.specs.Kinds.{kind_number, head_kind, quote_kind, ul_kind, ol_kind, dd_kind, cell_kind}
 use Rattle.records.specs.Kept.{no_kept}
 use Rattle.records.specs.declared.Kept.{Kept}
 use Rattle.cells.specs.Listed.{table_rows}
@@ -61,14 +61,14 @@ from_nearest gives ks d (suc i) = cond (eqb (get_or ks i no_kept).depth d) (give
 
 -- what the line at place p passes on, where the lines have the widths ws
 abbrev pub passed_by : (wrap : ℕ) (ks : List Kept) → List (Option ℕ) → ℕ → Option ℕ
-passed_by wrap ks ws p = passed_on (get_or ks p no_kept).kind (get_or (estimates wrap ks) p none) (get_or ws p None)
+passed_by wrap ks ws p = passed_on (kind_number (get_or ks p no_kept).kind) (get_or (estimates wrap ks) p none) (get_or ws p None)
 
 -- the width of the line at place i, where the lines before it have the widths ws: the first line has the page's; a cell its width in its table,
 -- which is the nearest line three less deep; any other what its parent passes on, the nearest line one less deep
 unfoldable pub line_width : (wrap raw root : ℕ) (ks : List Kept) → List (Option ℕ) → ℕ → Option ℕ
 line_width wrap raw root ks ws i =
     cond (eqb i 0) (Some root)
-    (cond (eqb (get_or ks i no_kept).kind cell_kind)
+    (cond (eqb (kind_number (get_or ks i no_kept).kind) cell_kind)
     (from_nearest (λ t. cell_width wrap raw ks t (get_or ws t None) i) ks ((get_or ks i no_kept).depth - 3) i)
     (from_nearest (passed_by wrap ks ws) ks ((get_or ks i no_kept).depth - 1) i))
 
@@ -88,7 +88,7 @@ walk wrap raw root ks = walk_to wrap raw root ks (length ks)
 
 -- the line at place i is too narrow
 abbrev pub narrow_at : (wrap raw root : ℕ) (ks : List Kept) → ℕ → Bool
-narrow_at wrap raw root ks i = too_narrow (get_or ks i no_kept).kind (get_or (estimates wrap ks) i none) (get_or (walk wrap raw root ks) i None)
+narrow_at wrap raw root ks i = too_narrow (kind_number (get_or ks i no_kept).kind) (get_or (estimates wrap ks) i none) (get_or (walk wrap raw root ks) i None)
 
 -- the n lines from place i on, in turn, if overflow is off
 unfoldable pub narrow_from : (wrap raw root overflow : ℕ) (ks : List Kept) → ℕ → ℕ → List Check

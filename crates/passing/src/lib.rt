@@ -2,24 +2,28 @@
 #![tactic(auto)]
 
 ghost use Rattle.std.specs.Prelude.{◌≡◌};
+ghost use Rattle.kinds.specs.Kinds.{kind_number};
 ghost use Rattle.passing.specs.Walk.{takes_off, passed_on, too_narrow, printed};
 
-use kinds::{DD, HEAD, OL, QUOTE, UL};
+use kinds::Kind;
 use text::Estimate;
 
 // The width of a line is an `Option<u32>`: what stands in a missing cell has none, which is not the width 0.
 
 // These take off their prefix.
 #[tactic(auto, unfolding(crate::specs::Walk::takes_off))]
-fn takes_off(kind: u32) -> bool
-    ensures { result ≡ takes_off kind }
+fn takes_off(kind: Kind) -> bool
+    ensures { result ≡ takes_off (kind_number kind) }
 {
-    matches!(kind, HEAD | QUOTE | UL | OL | DD)
+    matches!(
+        kind,
+        Kind::Head | Kind::Quote | Kind::Ul | Kind::Ol | Kind::Dd
+    )
 }
 
 // The rest without the prefix, but no less than the line's own least width without it.
-pub fn passed_on(kind: u32, e: Estimate, w: Option<u32>) -> Option<u32>
-    ensures { result ≡ passed_on kind e w }
+pub fn passed_on(kind: Kind, e: Estimate, w: Option<u32>) -> Option<u32>
+    ensures { result ≡ passed_on (kind_number kind) e w }
 {
     let v = w?;
     if takes_off(kind) {
@@ -30,8 +34,8 @@ pub fn passed_on(kind: u32, e: Estimate, w: Option<u32>) -> Option<u32>
 }
 
 // Whether the rest is less than that.
-pub fn too_narrow(kind: u32, e: Estimate, w: Option<u32>) -> bool
-    ensures { result ≡ too_narrow kind e w }
+pub fn too_narrow(kind: Kind, e: Estimate, w: Option<u32>) -> bool
+    ensures { result ≡ too_narrow (kind_number kind) e w }
 {
     match w {
         Some(v) => takes_off(kind) && v.saturating_sub(e.prefix) < e.least.saturating_sub(e.prefix),

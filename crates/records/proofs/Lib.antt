@@ -1,4 +1,1 @@
 pub mod Records
-pub mod Kepts
-pub mod Figures
-pub mod Numbers

@@ -1,16 +1,16 @@
 // Each table of a walked sheet, laid out and printed.
 ghost use Rattle.std.specs.Prelude.{◌≡◌, ◌≤◌, length};
 ghost use Rattle.lists.specs.Limits.{max_lines};
-ghost use Rattle.records.specs.Kept.{kepts_of, entries_of};
 ghost use Rattle.walking.specs.inner.Steps.{Rooms};
 ghost use Rattle.causes.specs.inner.Fronts.{FrontReady};
-ghost use Rattle.report.specs.inner.Read.{Listable, TableAt, WalkNarrow, RowsFew};
+ghost use Rattle.report.specs.inner.Read.{Listable, TableAt, WalkNarrow};
 
 use super::{Asked, Form};
 use answers::Way;
 use gridding::Counts;
-use kinds::TABLE;
+use kinds::Kind;
 use printing::Output;
+use records::{Entry, Kept, RowEnd};
 use text::Estimate;
 use writing::entries::Entries;
 
@@ -22,24 +22,21 @@ fn shown(
     way: Way,
     counts: Counts,
     figures: &[Estimate],
-    grid: &[u32],
-    rows: &[u32],
+    grid: &[Entry],
+    rows: &[RowEnd],
     column: &[u32],
     x: &mut [u32],
     wide: &mut [u32],
 )
-    requires front_ready { FrontReady counts.entries counts.columns (entries_of grid.now) figures.now x.old wide.old }
-    requires rows_few { RowsFew counts.rows rows.now }
+    requires front_ready { FrontReady counts.entries counts.columns grid.now figures.now x.old wide.old }
+    requires rows_few { counts.rows ≤ max_lines }
 {
     match asked.form {
         Form::Layout => {
             let entries = Entries {
-                rows: counts.rows as u32,
-                row: rows,
-                end: &rows[1..],
-                each_row: 2,
-                cell: grid,
-                each: 3,
+                count: counts.rows as u32,
+                rows,
+                grid,
                 start: x,
                 extent: wide,
             };
@@ -66,16 +63,16 @@ fn table(
     out: &mut Output,
     place: usize,
     asked: Asked,
-    lines: &[u32],
+    lines: &[Kept],
     figures: &[Estimate],
-    grid: &mut [u32],
-    rows: &mut [u32],
+    grid: &mut [Entry],
+    rows: &mut [RowEnd],
     column: &mut [u32],
     x: &mut [u32],
     wide: &mut [u32],
 )
-    requires table_at { TableAt (kepts_of lines.now) place }
-    requires listable { Listable (kepts_of lines.now) figures.now asked.width }
+    requires table_at { TableAt lines.now place }
+    requires listable { Listable lines.now figures.now asked.width }
     requires rooms { Rooms grid.old rows.old column.old x.old wide.old }
 {
     let arranged = table::arrange(
@@ -104,18 +101,18 @@ fn walked_table(
     out: &mut Output,
     place: usize,
     asked: Asked,
-    lines: &[u32],
+    lines: &[Kept],
     figures: &[Estimate],
     walk: &[Option<u32>],
-    grid: &mut [u32],
-    rows: &mut [u32],
+    grid: &mut [Entry],
+    rows: &mut [RowEnd],
     column: &mut [u32],
     x: &mut [u32],
     wide: &mut [u32],
 )
-    requires table_at { TableAt (kepts_of lines.now) place }
-    requires listable { Listable (kepts_of lines.now) figures.now asked.width }
-    requires walk_narrow { WalkNarrow (length (kepts_of lines.now)) walk.now }
+    requires table_at { TableAt lines.now place }
+    requires listable { Listable lines.now figures.now asked.width }
+    requires walk_narrow { WalkNarrow (length lines.now) walk.now }
     requires rooms { Rooms grid.old rows.old column.old x.old wide.old }
 {
     let Some(width) = walk[place] else {
@@ -140,21 +137,21 @@ fn walked_table(
 pub fn all_tables(
     out: &mut Output,
     asked: Asked,
-    lines: &[u32],
+    lines: &[Kept],
     figures: &[Estimate],
     walk: &[Option<u32>],
-    grid: &mut [u32],
-    rows: &mut [u32],
+    grid: &mut [Entry],
+    rows: &mut [RowEnd],
     column: &mut [u32],
     x: &mut [u32],
     wide: &mut [u32],
 )
-    requires listable { Listable (kepts_of lines.now) figures.now asked.width }
-    requires walk_narrow { WalkNarrow (length (kepts_of lines.now)) walk.now }
+    requires listable { Listable lines.now figures.now asked.width }
+    requires walk_narrow { WalkNarrow (length lines.now) walk.now }
     requires rooms { Rooms grid.old rows.old column.old x.old wide.old }
 {
-    for i in 0..records::count(lines) {
-        if records::kept_at(lines, i).kind == TABLE {
+    for i in 0..lines.len() {
+        if lines[i].kind == Kind::Table {
             walked_table(
                 out, i, asked, lines, figures, walk, grid, rows, column, x, wide,
             );

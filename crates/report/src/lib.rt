@@ -6,12 +6,12 @@ mod each; // each.rt: each table of a walked sheet
 
 ghost use Rattle.std.specs.Prelude.{◌≡◌, ◌≤◌, length};
 ghost use Rattle.lists.specs.Limits.{max_size};
-ghost use Rattle.records.specs.Kept.{kepts_of};
 ghost use Rattle.report.specs.inner.Read.{Listable, WalkNarrow, ReadListable};
 
 use arguments::Settings;
 use lists::{MAX_ENTRIES, MAX_LINES, MAX_POSITION, Refusal};
 use printing::Output;
+use records::Kept;
 use text::Estimate;
 
 // What is printed of a table: its layout, or what explains it. A switch and no type parameter: seven functions would carry it for one `match`.
@@ -30,12 +30,12 @@ pub struct Asked {
 }
 
 // Puts every table of a walked sheet. All tables are laid out in the same arrays.
-fn laid(out: &mut Output, asked: Asked, kept: &[u32], figures: &[Estimate], walk: &[Option<u32>])
-    requires listable { Listable (kepts_of kept.now) figures.now asked.width }
-    requires walk_narrow { WalkNarrow (length (kepts_of kept.now)) walk.now }
+fn laid(out: &mut Output, asked: Asked, kept: &[Kept], figures: &[Estimate], walk: &[Option<u32>])
+    requires listable { Listable kept.now figures.now asked.width }
+    requires walk_narrow { WalkNarrow (length kept.now) walk.now }
 {
-    let mut grid = [0u32; 3 * MAX_ENTRIES];
-    let mut rows = [0u32; 2 * MAX_LINES];
+    let mut grid = [records::NO_ENTRY; MAX_ENTRIES];
+    let mut rows = [records::NO_ROW; MAX_LINES];
     let mut column = [0u32; MAX_POSITION];
     let mut x = [0u32; MAX_ENTRIES];
     let mut wide = [0u32; MAX_ENTRIES];
@@ -58,14 +58,14 @@ fn told(
     out: &mut Output,
     asked: Asked,
     read: Result<usize, Refusal>,
-    kept: &[u32],
+    kept: &[Kept],
     figures: &[Estimate],
     walk: &[Option<u32>],
 )
     requires { ReadListable read kept.now figures.now asked.width walk.now }
 {
     match read {
-        Ok(n) => laid(out, asked, &kept[..records::WIDTH * n], figures, walk),
+        Ok(n) => laid(out, asked, &kept[..n], figures, walk),
         Err(why) => writing::refusal(out, why),
     }
 }
@@ -75,7 +75,7 @@ fn told(
 fn opened(out: &mut Output, sheet: &[u8], wrap: u32, asked: Asked)
     requires { (asked.raw ≤ 1) × (asked.width ≤ max_size) }
 {
-    let mut kept = [0u32; records::WIDTH * MAX_LINES];
+    let mut kept = [records::NO_LINE; MAX_LINES];
     let mut figures = [estimates::NONE; MAX_LINES];
     let mut walk = [None; MAX_LINES];
     let mut leasts = [0u32; MAX_POSITION];

@@ -1,13 +1,13 @@
 // A line for each column of a table: its size, its least width, its share, its final width and its cause.
 ghost use Rattle.std.specs.Prelude.{◌≡◌, ◌≤◌, length};
 ghost use Rattle.lists.specs.Limits.{max_position};
-ghost use Rattle.records.specs.Kept.{entries_of};
 ghost use Rattle.sizing.specs.inner.Room.{Entered, Raisable};
 ghost use Rattle.report_causes.specs.inner.Rooms.{ColumnRooms};
 
 use answers::Way;
 use lists::MAX_POSITION;
 use printing::Output;
+use records::Entry;
 use text::Estimate;
 use writing::entries::number_at;
 use writing::lines::{number, words};
@@ -53,13 +53,13 @@ impl Figures<'_> {
     // Puts the line of one column. Down the page every column has the width, and that is its share too.
     fn put_one(&self, out: &mut Output, j: u32) {
         let share = match self.way {
-            Way::Sideways => number_at(self.shares, 1, j),
+            Way::Sideways => number_at(self.shares, j),
             Way::Down => self.width,
         };
-        let size = number_at(self.sizes, 1, j);
-        four_spaced(out, j, size, number_at(self.leasts, 1, j), share);
-        spaced(out, number_at(self.column, 1, j));
-        word(out, number_at(self.cause, 1, j));
+        let size = number_at(self.sizes, j);
+        four_spaced(out, j, size, number_at(self.leasts, j), share);
+        spaced(out, number_at(self.column, j));
+        word(out, number_at(self.cause, j));
     }
 
     // Puts the line of every column.
@@ -78,14 +78,14 @@ fn figured(
     way: Way,
     width: u32,
     figures: &[Estimate],
-    entries: &[u32],
+    entries: &[Entry],
     column: &[u32],
     cause: &[u32],
     sizes: &mut [u32],
     leasts: &mut [u32],
     shares: &mut [u32],
 )
-    requires raisable { Raisable (entries_of entries.now) figures.now sizes.old leasts.old }
+    requires raisable { Raisable entries.now figures.now sizes.old leasts.old }
     requires shares_len { (length shares.old ≡ length sizes.old) × (length sizes.old ≤ max_position) }
 {
     sizing::raise_columns(entries, figures, sizes, leasts);
@@ -109,14 +109,14 @@ fn figured_front(
     width: u32,
     c: usize,
     figures: &[Estimate],
-    entries: &[u32],
+    entries: &[Entry],
     column: &[u32],
     cause: &[u32],
     sizes: &mut [u32],
     leasts: &mut [u32],
     shares: &mut [u32],
 )
-    requires entered { Entered (entries_of entries.now) figures.now c }
+    requires entered { Entered entries.now figures.now c }
     requires column_rooms { ColumnRooms c sizes.old leasts.old shares.old }
 {
     figured(
@@ -140,11 +140,11 @@ pub fn columns(
     width: u32,
     c: usize,
     figures: &[Estimate],
-    entries: &[u32],
+    entries: &[Entry],
     column: &[u32],
     cause: &[u32],
 )
-    requires entered { Entered (entries_of entries.now) figures.now c }
+    requires entered { Entered entries.now figures.now c }
     requires c_le_max_position { c ≤ max_position }
 {
     let mut sizes = [0u32; MAX_POSITION];

@@ -5,7 +5,6 @@
 mod columns_told; // columns_told.rt: a line for each column, with its cause
 mod losses; // losses.rt: which entries are missing, and how many
 
-ghost use Rattle.records.specs.Kept.{entries_of};
 ghost use Rattle.causes.specs.inner.Fronts.{FrontReady};
 
 use answers::Way;
@@ -13,6 +12,7 @@ use columns_told::columns;
 use gridding::Counts;
 use losses::Missed;
 use printing::Output;
+use records::{Entry, RowEnd};
 use text::Estimate;
 
 // Puts what is told of a table, whose grid and final widths stand in the front of their slices. The last two are room for the missing entries and the
@@ -24,18 +24,18 @@ pub fn told(
     width: u32,
     counts: Counts,
     figures: &[Estimate],
-    grid: &[u32],
-    rows: &[u32],
+    grid: &[Entry],
+    rows: &[RowEnd],
     column: &[u32],
     missing: &mut [u32],
     cause: &mut [u32],
 )
-    requires { FrontReady counts.entries counts.columns (entries_of grid.now) figures.now missing.old cause.old }
+    requires { FrontReady counts.entries counts.columns grid.now figures.now missing.old cause.old }
 {
     let n = counts.entries;
     let c = counts.columns;
     let count = causes::fronts::explain_front(n, c, grid, figures, raw, width, missing, cause);
-    columns(out, way, width, c, figures, &grid[..3 * n], column, cause);
+    columns(out, way, width, c, figures, &grid[..n], column, cause);
     let missed = Missed {
         rows,
         grid,

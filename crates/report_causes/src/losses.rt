@@ -1,15 +1,16 @@
 // Which entries of a table are missing, by their numbers in the grid, which ascend. What stands in the slices is not trusted: each index is tested.
 use super::columns_told::four_spaced;
 use printing::Output;
+use records::{Entry, RowEnd};
 use text::Estimate;
-use writing::entries::number_at;
+use writing::entries::{entry_at, number_at};
 use writing::lines::{number, two, words};
 
 // The rows and the grid of a table, its figures, and the first so many numbers of the slice of the missing entries.
 #[derive(Clone, Copy)]
 pub struct Missed<'a> {
-    pub rows: &'a [u32],
-    pub grid: &'a [u32],
+    pub rows: &'a [RowEnd],
+    pub grid: &'a [Entry],
     pub figures: &'a [Estimate],
     pub missing: &'a [u32],
     pub count: u32,
@@ -32,8 +33,8 @@ impl Missed<'_> {
     // With how many of the missing entries something is lost: a cell of a size above 0.
     fn lost(&self) -> u32 {
         let is_lost = |k: &u32| {
-            let e = number_at(self.missing, 1, *k);
-            self.size_of(number_at(self.grid, 3, e)) > 0
+            let e = number_at(self.missing, *k);
+            self.size_of(entry_at(self.grid, e).cell) > 0
         };
         (0..self.count).filter(is_lost).count() as u32
     }
@@ -41,21 +42,21 @@ impl Missed<'_> {
     // The row of an entry, from a row on: the first whose entries end after it.
     fn row_of(&self, from: usize, e: u32) -> usize {
         let rows = self.rows;
-        for i in from..rows.len() / 2 {
-            if e < records::row_at(rows, i).end {
+        for i in from..rows.len() {
+            if e < rows[i].end {
                 return i;
             }
         }
-        rows.len() / 2
+        rows.len()
     }
 
     // Puts the line of one entry: row, cell, first column, span and size.
     fn put_one(&self, out: &mut Output, row: usize, e: usize) {
-        if row >= self.rows.len() / 2 || e >= self.grid.len() / 3 {
+        if row >= self.rows.len() || e >= self.grid.len() {
             return;
         }
-        let shown = records::row_at(self.rows, row);
-        let entry = records::entry_at(self.grid, e);
+        let shown = self.rows[row];
+        let entry = self.grid[e];
         four_spaced(out, shown.line, entry.cell, entry.first, entry.span);
         number(out, self.size_of(entry.cell));
         words(out, b"\n");
@@ -68,7 +69,7 @@ impl Missed<'_> {
         words(out, b"row cell first span size\n");
         let mut row = 0;
         for k in 0..self.count {
-            let e = number_at(self.missing, 1, k);
+            let e = number_at(self.missing, k);
             row = self.row_of(row, e);
             self.put_one(out, row, e as usize);
         }

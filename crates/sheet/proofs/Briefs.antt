@@ -4,11 +4,12 @@ use mathlib.Core.Bool.{Bool, cond}
 use mathlib.Core.List.{List}
 use Prim.Native.Nat.{ℕ, ◌≤◌}
 use native.Mathlib.Omega.{arith}
+use Rattle.kinds.specs.declared.Kind.{Kind}
+use Rattle.kinds.specs.Kinds.{kind_number}
 use Rattle.std.specs.Prelude.{Ok, Err}
 use Rattle.lists.specs.declared.Reason.{Reason}
 use Rattle.lists.specs.declared.Reason.TheVariants.{Nesting}
 use Rattle.lists.specs.Limits.{max_depth}
-use Rattle.records.specs.Kept.{kept_with}
 use Rattle.records.specs.declared.Kept.{Kept}
 use Rattle.line.specs.LineAt.{LineRead, line_at}
 use Rattle.line.specs.declared.Node.{Node}
@@ -19,12 +20,10 @@ use Rattle.sheet.specs.Steps.{breaks_nesting, judgement_of, BriefOf, Answers}
 -- a line as it is kept has its depth and its kind
 
 module _ {node : Node} {b : Brief} (w : BriefOf node b) where
-  pub depth_of : b.depth ≡ node.depth
-  unfolding kept_with
+  pub depth_of : b.line.depth ≡ node.depth
   depth_of = ap (λ (k : Kept). k.depth) w.kept
 
-  pub kind_of : b.kind ≡ node.kind
-  unfolding kept_with
+  pub kind_of : b.line.kind ≡ node.kind
   kind_of = ap (λ (k : Kept). k.kind) w.kept
 
 -- answers
@@ -45,15 +44,15 @@ faulty_answers why e =
 
 -- from a line by itself to the line after others
 
-pub read_deep : (s : List ℕ) (at : ℕ) (v : Node) (b : Brief) → line_at s at ≡ Ok v → BriefOf v b → b.depth ≤ max_depth
+pub read_deep : (s : List ℕ) (at : ℕ) (v : Node) (b : Brief) → line_at s at ≡ Ok v → BriefOf v b → b.line.depth ≤ max_depth
 read_deep s at v b e w = omega (arith, depth_of w, (good_line s at v e).deep)
 
-module _ (chain : List ℕ) (lines previous : ℕ) where
+module _ (chain : List Kind) (lines previous : ℕ) where
   pub judged_faulty : (r : LineRead) (why : Reason) → r ≡ Err why → judgement_of chain lines previous r ≡ Err why
   unfolding judgement_of
   judged_faulty r why e = rw e
 
-  pub judged_sound : (r : LineRead) (v : Node) (b : Brief) (t : Bool) → r ≡ Ok v → BriefOf v b → breaks_nesting chain lines previous b.depth b.kind ≡ t
+  pub judged_sound : (r : LineRead) (v : Node) (b : Brief) (t : Bool) → r ≡ Ok v → BriefOf v b → breaks_nesting chain lines previous b.line.depth (kind_number b.line.kind) ≡ t
       → judgement_of chain lines previous r ≡ cond t (Err Nesting) (Ok v)
   unfolding judgement_of
   judged_sound r v b t e w q = rw (e, ← depth_of w, ← kind_of w, q)

@@ -10,11 +10,11 @@ use lib.Dec.{leb}
 use lib.ListN.{length, get_or, drop, drop_of_length-le, length-map, get_or-map}
 use lib.Seq.{drop-cons}
 use borrow.Author.Tests.{le-leb, lt-leb}
+use Rattle.kinds.specs.Kinds.{kind_number}
 use Rattle.std.specs.Prelude.{Err, Ok}
 use Rattle.lists.specs.declared.Reason.TheVariants.{Nesting}
 use Rattle.lists.specs.Refusals.{Check, check, first_answer, refusal}
-use Rattle.records.specs.Kept.{no_kept, kept_count, kepts_of}
-use Rattle.records.proofs.Kepts.{length_kepts}
+use Rattle.records.specs.Kept.{no_kept}
 use Rattle.records.specs.declared.Kept.{Kept}
 use Rattle.line.specs.Fields.{Line, no_line}
 use Rattle.sheet.specs.Nesting.{childless, left_empty, depth_at}
@@ -38,15 +38,15 @@ module _ (ls : List Line) (i : ℕ) where
 
 -- no more than depth and kind is asked
 
-pub bare_length : (xs : List ℕ) → length (bare (kepts_of xs)) ≡ kept_count xs
-bare_length xs = length-map (kepts_of xs) bare_line ∙ length_kepts xs
+pub bare_length : (xs : List Kept) → length (bare xs) ≡ length xs
+bare_length xs = length-map xs bare_line
 
 pub bare_empty : (ks : List Kept) (i : ℕ) → empty_at ks i ≡ left_empty_at (bare ks) i
 unfolding empty_at
 bare_empty ks i =
     let at : (j : ℕ) → get_or (bare ks) j no_line ≡ bare_line (get_or ks j no_kept) = λ j. get_or-map bare_line ks j no_kept in
     let d : (j : ℕ) → depth_at (bare ks) j ≡ (get_or ks j no_kept).depth = λ j. ap (λ (l : Line). l.depth) (at j) in
-    rw (childless_at (bare ks) i, length-map ks bare_line, d (i + 1), d i, ap (λ (l : Line). l.kind) (at i))
+    rw (childless_at (bare ks) i, length-map ks bare_line, d (i + 1), d i, ap (λ (l : Line). kind_number l.kind) (at i))
 
 bare_checks : (k : ℕ) (ls : List Line) → empty_checks k (bare (map kept_of ls)) ≡ empty_checks k ls
 unfolding empty_checks childless

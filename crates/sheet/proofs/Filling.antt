@@ -12,7 +12,7 @@ use borrow.Author.Tests.{lt-leb}
 use Rattle.std.specs.Prelude.{Ok}
 use Rattle.records.specs.Kept.{no_kept}
 use Rattle.records.specs.declared.Kept.{Kept}
-use Rattle.kinds.specs.Kinds.{table_kind, body_kind}
+use Rattle.kinds.specs.Kinds.{kind_number, table_kind, body_kind}
 use Rattle.sheet.specs.Steps.{empty_at, FilledTo, Lacks, line_end, bare, bare_line}
 use Rattle.sheet.proofs.Ending.{EndsFrom, bare_empty, ends_start, ends_more, ends_all}
 
@@ -29,7 +29,7 @@ module _ (ks : List Kept) where
   unfolding empty_at
   filled_more i r f h l e = filled_on i f (rw (lt-leb (length ks) (i + 1) h) (l.filled e))
 
-  pub filled_last : (i : ℕ) → FilledTo ks i → (eqb (get_or ks i no_kept).kind table_kind || eqb (get_or ks i no_kept).kind body_kind) ≡ false → FilledTo ks (i + 1)
+  pub filled_last : (i : ℕ) → FilledTo ks i → (eqb (kind_number (get_or ks i no_kept).kind) table_kind || eqb (kind_number (get_or ks i no_kept).kind) body_kind) ≡ false → FilledTo ks (i + 1)
   unfolding empty_at
   filled_last i f e = filled_on i f (rw e)
 

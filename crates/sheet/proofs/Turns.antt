@@ -8,6 +8,7 @@ use native.Mathlib.Omega.{arith}
 use lib.ListN.{length, get_or, take, drop, set, replicate}
 use lib.Seq.{take_all}
 use borrow.Author.Tests.{le-ltb}
+use Rattle.records.specs.declared.Kept.{Kept}
 use Rattle.std.specs.Prelude.{Err, Ok, Result}
 use Rattle.lists.specs.declared.Reason.{Reason}
 use Rattle.lists.specs.declared.Reason.TheVariants.{TextByte, Nesting, NoExpression, OutOfBounds}
@@ -15,9 +16,9 @@ use Rattle.lists.specs.declared.Reason.TheVariants as reason
 use Rattle.lists.specs.declared.Refusal.{Refusal}
 use Rattle.lists.specs.Limits.{max_bytes, max_feeds, max_depth, depths}
 use Rattle.lists.specs.Refusals.{first_answer, refusal}
-use Rattle.kinds.specs.Kinds.{kind_count}
-use Rattle.records.specs.Kept.{kept_with, kepts_of, kept_count}
-use Rattle.records.proofs.Kepts.{length_kepts}
+use Rattle.kinds.specs.declared.Kind.{Kind}
+use Rattle.kinds.specs.declared.Kind.TheVariants.{Text}
+use Rattle.kinds.specs.Kinds.{kind_number}
 use Rattle.fields.specs.Lines.{Piece, feeds, pieces, node_pieces, heading_bytes}
 use Rattle.line.specs.Fields.{Line, no_line, read_line, is_unread, has_bad_byte, not_expression, out_of_bounds, or_none}
 use Rattle.line.specs.LineAt.{LineRead, piece_at, node_of, line_in, line_at}
@@ -39,7 +40,7 @@ use Rattle.sheet.proofs.Storing.{stored_more}
 use Rattle.sheet.proofs.Briefs.{depth_of, kind_of}
 
 -- after n lines, of the sheet s, at the place where the next one starts; the slice is a before the loop, and b now
-pub record ReadingLoop (s : List ℕ) (a b : List ℕ) (chain : List ℕ) (previous at n : ℕ) : Type 0 where
+pub record ReadingLoop (s : List ℕ) (a b : List Kept) (chain : List Kind) (previous at n : ℕ) : Type 0 where
   pub within : at ≤ length s
   pub place : pieces (drop at s) ≡ drop n (node_pieces s)
   pub count : n ≤ length (sheet_lines s)
@@ -48,10 +49,10 @@ pub record ReadingLoop (s : List ℕ) (a b : List ℕ) (chain : List ℕ) (previ
   pub answer : reading_of s
       ≡ first_answer Err (Ok (length (sheet_lines s)))
       (lines_checks (suc n) (earlier n (sheet_lines s)) (drop n (node_pieces s)) ++ end_checks (sheet_lines s))
-  pub stored : take n (kepts_of b) ≡ map kept_of (take n (sheet_lines s))
+  pub stored : take n b ≡ map kept_of (take n (sheet_lines s))
   pub same : length b ≡ length a
 
-pub turns_start : (s a : List ℕ) → Begun s → ReadingLoop s a a (replicate depths 0) 0 heading_bytes 0
+pub turns_start : (s : List ℕ) (a : List Kept) → Begun s → ReadingLoop s a a (replicate depths Text) 0 heading_bytes 0
 unfolding earlier reading_of sheet_checks first_answer
 turns_start s a g = record {
   within = heading_long s g.headed;
@@ -68,9 +69,8 @@ turns_start s a g = record {
     start = rw (le-ltb max_bytes (length s) g.short, le-ltb max_feeds (feeds s) g.few, g.headed)
 
 -- what is known of a sound line before it is stored
-pub record NextLine (s : List ℕ) (at n depth kind next : ℕ) : Type 0 where
+pub record NextLine (s : List ℕ) (at n depth next : ℕ) : Type 0 where
   pub deep : depth ≤ max_depth
-  pub known : kind < kind_count
   pub ahead : at < next
   pub ends : next ≤ length s
   pub few : n + 2 ≤ feeds s
@@ -81,18 +81,18 @@ pub record NextLine (s : List ℕ) (at n depth kind next : ℕ) : Type 0 where
 abbrev answered : Bool → Bool → Bool → Bool → Node → LineRead
 answered u y x z w = cond u (Err reason.Fields) (cond y (Err TextByte) (cond x (Err NoExpression) (cond z (Err OutOfBounds) (Ok w))))
 
-module _ (chain : List ℕ) (n previous : ℕ) where
-  told_good : (r : LineRead) (v : Node) → judgement_of chain n previous r ≡ Ok v → (r ≡ Ok v) × (breaks_nesting chain n previous v.depth v.kind ≡ false)
+module _ (chain : List Kind) (n previous : ℕ) where
+  told_good : (r : LineRead) (v : Node) → judgement_of chain n previous r ≡ Ok v → (r ≡ Ok v) × (breaks_nesting chain n previous v.depth (kind_number v.kind) ≡ false)
   unfolding judgement_of
   told_good (Err why) v e = let z : ◌≡◌ {A = ℕ} 0 1 = cc in absurd (omega arith)
-  told_good (Ok w) v e = at (breaks_nesting chain n previous w.depth w.kind) refl e
+  told_good (Ok w) v e = at (breaks_nesting chain n previous w.depth (kind_number w.kind)) refl e
     where
-      at : (m : Bool) → breaks_nesting chain n previous w.depth w.kind ≡ m → ◌≡◌ {A = LineRead} (cond m (Err Nesting) (Ok w)) (Ok v)
-          → (◌≡◌ {A = LineRead} (Ok w) (Ok v)) × (breaks_nesting chain n previous v.depth v.kind ≡ false)
+      at : (m : Bool) → breaks_nesting chain n previous w.depth (kind_number w.kind) ≡ m → ◌≡◌ {A = LineRead} (cond m (Err Nesting) (Ok w)) (Ok v)
+          → (◌≡◌ {A = LineRead} (Ok w) (Ok v)) × (breaks_nesting chain n previous v.depth (kind_number v.kind) ≡ false)
       at true q e = let z : ◌≡◌ {A = ℕ} 0 1 = cc in absurd (omega arith)
       at false q e = let f : w ≡ v = cc in (ap Ok f, rw f at q)
 
-  told_faulty : (u y x z m : Bool) (w : Node) (r : Result ℕ Refusal) (why : Reason) (line : ℕ) → breaks_nesting chain n previous w.depth w.kind ≡ m
+  told_faulty : (u y x z m : Bool) (w : Node) (r : Result ℕ Refusal) (why : Reason) (line : ℕ) → breaks_nesting chain n previous w.depth (kind_number w.kind) ≡ m
       → judgement_of chain n previous (answered u y x z w) ≡ Err why
       → cond u (Err (refusal reason.Fields line)) (cond y (Err (refusal TextByte line)) (cond x (Err (refusal NoExpression line))
       (cond z (Err (refusal OutOfBounds line)) (cond m (Err (refusal Nesting line)) r)))) ≡ Err (refusal why line)
@@ -102,12 +102,12 @@ module _ (chain : List ℕ) (n previous : ℕ) where
   told_faulty false false true z m w r why line q e = let f : NoExpression ≡ why = cc in rw f
   told_faulty false false false true m w r why line q e = let f : OutOfBounds ≡ why = cc in rw f
   told_faulty false false false false true w r why line q e =
-      let g : ◌≡◌ {A = LineRead} (cond (breaks_nesting chain n previous w.depth w.kind) (Err Nesting) (Ok w)) (Err why) = e in
+      let g : ◌≡◌ {A = LineRead} (cond (breaks_nesting chain n previous w.depth (kind_number w.kind)) (Err Nesting) (Ok w)) (Err why) = e in
       let g' : ◌≡◌ {A = LineRead} (Err Nesting) (Err why) = rw q at g in
       let f : Nesting ≡ why = cc in
       rw f
   told_faulty false false false false false w r why line q e =
-      let g : ◌≡◌ {A = LineRead} (cond (breaks_nesting chain n previous w.depth w.kind) (Err Nesting) (Ok w)) (Err why) = e in
+      let g : ◌≡◌ {A = LineRead} (cond (breaks_nesting chain n previous w.depth (kind_number w.kind)) (Err Nesting) (Ok w)) (Err why) = e in
       let g' : ◌≡◌ {A = LineRead} (Ok w) (Err why) = rw q at g in
       let z : ◌≡◌ {A = ℕ} 0 1 = cc in
       absurd (omega arith)
@@ -126,7 +126,7 @@ told_line false false true z w v e = let z : ◌≡◌ {A = ℕ} 0 1 = cc in abs
 told_line false false false true w v e = let z : ◌≡◌ {A = ℕ} 0 1 = cc in absurd (omega arith)
 told_line false false false false w v e = record { fields = refl; bytes = refl; sum = refl; bounds = refl; same = cc }
 
-module _ {s a b chain : List ℕ} {previous at n : ℕ} (t : ReadingLoop s a b chain previous at n) (h : at < length s) where
+module _ {s : List ℕ} {a b : List Kept} {chain : List Kind} {previous at n : ℕ} (t : ReadingLoop s a b chain previous at n) (h : at < length s) where
   here : Line
   here = or_none (read_line (piece_at s at))
 
@@ -151,7 +151,7 @@ module _ {s a b chain : List ℕ} {previous at n : ℕ} (t : ReadingLoop s a b c
   unfolding here lines_checks first_answer
   asked = t.answer ∙ rw rest
 
-  broken : breaks_nesting chain n previous here.depth here.kind ≡ misplaced (earlier n (sheet_lines s)) here
+  broken : breaks_nesting chain n previous here.depth (kind_number here.kind) ≡ misplaced (earlier n (sheet_lines s)) here
   unfolding here
   broken = linked_told t.linked here (piece_ranged (piece_at s at)).0.deep
 
@@ -175,8 +175,8 @@ module _ {s a b chain : List ℕ} {previous at n : ℕ} (t : ReadingLoop s a b c
   unfolding earlier
   earlier_here = rw (add-one n, line_here.1)
 
-  module _ (good : line_at s at ≡ Ok (node_of at (piece_at s at) here)) (fits : breaks_nesting chain n previous here.depth here.kind ≡ false)
-      (c : List ℕ) (r : n < kept_count a) (same : length c ≡ length b) (p : kepts_of c ≡ set (kepts_of b) n (kept_of here)) where
+  module _ (good : line_at s at ≡ Ok (node_of at (piece_at s at) here)) (fits : breaks_nesting chain n previous here.depth (kind_number here.kind) ≡ false)
+      (c : List Kept) (r : n < length a) (same : length c ≡ length b) (p : c ≡ set b n (kept_of here)) where
     more : ReadingLoop s a c (set chain here.depth here.kind) here.depth (at + length (piece_at s at).bytes + 1) (n + 1)
     unfolding here after line_at line_in
     more =
@@ -190,13 +190,13 @@ module _ {s a b chain : List ℕ} {previous at n : ℕ} (t : ReadingLoop s a b c
           linked = rw earlier_here (linked_more t.linked here (piece_ranged (piece_at s at)).0.deep);
           answer = asked ∙ rw (f.fields, f.bytes, f.sum, f.bounds, sym broken ∙ fits, earlier_here, ← (drop_here (piece_at s at) (node_pieces s) n (piece_at s at) after rest).2, add-one n);
           stored =
-              stored_more (sheet_lines s) n (kept_of here) (kepts_of b) (kepts_of c) t.stored line_here.0 (omega (arith, length_kepts b, t.same)) p (ap kept_of (sym line_here.1));
+              stored_more (sheet_lines s) n (kept_of here) b c t.stored line_here.0 (omega (arith, t.same)) p (ap kept_of (sym line_here.1));
           same = same ∙ t.same;
         }
 
   -- a sound line is the one that stands at the place
   as_read : (v : Node) (G : Node → Type 0) → judgement_of chain n previous (line_at s at) ≡ Ok v
-      → (line_at s at ≡ Ok (node_of at (piece_at s at) here) → breaks_nesting chain n previous here.depth here.kind ≡ false → G (node_of at (piece_at s at) here))
+      → (line_at s at ≡ Ok (node_of at (piece_at s at) here) → breaks_nesting chain n previous here.depth (kind_number here.kind) ≡ false → G (node_of at (piece_at s at) here))
       → G v
   unfolding here line_at line_in
   as_read v G e k =
@@ -206,25 +206,25 @@ module _ {s a b chain : List ℕ} {previous at n : ℕ} (t : ReadingLoop s a b c
 
   -- the line as it is kept
   module _ (x : Brief) (w : (node : Node) × (judgement_of chain n previous (line_at s at) ≡ Ok node) × BriefOf node x) where
-    pub turns_next : NextLine s at n x.depth x.kind x.next
+    pub turns_next : NextLine s at n x.line.depth x.next
     unfolding here
     turns_next =
-        rw (depth_of w.2, kind_of w.2, w.2.next)
-        (as_read w.0 (λ (v : Node). NextLine s at n v.depth v.kind v.next) w.1
+        rw (depth_of w.2, w.2.next)
+        (as_read w.0 (λ (v : Node). NextLine s at n v.depth v.next) w.1
         (λ g f.
         let l = good_line s at (node_of at (piece_at s at) here) g in
         let p = (piece_ranged (piece_at s at)).0 in
-        record { deep = p.deep; known = p.known; ahead = omega arith; ends = l.inside; few = omega (arith, feeds_at s at l.ended, t.few) }))
+        record { deep = p.deep; ahead = omega arith; ends = l.inside; few = omega (arith, feeds_at s at l.ended, t.few) }))
 
-    pub turns_more : (c : List ℕ) → n < kept_count a → length c ≡ length b → kepts_of c ≡ set (kepts_of b) n (kept_with x.depth x.kind x.figure)
-        → ReadingLoop s a c (set chain x.depth x.kind) x.depth x.next (n + 1)
+    pub turns_more : (c : List Kept) → n < length a → length c ≡ length b → c ≡ set b n x.line
+        → ReadingLoop s a c (set chain x.line.depth x.line.kind) x.line.depth x.next (n + 1)
     unfolding here
     turns_more c r m p =
         rw (depth_of w.2, kind_of w.2, w.2.next)
-        (as_read w.0 (λ (v : Node). kepts_of c ≡ set (kepts_of b) n (figures_of v) → ReadingLoop s a c (set chain v.depth v.kind) v.depth v.next (n + 1)) w.1
-        (λ g f p. more g f c r m p) (p ∙ ap (set (kepts_of b) n) w.2.kept))
+        (as_read w.0 (λ (v : Node). c ≡ set b n (figures_of v) → ReadingLoop s a c (set chain v.depth v.kind) v.depth v.next (n + 1)) w.1
+        (λ g f p. more g f c r m p) (p ∙ ap (set b n) w.2.kept))
 
-module _ {s a b chain : List ℕ} {previous at n : ℕ} (t : ReadingLoop s a b chain previous at n) (h : length s ≤ at) where
+module _ {s : List ℕ} {a b : List Kept} {chain : List Kind} {previous at n : ℕ} (t : ReadingLoop s a b chain previous at n) (h : length s ≤ at) where
   none : drop n (node_pieces s) ≡ []
   none = sym t.place ∙ pieces_end s at h
 
@@ -232,12 +232,12 @@ module _ {s a b chain : List ℕ} {previous at n : ℕ} (t : ReadingLoop s a b c
   unfolding sheet_lines
   count = omega (arith, lines_length (node_pieces s), drop_none (node_pieces s) n none, t.count)
 
-  stored : take n (kepts_of b) ≡ map kept_of (sheet_lines s)
+  stored : take n b ≡ map kept_of (sheet_lines s)
   stored = rw (take_all n (sheet_lines s) (omega (arith, count))) at t.stored
 
-  pub turns_stored : (m : ℕ) → m ≡ length (sheet_lines s) → take m (kepts_of b) ≡ map kept_of (sheet_lines s)
+  pub turns_stored : (m : ℕ) → m ≡ length (sheet_lines s) → take m b ≡ map kept_of (sheet_lines s)
   turns_stored m e = rw (e ∙ sym count) stored
 
-  pub turns_end : line_end (bare (take n (kepts_of b))) ≡ reading_of s
+  pub turns_end : line_end (bare (take n b)) ≡ reading_of s
   unfolding lines_checks line_end
   turns_end = rw stored (bare_end (sheet_lines s) ∙ sym (t.answer ∙ rw none))

@@ -2,7 +2,6 @@
 use Rattle.std.specs.Prelude.{◌≡◌, List, map, ℕ, length, take, Ok, Result}
 use Rattle.lists.specs.Refusals.{answer_by}
 use Rattle.lists.specs.declared.Refusal.{Refusal}
-use Rattle.records.specs.Kept.{kepts_of}
 use Rattle.records.specs.declared.Kept.{Kept}
 use Rattle.text.specs.Decimal.{shifted}
 use Rattle.line.specs.Fields.{Line, own_size}
@@ -15,9 +14,9 @@ reading_of s = answer_by (length (sheet_lines s)) (sheet_checks s)
 -- what is kept of a line: not its text, only the size that it takes by itself. The number n of an ol may be below 0, and what is kept is
 -- not: it stands shifted up by 1,000,000,000, the largest that n can lie from 0, so that 0 is kept for the lowest.
 abbrev pub kept_of : Line → Kept
-kept_of l = record { depth = l.depth; kind = l.kind; number = shifted l.n; cols = l.cols; rows = l.rows; own = own_size l }
+kept_of l = record { depth = l.depth; kind = l.kind; cols = l.cols; rows = l.rows; number = shifted l.n; own = own_size l }
 
 -- what the reader does with a sheet: its answer, and if it accepts, what the slice holds then
-pub record Reads (s : List ℕ) (r : Result ℕ Refusal) (lines : List ℕ) : Type 0 where
+pub record Reads (s : List ℕ) (r : Result ℕ Refusal) (lines : List Kept) : Type 0 where
   pub answer : r ≡ reading_of s
-  pub stored : (n : ℕ) → r ≡ Ok n → take n (kepts_of lines) ≡ map kept_of (sheet_lines s)
+  pub stored : (n : ℕ) → r ≡ Ok n → take n lines ≡ map kept_of (sheet_lines s)

@@ -5,10 +5,12 @@ use Rattle.lists.specs.Refusals.{Check, check, answer_by}
 use Rattle.lists.specs.declared.Reason.{Reason}
 use Rattle.lists.specs.declared.Reason.TheVariants.{Nesting}
 use Rattle.lists.specs.declared.Refusal.{Refusal}
-use Rattle.records.specs.Kept.{kept_with, no_kept}
+use Rattle.records.specs.Kept.{no_kept}
 use Rattle.records.specs.declared.Kept.{Kept}
 use Rattle.text.specs.Decimal.{plain}
-use Rattle.kinds.specs.Kinds.{is_frame, may_hold, table_kind, body_kind}
+use Rattle.kinds.specs.declared.Kind.{Kind}
+use Rattle.kinds.specs.declared.Kind.TheVariants.{Text}
+use Rattle.kinds.specs.Kinds.{kind_number, is_frame, may_hold, table_kind, body_kind}
 use Rattle.fields.specs.Lines.{feeds, headed}
 use Rattle.line.specs.Fields.{Line}
 use Rattle.line.specs.LineAt.{LineRead}
@@ -23,19 +25,19 @@ pub record AtLine (s : List ℕ) (at : ℕ) : Type 0 where
   pub inside : at < length s
 
 -- a line breaks the nesting after `lines` others, the last of them `previous` deep, where `chain` has the kind of the last line of each depth
-unfoldable pub breaks_nesting : List ℕ → ℕ → ℕ → ℕ → ℕ → Bool
+unfoldable pub breaks_nesting : List Kind → ℕ → ℕ → ℕ → ℕ → Bool
 breaks_nesting chain lines previous depth kind =
     cond (eqb lines 0) (not (eqb depth 0 && not (is_frame kind)))
-    (not ((leb 1 depth && leb depth (previous + 1)) && may_hold (get_or chain (depth - 1) 0) kind))
+    (not ((leb 1 depth && leb depth (previous + 1)) && may_hold (kind_number (get_or chain (depth - 1) Text)) kind))
 
 -- by a line alone, which may be none: why, or 4, or the line
-unfoldable pub judgement_of : List ℕ → ℕ → ℕ → LineRead → LineRead
+unfoldable pub judgement_of : List Kind → ℕ → ℕ → LineRead → LineRead
 judgement_of chain lines previous (Err why) = Err why
-judgement_of chain lines previous (Ok n) = cond (breaks_nesting chain lines previous n.depth n.kind) (Err Nesting) (Ok n)
+judgement_of chain lines previous (Ok n) = cond (breaks_nesting chain lines previous n.depth (kind_number n.kind)) (Err Nesting) (Ok n)
 
 -- a line as it is kept
 pub record BriefOf (node : Node) (b : Brief) : Type 0 where
-  pub kept : kept_with b.depth b.kind b.figure ≡ figures_of node
+  pub kept : b.line ≡ figures_of node
   pub next : b.next ≡ node.next
 
 -- the code's answer: why the line is refused, or the line as it is kept
@@ -60,7 +62,7 @@ bare ks = map bare_line ks
 -- the line at place i is a table or a body left empty
 unfoldable pub empty_at : List Kept → ℕ → Bool
 empty_at ks i =
-    (eqb (get_or ks i no_kept).kind table_kind || eqb (get_or ks i no_kept).kind body_kind)
+    (eqb (kind_number (get_or ks i no_kept).kind) table_kind || eqb (kind_number (get_or ks i no_kept).kind) body_kind)
     && (leb (length ks) (i + 1) || leb (get_or ks (i + 1) no_kept).depth (get_or ks i no_kept).depth)
 
 -- no line up to the place is so
@@ -70,7 +72,7 @@ FilledTo ks end = (i : ℕ) → i < end → empty_at ks i ≡ false
 -- by a line and the next one: 0 only where it is no table and no body, or the next one is deeper
 pub record Lacks (here next : Kept) (r : ℕ) : Type 0 where
   pub one : r ≤ 1
-  pub filled : r ≡ 0 → ((eqb here.kind table_kind || eqb here.kind body_kind) && leb next.depth here.depth) ≡ false
+  pub filled : r ≡ 0 → ((eqb (kind_number here.kind) table_kind || eqb (kind_number here.kind) body_kind) && leb next.depth here.depth) ≡ false
 
 -- the sheet is neither too long nor without its first line
 pub record Begun (s : List ℕ) : Type 0 where

@@ -13,7 +13,7 @@ use lib.Dec.{eqb}
 use Rattle.lists.specs.Refusals.{reason_number, Check, check, first_answer}
 use Rattle.lists.specs.Lists.{All}
 use Rattle.lists.proofs.All.{all_append}
-use Rattle.kinds.specs.Kinds.{table_kind}
+use Rattle.kinds.specs.Kinds.{kind_number, table_kind}
 use Rattle.fields.specs.Lines.{Piece, node_pieces}
 use Rattle.line.specs.Fields.{Line, read_line, or_none}
 use Rattle.records.specs.declared.Kept.{Kept}
@@ -65,7 +65,7 @@ table_other t table = more RowEnd (λ e. omega (arith, e)) _ _ _ (more TooManyEn
 tables_other : (t : ℕ) (ls : List Kept) → All Other (tables_checks t ls)
 unfolding tables_checks
 tables_other t [] = no_more
-tables_other t (l ∷ ls) = all_append Other _ _ (go (eqb l.kind table_kind)) (tables_other (suc t) ls)
+tables_other t (l ∷ ls) = all_append Other _ _ (go (eqb (kind_number l.kind) table_kind)) (tables_other (suc t) ls)
   where
     go : (b : Bool) → All Other (cond b (table_checks t (rows_under l.depth t ls)) [])
     go true = table_other t (rows_under l.depth t ls)

@@ -1,16 +1,15 @@
 -- What the answer of opening a sheet says of the checks, of the sheet's lines and of the line that a call asks for. Assumes nothing.
 use mathlib.Core.Logic.{inl, inr}
+use Rattle.records.specs.declared.Kept.{Kept}
 use Rattle.lists.specs.declared.Refusal.{Refusal}
 use Rattle.std.specs.Prelude.{Err, Ok, Result, Option, Some}
 use mathlib.Core.Path.{◌≡◌, refl, sym, ap, ◌∙◌}
 use mathlib.Core.Bool.{Bool, true, false}
 use mathlib.Core.List.{List, [], append-nil}
-use Prim.Native.Nat.{ℕ, ◌-◌, ◌*◌, ◌≤◌}
+use Prim.Native.Nat.{ℕ, ◌-◌, ◌≤◌}
 use native.Mathlib.Omega.{arith}
 use lib.ListN.{length, take}
 use Rattle.lists.specs.Refusals.{first_answer, passes}
-use Rattle.records.specs.Kept.{kept_count, kepts_of}
-use Rattle.records.proofs.Kepts.{kepts_take}
 use Rattle.sheet.specs.Sheet.{sheet_lines}
 use Rattle.sheet.specs.Steps.{room_for}
 use Rattle.sheet.proofs.First.{first_passes, first_carries}
@@ -21,7 +20,7 @@ use Rattle.opening.proofs.Answers.{table_apt}
 use Rattle.opening.proofs.Ready.{kept_lined, kept_nests}
 use Rattle.opening.proofs.Opens.{opened_asked}
 use Rattle.opening.proofs.Passing.{Passed, passed}
-use Rattle.table.specs.inner.Asked.{Asked, Most}
+use Rattle.table.specs.inner.Asked.{Most}
 use Rattle.table.proofs.Rooms.{suffice_most, any_most}
 use Rattle.sheet_figures.specs.inner.Opened.{lines_in, AskedIn, MostIn, OpenedAt}
 
@@ -55,12 +54,12 @@ module _ (asked : Option ℕ) (s : List ℕ) where
   lines_few (Err why) e = omega arith
 
   -- the lines are the first records
-  pub lines_in_fits : {r : Result ℕ Refusal} {lines : List ℕ} → Opened asked s r lines → room_for s ≤ kept_count lines → LinesIn r lines
+  pub lines_in_fits : {r : Result ℕ Refusal} {lines : List Kept} → Opened asked s r lines → room_for s ≤ length lines → LinesIn r lines
   lines_in_fits w h n e = omega (arith, (passed asked s n (sym w.answer ∙ e)).room)
 
 -- ---- the line asked for
 
-module _ {s : List ℕ} {line : ℕ} {r : Result ℕ Refusal} {lines : List ℕ} (w : Opened (Some line) s r lines) where
+module _ {s : List ℕ} {line : ℕ} {r : Result ℕ Refusal} {lines : List Kept} (w : Opened (Some line) s r lines) where
   pub opened_at : OpenedAt s line r lines
   opened_at = record {
     answer = w.answer;
@@ -70,14 +69,14 @@ module _ {s : List ℕ} {line : ℕ} {r : Result ℕ Refusal} {lines : List ℕ}
         (w.sound n e).at (line - 1) (omega (arith, t.from_one, t.within)) t.kind;
   }
 
-module _ {s : List ℕ} {line : ℕ} {r : Result ℕ Refusal} {lines : List ℕ} (w : OpenedAt s line r lines) where
+module _ {s : List ℕ} {line : ℕ} {r : Result ℕ Refusal} {lines : List Kept} (w : OpenedAt s line r lines) where
   pub opened_passed : (n : ℕ) → r ≡ Ok n → Passed (Some line) s n
   opened_passed n e = passed (Some line) s n (sym w.answer ∙ e)
 
   pub opened_apt : (n : ℕ) → r ≡ Ok n → Apt (kept_lines s) line
   opened_apt n e = table_apt (kept_lines s) line (opened_asked (Some line) s n (sym w.answer ∙ e) line refl)
 
-  pub asked_in : room_for s ≤ kept_count lines → AskedIn r lines line
+  pub asked_in : room_for s ≤ length lines → AskedIn r lines line
   asked_in h = record {
     front = λ n e. omega (arith, (opened_passed n e).room);
     asked = λ n e.
@@ -93,25 +92,18 @@ module _ {s : List ℕ} {line : ℕ} {r : Result ℕ Refusal} {lines : List ℕ}
         });
   }
 
--- the same of the lines that stand in the first places
-pub front_asked : {read : Result ℕ Refusal} {lines : List ℕ} {line n : ℕ} → AskedIn read lines line → read ≡ Ok n → Asked (kepts_of (take (2 * n) lines)) line
-front_asked {lines = lines} {n = n} a e = rw (kepts_take lines n (a.front n e)) (a.asked n e)
-
 -- ---- records for its grid
 
-pub most_few : {read : Result ℕ Refusal} {lines : List ℕ} {line most held : ℕ} → AskedIn read lines line → EnoughIn read lines most held → MostIn read lines line most held
+pub most_few : {read : Result ℕ Refusal} {lines : List Kept} {line most held : ℕ} → AskedIn read lines line → EnoughIn read lines most held → MostIn read lines line most held
 most_few {read} {lines} {line} {most} {held} a z n e = by (z n e)
   where
-    by : Enough most held (take n (kepts_of lines)) → Most most held (take n (kepts_of lines)) line
+    by : Enough most held (take n lines) → Most most held (take n lines) line
     by (inl s) = suffice_most (a.asked n e) s
     by (inr m) = let t = any_most (a.asked n e) in record { entries_most = omega (arith, t.entries_most, m.0); lines_most = omega (arith, t.lines_most, m.1) }
 
-pub most_any : {read : Result ℕ Refusal} {lines : List ℕ} {line : ℕ} → AskedIn read lines line → MostIn read lines line 8192 4096
+pub most_any : {read : Result ℕ Refusal} {lines : List Kept} {line : ℕ} → AskedIn read lines line → MostIn read lines line 8192 4096
 most_any a n e = any_most (a.asked n e)
 
-pub front_most : {read : Result ℕ Refusal} {lines : List ℕ} {line e r n : ℕ} → AskedIn read lines line → MostIn read lines line e r → read ≡ Ok n → Most e r (kepts_of (take (2 * n) lines)) line
-front_most {lines = lines} {n = n} a m e = rw (kepts_take lines n (a.front n e)) (m n e)
-
 -- where fewer do
-pub most_room : {read : Result ℕ Refusal} {lines : List ℕ} {line e r e' r' : ℕ} → AskedIn read lines line → MostIn read lines line e r → e ≤ e' → r ≤ r' → MostIn read lines line e' r'
+pub most_room : {read : Result ℕ Refusal} {lines : List Kept} {line e r e' r' : ℕ} → AskedIn read lines line → MostIn read lines line e r → e ≤ e' → r ≤ r' → MostIn read lines line e' r'
 most_room a m h g n e = record { entries_most = omega (arith, (m n e).entries_most); lines_most = omega (arith, (m n e).lines_most) }

@@ -1,26 +1,18 @@
 -- The cells of the table in a line of an opened sheet, measured. Assumes nothing.
 use Rattle.lists.specs.declared.Refusal.{Refusal}
-use Rattle.std.specs.Prelude.{Ok, Result}
-use mathlib.Core.Path.{◌≡◌}
+use Rattle.std.specs.Prelude.{Result}
 use mathlib.Core.List.{List}
-use Prim.Native.Nat.{ℕ, ◌-◌, ◌*◌, ◌≤◌}
+use Prim.Native.Nat.{ℕ, ◌≤◌}
 use native.Mathlib.Omega.{arith}
-use lib.ListN.{length, take}
+use lib.ListN.{length}
+use Rattle.records.specs.declared.Kept.{Kept}
 use Rattle.text.specs.declared.Estimate.{Estimate}
-use Rattle.records.specs.Kept.{kepts_of}
-use Rattle.records.proofs.Kepts.{kepts_take}
 use Rattle.sheet.specs.Steps.{room_for}
 use Rattle.opening.specs.inner.Measures as measures
-use Rattle.table.specs.Arranging.{TableMeasured}
-use Rattle.sheet_figures.specs.inner.Opened.{AskedIn, MeasuredIn, LinesOf}
+use Rattle.sheet_figures.specs.inner.Opened.{MeasuredIn, LinesOf}
 use Rattle.sheet_figures.proofs.Openings.{opened_at, opened_passed}
 
--- of the lines that stand in the first places
-pub front_measured : {read : Result ℕ Refusal} {lines : List ℕ} {figures : List Estimate} {line n : ℕ} → AskedIn read lines line → MeasuredIn read lines line figures → read ≡ Ok n
-    → TableMeasured (kepts_of (take (2 * n) lines)) (line - 1) figures
-front_measured {lines = lines} {n = n} a m e = rw (kepts_take lines n (a.front n e)) (m n e)
-
-module _ {s : List ℕ} {line wrap : ℕ} {read : Result ℕ Refusal} {lines : List ℕ} {figures : List Estimate} where
+module _ {s : List ℕ} {line wrap : ℕ} {read : Result ℕ Refusal} {lines : List Kept} {figures : List Estimate} where
   pub lines_of : measures.TableMeasured s line wrap read lines figures → LinesOf s line wrap read lines figures
   lines_of m = record { opened = opened_at m.opened; measured = m.measured }
 

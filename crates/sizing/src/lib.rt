@@ -3,12 +3,12 @@
 
 ghost use Rattle.std.specs.Prelude.{◌≡◌, ◌≤◌, length};
 ghost use Rattle.lists.specs.Limits.{max_position};
-ghost use Rattle.records.specs.Kept.{entries_of};
 ghost use Rattle.widths.specs.inner.Lay.{LaidOut};
 ghost use Rattle.sizing.specs.Sizing.{figure_at, sizes_in, leasts_in};
 ghost use Rattle.sizing.specs.inner.Room.{Entered, Raisable, Raised};
 
 use lists::MAX_POSITION;
+use records::Entry;
 use text::Estimate;
 use widths::Laid;
 
@@ -27,14 +27,14 @@ fn figures_of(figures: &[Estimate], cell: u32) -> Estimate
 
 // The largest quotient of figure and span in each column, as `render_table_tree` takes it of sizes and of least widths.
 // One division an entry for each: every column of an entry has the same quotient.
-pub fn raise_columns(entries: &[u32], figures: &[Estimate], sizes: &mut [u32], leasts: &mut [u32])
-    requires { Raisable (entries_of entries.now) figures.now sizes.old leasts.old }
-    ensures { Raised (entries_of entries.now) figures.now (length sizes.old) sizes.new leasts.new }
+pub fn raise_columns(entries: &[Entry], figures: &[Estimate], sizes: &mut [u32], leasts: &mut [u32])
+    requires { Raisable entries.now figures.now sizes.old leasts.old }
+    ensures { Raised entries.now figures.now (length sizes.old) sizes.new leasts.new }
 {
     sizes.fill(0);
     leasts.fill(0);
-    for i in 0..entries.len() / 3 {
-        let e = records::entry_at(entries, i);
+    for i in 0..entries.len() {
+        let e = entries[i];
         let f = figures_of(figures, e.cell);
         // without a size, as with every filler, there is nothing to raise: no least is above its size
         if f.size != 0 {
@@ -48,7 +48,7 @@ pub fn raise_columns(entries: &[u32], figures: &[Estimate], sizes: &mut [u32], l
 
 // `render_table_tree` as far as the table's width: the columns' sizes and leasts, and then their widths.
 fn lay_in(
-    entries: &[u32],
+    entries: &[Entry],
     figures: &[Estimate],
     raw: u32,
     width: u32,
@@ -56,11 +56,11 @@ fn lay_in(
     leasts: &mut [u32],
     column: &mut [u32],
 ) -> Laid
-    requires entered { Entered (entries_of entries.now) figures.now (length column.old) }
+    requires entered { Entered entries.now figures.now (length column.old) }
     requires column_len_bound { length column.old ≤ max_position }
     requires sizes_len { length sizes.old ≡ length column.old }
     requires leasts_len { length leasts.old ≡ length column.old }
-    ensures { LaidOut (sizes_in (entries_of entries.now) figures.now (length column.old)) (leasts_in (entries_of entries.now) figures.now (length column.old)) raw width column.new result }
+    ensures { LaidOut (sizes_in entries.now figures.now (length column.old)) (leasts_in entries.now figures.now (length column.old)) raw width column.new result }
 {
     raise_columns(entries, figures, sizes, leasts);
     widths::lay_columns(sizes, leasts, raw, width, column)
@@ -68,7 +68,7 @@ fn lay_in(
 
 // The same in room that may be longer.
 fn lay_front(
-    entries: &[u32],
+    entries: &[Entry],
     figures: &[Estimate],
     raw: u32,
     width: u32,
@@ -76,11 +76,11 @@ fn lay_front(
     leasts: &mut [u32],
     column: &mut [u32],
 ) -> Laid
-    requires entered { Entered (entries_of entries.now) figures.now (length column.old) }
+    requires entered { Entered entries.now figures.now (length column.old) }
     requires column_len_bound { length column.old ≤ max_position }
     requires sizes_in_bounds { length column.old ≤ length sizes.old }
     requires leasts_in_bounds { length column.old ≤ length leasts.old }
-    ensures { LaidOut (sizes_in (entries_of entries.now) figures.now (length column.old)) (leasts_in (entries_of entries.now) figures.now (length column.old)) raw width column.new result }
+    ensures { LaidOut (sizes_in entries.now figures.now (length column.old)) (leasts_in entries.now figures.now (length column.old)) raw width column.new result }
 {
     let c = column.len();
     lay_in(
@@ -96,16 +96,16 @@ fn lay_front(
 
 // The same in room of N places of its own.
 fn lay_sized<const N: usize>(
-    entries: &[u32],
+    entries: &[Entry],
     figures: &[Estimate],
     raw: u32,
     width: u32,
     column: &mut [u32],
 ) -> Laid
-    requires entered { Entered (entries_of entries.now) figures.now (length column.old) }
+    requires entered { Entered entries.now figures.now (length column.old) }
     requires room { length column.old ≤ N }
     requires few { N ≤ max_position }
-    ensures { LaidOut (sizes_in (entries_of entries.now) figures.now (length column.old)) (leasts_in (entries_of entries.now) figures.now (length column.old)) raw width column.new result }
+    ensures { LaidOut (sizes_in entries.now figures.now (length column.old)) (leasts_in entries.now figures.now (length column.old)) raw width column.new result }
 {
     let mut sizes = [0u32; N];
     let mut leasts = [0u32; N];
@@ -122,15 +122,15 @@ fn lay_sized<const N: usize>(
 
 // Lays out a table's columns. The room is cleared with each call, and for few columns a short one does.
 pub fn lay_columns(
-    entries: &[u32],
+    entries: &[Entry],
     figures: &[Estimate],
     raw: u32,
     width: u32,
     column: &mut [u32],
 ) -> Laid
-    requires entered { Entered (entries_of entries.now) figures.now (length column.old) }
+    requires entered { Entered entries.now figures.now (length column.old) }
     requires column_len_bound { length column.old ≤ max_position }
-    ensures { LaidOut (sizes_in (entries_of entries.now) figures.now (length column.old)) (leasts_in (entries_of entries.now) figures.now (length column.old)) raw width column.new result }
+    ensures { LaidOut (sizes_in entries.now figures.now (length column.old)) (leasts_in entries.now figures.now (length column.old)) raw width column.new result }
 {
     if column.len() <= FEW_COLUMNS {
         lay_sized::<FEW_COLUMNS>(entries, figures, raw, width, column)

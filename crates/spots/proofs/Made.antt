@@ -1,16 +1,16 @@
 -- One table of a measured sheet, laid out: the row's place among its entries, and every row's places in the slices. Assumes nothing.
+use Rattle.records.specs.declared.RowEnd.{RowEnd}
 use Rattle.lists.specs.declared.Refusal.{Refusal}
 use Rattle.std.specs.Prelude.{Result}
 use mathlib.Core.Path.{◌≡◌, sym, ap, ◌∙◌}
 use mathlib.Core.List.{List, map}
-use Prim.Native.Nat.{ℕ, suc, ◌+◌, ◌-◌, ◌≤◌, ◌/◌}
+use Prim.Native.Nat.{ℕ, suc, ◌+◌, ◌-◌, ◌≤◌}
 use native.Mathlib.Numerals.{add-one}
 use native.Mathlib.Omega.{arith}
 use lib.ListN.{length, take}
 use lib.Seq.{slice, take_all}
 use Rattle.lists.specs.Limits.{max_size, max_entries, max_lines}
 use Rattle.text.specs.declared.Estimate.{Estimate}
-use Rattle.records.specs.Kept.{rows_of}
 use Rattle.records.specs.declared.Kept.{Kept}
 use Rattle.records.specs.declared.Entry as packed
 use Rattle.columns.specs.Boxes.{Box, flat}
@@ -71,12 +71,12 @@ module _ {ks : List Kept} {line : ℕ} (a : Asked ks line) where
   pub arrange_room : {width : ℕ} {column x wide : List ℕ} → width ≤ max_size → max_lines ≤ length column → PlacesRoom x wide → LayoutRoom T width column x wide
   arrange_room h c r = layout_room a h (record { column_room = c; x_room = r.x_room; wide_room = r.wide_room })
 
-  module _ {figures : List Estimate} {raw width : ℕ} {es : List packed.Entry} (rows : List ℕ) {column x wide : List ℕ} {counts : Counts} {laid : Laid}
-      (m : ArrangedAt ks (line - 1) figures raw width es (rows_of rows) column x wide counts laid) where
+  module _ {figures : List Estimate} {raw width : ℕ} {es : List packed.Entry} (rows : List RowEnd) {column x wide : List ℕ} {counts : Counts} {laid : Laid}
+      (m : ArrangedAt ks (line - 1) figures raw width es rows column x wide counts laid) where
     pub has_rows : HasRows counts.rows rows (grid_of T)
     has_rows = rw m.made.rows_are m.made.rows
 
-    pub rows_enough : max_lines ≤ length rows / 2 → counts.rows ≤ length rows / 2
+    pub rows_enough : max_lines ≤ length rows → counts.rows ≤ length rows
     rows_enough h = omega (arith, m.made.rows_are, grid_rows T a.sound, held_few ks (line - 1), a.lined.short)
 
     pub spot_made : {row : ℕ} {r : Result Span Refusal} → PlacesRoom x wide → ((g : List GridRow) → HasRows counts.rows rows g → r ≡ spot_in laid.way g row)

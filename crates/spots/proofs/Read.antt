@@ -3,13 +3,12 @@ use Rattle.lists.specs.declared.Refusal.{Refusal}
 use Rattle.std.specs.Prelude.{Err, Ok, Result, Some}
 use mathlib.Core.Path.{◌≡◌, refl, sym, ◌∙◌}
 use mathlib.Core.List.{List}
-use Prim.Native.Nat.{ℕ, ◌+◌, ◌-◌, ◌*◌, ◌≤◌}
+use Prim.Native.Nat.{ℕ, ◌+◌, ◌-◌}
 use native.Mathlib.Omega.{arith}
 use lib.ListN.{length, take}
 use Rattle.lists.specs.Refusals.{Check}
 use Rattle.text.specs.declared.Estimate.{Estimate}
-use Rattle.records.specs.Kept.{kept_count, kepts_of}
-use Rattle.records.proofs.Kepts.{kepts_take}
+use Rattle.records.specs.declared.Kept.{Kept}
 use Rattle.sheet.proofs.First.{first_passes}
 use Rattle.opening.specs.Opening.{open_checks}
 use Rattle.sheet_figures.specs.inner.Opened.{LinesOf}
@@ -21,25 +20,24 @@ use Rattle.spots.specs.inner.Spots.{PlacesRoom, SpotMade, SpotRead, SpotFound}
 pub room_still : {x wide x' wide' : List ℕ} → length x' ≡ length x → length wide' ≡ length wide → PlacesRoom x wide → PlacesRoom x' wide'
 room_still e f o = record { x_room = omega (arith, o.x_room); wide_room = omega (arith, o.wide_room) }
 
-module _ {read : Result ℕ Refusal} {lines : List ℕ} {line : ℕ} {figures : List Estimate} {raw width row : ℕ} {x wide : List ℕ} where
+module _ {read : Result ℕ Refusal} {lines : List Kept} {line : ℕ} {figures : List Estimate} {raw width row : ℕ} {x wide : List ℕ} where
   pub read_refused : {why : Refusal} → read ≡ Err why → SpotRead read lines line figures raw width row (Err why) x wide
   read_refused e = record {
     refused = λ why f. let z = sym e ∙ f in cc;
     made = λ n f. let z : ◌≡◌ {A = ℕ} 0 1 = cc in absurd (omega arith);
   }
 
-  pub read_made : {r : Result Span Refusal} {n : ℕ} → read ≡ Ok n → n ≤ kept_count lines
-      → SpotMade (kepts_of (take (2 * n) lines)) line figures raw width row r x wide → SpotRead read lines line figures raw width row r x wide
-  read_made {r} {n} e h m = record {
+  pub read_made : {r : Result Span Refusal} {n : ℕ} → read ≡ Ok n → SpotMade (take n lines) line figures raw width row r x wide → SpotRead read lines line figures raw width row r x wide
+  read_made {r} {n} e m = record {
     refused = λ why f. let z : ◌≡◌ {A = ℕ} 0 1 = cc in absurd (omega arith);
     made = λ k f.
         let z : n ≡ k = cc in
-        rw (← z) (rw (kepts_take lines n h) at m);
+        rw (← z) m;
   }
 
 -- ---- of the table asked for
 
-module _ {s : List ℕ} {line wrap : ℕ} {read : Result ℕ Refusal} {lines : List ℕ} {figures : List Estimate} (w : LinesOf s line wrap read lines figures)
+module _ {s : List ℕ} {line wrap : ℕ} {read : Result ℕ Refusal} {lines : List Kept} {figures : List Estimate} (w : LinesOf s line wrap read lines figures)
     {raw width row : ℕ} {r : Result Span Refusal} {x wide : List ℕ} (g : SpotRead read lines line figures raw width row r x wide) where
   abbrev cs : List Check
   cs = open_checks (Some line) s

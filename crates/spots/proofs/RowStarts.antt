@@ -4,7 +4,7 @@ use Rattle.std.specs.Prelude.{Ok, Err}
 use mathlib.Core.Path.{◌≡◌, refl, sym, ap, ◌∙◌}
 use mathlib.Core.Bool.{true, false}
 use mathlib.Core.List.{List, [], ◌∷◌, map}
-use Prim.Native.Nat.{ℕ, zero, suc, ◌+◌, ◌-◌, ◌≤◌, ◌<◌, ◌/◌}
+use Prim.Native.Nat.{ℕ, zero, suc, ◌+◌, ◌-◌, ◌≤◌, ◌<◌}
 use native.Mathlib.Nat.{not-suc-le-zero, le_of_suc-le-suc}
 use native.Mathlib.Numerals.{add-one}
 use native.Mathlib.Omega.{arith}
@@ -12,9 +12,8 @@ use lib.ListN.{length, get_or, take, length-append, length-map}
 use lib.Seq.{length-take-le, take_all, get_or-take}
 use borrow.Author.Tests.{le-leb, lt-leb}
 use Rattle.lists.specs.Refusals.{first_answer, refusal}
-use Rattle.records.specs.Kept.{no_row, row_by, rows_of}
-use Rattle.records.specs.declared.Row.{Row}
-use Rattle.records.proofs.Records.{length_of}
+use Rattle.records.specs.Kept.{no_row}
+use Rattle.records.specs.declared.RowEnd.{RowEnd}
 use Rattle.columns.specs.Boxes.{Box, flat}
 use Rattle.grid.specs.Grid.{Entry, GridRow, entries_of}
 use Rattle.gridding.specs.Packed.{ended_rows}
@@ -69,17 +68,14 @@ unfolding ended_rows
 ended_length n [] = refl
 ended_length n (r ∷ g) = ap suc (ended_length (n + length r.entries) g)
 
-module _ (n : ℕ) (rows : List ℕ) (room : n ≤ length rows / 2) (g : List GridRow) (e : HasRows n rows g) where
-  enough : n ≤ length (rows_of rows)
-  enough = omega (arith, length_of 2 row_by rows)
-
+module _ (n : ℕ) (rows : List RowEnd) (room : n ≤ length rows) (g : List GridRow) (e : HasRows n rows g) where
   pub row_total : n ≡ length g
-  row_total = sym (length-take-le n (rows_of rows) enough) ∙ ap length e ∙ ended_length 0 g
+  row_total = sym (length-take-le n rows room) ∙ ap length e ∙ ended_length 0 g
 
   -- the end of row k is where the next one starts
-  end_is : (k : ℕ) → k < n → (get_or (rows_of rows) k no_row).end ≡ start_in g (suc k)
+  end_is : (k : ℕ) → k < n → (get_or rows k no_row).end ≡ start_in g (suc k)
   end_is k h =
-      ap (λ (r : Row). r.end) (sym (get_or-take n (rows_of rows) k no_row h) ∙ ap (λ (rs : List Row). get_or rs k no_row) e)
+      ap (λ (r : RowEnd). r.end) (sym (get_or-take n rows k no_row h) ∙ ap (λ (rs : List RowEnd). get_or rs k no_row) e)
       ∙ ended_at 0 g k (omega (arith, row_total))
       ∙ omega arith
 
@@ -88,10 +84,10 @@ module _ (n : ℕ) (rows : List ℕ) (room : n ≤ length rows / 2) (g : List Gr
     unfolding entries_of
     before_none z = rw z
 
-    pub before_row : {r : Row} → 1 ≤ k → k ≤ n → r ≡ get_or (rows_of rows) (k - 1) no_row → r.end ≡ start_in g k
-    before_row p h q =
+    pub before_row : 1 ≤ k → k ≤ n → (get_or rows (k - 1) no_row).end ≡ start_in g k
+    before_row p h =
         let z : suc (k - 1) ≡ k = omega arith in
-        ap (λ (r : Row). r.end) q ∙ end_is (k - 1) (omega arith) ∙ ap (start_in g) z
+        end_is (k - 1) (omega arith) ∙ ap (start_in g) z
 
     -- past the last row
     whole : n ≤ k → start_in g k ≡ start_in g n
@@ -99,10 +95,10 @@ module _ (n : ℕ) (rows : List ℕ) (room : n ≤ length rows / 2) (g : List Gr
         ap (λ (q : List GridRow). length (entries_of q))
         (take_all k g (omega (arith, row_total)) ∙ sym (take_all n g (omega (arith, row_total))))
 
-    pub before_past : {r : Row} → n < k → 1 ≤ n → r ≡ get_or (rows_of rows) (n - 1) no_row → r.end ≡ start_in g k
-    before_past h p q =
+    pub before_past : n < k → 1 ≤ n → (get_or rows (n - 1) no_row).end ≡ start_in g k
+    before_past h p =
         let z : suc (n - 1) ≡ n = omega arith in
-        ap (λ (r : Row). r.end) q ∙ end_is (n - 1) (omega arith) ∙ ap (start_in g) z ∙ sym (whole (omega arith))
+        end_is (n - 1) (omega arith) ∙ ap (start_in g) z ∙ sym (whole (omega arith))
 
     pub before_empty : n < k → n ≡ 0 → 0 ≡ start_in g k
     unfolding entries_of

@@ -4,7 +4,7 @@
 mod making; // the row of one table of a measured sheet
 mod starts; // where the rows of a grid start
 
-ghost use Rattle.std.specs.Prelude.{◌≡◌, true, ◌∷◌, ◌/◌, ◌≤◌, length, Some};
+ghost use Rattle.std.specs.Prelude.{◌≡◌, true, ◌∷◌, ◌≤◌, length, Some};
 ghost use Rattle.lists.specs.Limits.{max_entries, max_lines, max_size};
 ghost use Rattle.opening.specs.Opening.{open_checks};
 ghost use Rattle.sheet_figures.specs.inner.Opened.{AskedIn, MeasuredIn};
@@ -13,6 +13,7 @@ ghost use Rattle.spots.specs.inner.Spots.{PlacesRoom, SpotRead, SpotFound};
 
 use arguments::Settings;
 use lists::{MAX_ENTRIES, MAX_LINES, Refusal};
+use records::{Entry, Kept, RowEnd};
 use text::Estimate;
 
 // Where a row stands: the numbers of the entries at which it starts, at which it ends, and at which the next one ends.
@@ -27,18 +28,18 @@ pub struct Span {
 fn find_read(
     read: Result<usize, Refusal>,
     line: u32,
-    lines: &[u32],
+    lines: &[Kept],
     figures: &[Estimate],
     settings: Settings,
     row: u32,
-    entries: &mut [u32],
-    rows: &mut [u32],
+    entries: &mut [Entry],
+    rows: &mut [RowEnd],
     column: &mut [u32],
     x: &mut [u32],
     wide: &mut [u32],
 ) -> Result<Span, Refusal>
     requires asked_in { AskedIn read lines.now line }
-    requires max_entries_in_bounds { (max_entries ≤ length entries.old / 3) × (max_lines ≤ length rows.old / 2) }
+    requires max_entries_in_bounds { (max_entries ≤ length entries.old) × (max_lines ≤ length rows.old) }
     requires max_lines_in_bounds { max_lines ≤ length column.old }
     requires measured_in { MeasuredIn read lines.now line figures.now }
     requires width_le_max_size { settings.width ≤ max_size }
@@ -46,10 +47,9 @@ fn find_read(
     ensures { SpotRead read lines.now line figures.now settings.raw settings.width row result x.new wide.new }
 {
     let n = read?;
-    let end = records::WIDTH * n;
     crate::making::find_row(
         line,
-        &lines[..end],
+        &lines[..n],
         figures,
         settings,
         row,
@@ -74,10 +74,10 @@ fn find_sheet(
     requires places_room { PlacesRoom x.old wide.old }
     ensures { SpotFound (open_checks (Some line) sheet.now) sheet.now line settings.wrap settings.raw settings.width row result x.new wide.new }
 {
-    let mut lines = [0u32; records::WIDTH * MAX_LINES];
+    let mut lines = [records::NO_LINE; MAX_LINES];
     let mut figures = [estimates::NONE; MAX_LINES];
-    let mut entries = [0u32; 3 * MAX_ENTRIES];
-    let mut rows = [0u32; 2 * MAX_LINES];
+    let mut entries = [records::NO_ENTRY; MAX_ENTRIES];
+    let mut rows = [records::NO_ROW; MAX_LINES];
     let mut column = [0u32; MAX_LINES];
     let read = opening::measuring::measure_table(
         sheet,

@@ -1,7 +1,6 @@
 // The row of one table of a measured sheet: the table is laid out first.
-ghost use Rattle.std.specs.Prelude.{◌-◌, ◌/◌, ◌≤◌, length};
+ghost use Rattle.std.specs.Prelude.{◌-◌, ◌≤◌, length};
 ghost use Rattle.lists.specs.Limits.{max_entries, max_lines, max_size};
-ghost use Rattle.records.specs.Kept.{kepts_of};
 ghost use Rattle.table.specs.Arranging.{TableMeasured};
 ghost use Rattle.table.specs.inner.Asked.{Asked};
 ghost use Rattle.spots.specs.inner.Spots.{PlacesRoom, SpotMade};
@@ -9,28 +8,29 @@ ghost use Rattle.spots.specs.inner.Spots.{PlacesRoom, SpotMade};
 use crate::Span;
 use arguments::Settings;
 use lists::Refusal;
+use records::{Entry, Kept, RowEnd};
 use text::Estimate;
 
 // Where it stands; the places of all entries of the table are left in the slices.
 pub fn find_row(
     line: u32,
-    lines: &[u32],
+    lines: &[Kept],
     figures: &[Estimate],
     settings: Settings,
     row: u32,
-    entries: &mut [u32],
-    rows: &mut [u32],
+    entries: &mut [Entry],
+    rows: &mut [RowEnd],
     column: &mut [u32],
     x: &mut [u32],
     wide: &mut [u32],
 ) -> Result<Span, Refusal>
-    requires asked { Asked (kepts_of lines.now) line }
-    requires max_entries_in_bounds { (max_entries ≤ length entries.old / 3) × (max_lines ≤ length rows.old / 2) }
+    requires asked { Asked lines.now line }
+    requires max_entries_in_bounds { (max_entries ≤ length entries.old) × (max_lines ≤ length rows.old) }
     requires max_lines_in_bounds { max_lines ≤ length column.old }
-    requires table_measured { TableMeasured (kepts_of lines.now) (line - 1) figures.now }
+    requires table_measured { TableMeasured lines.now (line - 1) figures.now }
     requires width_le_max_size { settings.width ≤ max_size }
     requires places_room { PlacesRoom x.old wide.old }
-    ensures { SpotMade (kepts_of lines.now) line figures.now settings.raw settings.width row result x.new wide.new }
+    ensures { SpotMade lines.now line figures.now settings.raw settings.width row result x.new wide.new }
 {
     let at = (line - 1) as usize;
     let a = table::arrange(

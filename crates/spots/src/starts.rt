@@ -1,5 +1,5 @@
 // Where a row stands among the entries of its table, by the records of the grid's rows.
-ghost use Rattle.std.specs.Prelude.{◌≡◌, List, ◌≤◌, ◌/◌, length};
+ghost use Rattle.std.specs.Prelude.{◌≡◌, List, ◌≤◌, length};
 ghost use Rattle.grid.specs.Grid.{GridRow};
 ghost use Rattle.spots.specs.Rows.{start_in, goes_down};
 ghost use Rattle.spots.specs.inner.Spots.{HasRows, spot_in};
@@ -7,6 +7,7 @@ ghost use Rattle.spots.specs.inner.Spots.{HasRows, spot_in};
 use crate::Span;
 use answers::Way;
 use lists::{Reason, Refusal};
+use records::RowEnd;
 
 // Whether the table goes down.
 #[tactic(auto, unfolding(crate::specs::Rows::goes_down))]
@@ -17,27 +18,27 @@ fn is_down(way: Way) -> bool
 }
 
 // How many entries stand in the first k of n rows; all of them, if there are fewer rows.
-fn entries_before(rows: &[u32], n: usize, k: usize) -> usize
-    requires { n ≤ length rows.now / 2 }
+fn entries_before(rows: &[RowEnd], n: usize, k: usize) -> usize
+    requires { n ≤ length rows.now }
     ensures { (g : List GridRow) → HasRows n rows.now g → result ≡ start_in g k }
 {
     if k == 0 {
         return 0;
     }
     if k <= n {
-        let row = records::row_at(rows, k - 1);
+        let row = rows[k - 1];
         return row.end as usize;
     }
     if n == 0 {
         return 0;
     }
-    let row = records::row_at(rows, n - 1);
+    let row = rows[n - 1];
     row.end as usize
 }
 
 // The row of a table with n rows, unless the table goes down or has no such row.
-pub fn row_in(way: Way, rows: &[u32], n: usize, row: u32) -> Result<Span, Refusal>
-    requires { n ≤ length rows.now / 2 }
+pub fn row_in(way: Way, rows: &[RowEnd], n: usize, row: u32) -> Result<Span, Refusal>
+    requires { n ≤ length rows.now }
     ensures { (g : List GridRow) → HasRows n rows.now g → result ≡ spot_in way g row }
 {
     let k = row as usize;

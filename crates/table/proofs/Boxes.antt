@@ -11,7 +11,7 @@ use lib.Seq.{take_at, drop_at, get_or-drop}
 use borrow.Author.Tests.{ne_eqb}
 use Rattle.lists.specs.Lists.{All}
 use Rattle.text.specs.declared.Estimate.{Estimate}
-use Rattle.records.specs.Kept as packed
+use Rattle.records.specs.Kept.{no_entry}
 use Rattle.lists.proofs.Tiles.{tiles_map}
 use Rattle.lists.proofs.All.{all_append, all_weaken, at_any, map_same}
 use Rattle.columns.specs.Boxes.{Box, box, box_first, box_span, rows_by, BoxesTile, Measures, TilesAll}
@@ -141,7 +141,7 @@ module _ (all : List Done) (figures : List Estimate) (t : ℕ) where
   filling_known : Known t all figures filling
   filling_known = record { later = λ h. absurd (true≢false h); within = λ h. absurd (true≢false h); figure = λ h. absurd (true≢false h); fits = λ h. absurd (true≢false h) }
 
-  pub lines_within : (g : List GridRow) → All (RowKnown t all figures) g → (i : ℕ) → (get_or (map shown (entries_of g)) i packed.no_entry).cell ≤ length figures
+  pub lines_within : (g : List GridRow) → All (RowKnown t all figures) g → (i : ℕ) → (get_or (map shown (entries_of g)) i no_entry).cell ≤ length figures
   lines_within g l i =
       rw (get_or-map shown (entries_of g) i filling)
       (shown_within (get_or (entries_of g) i filling) (at_any (Known t all figures) filling (entries_of g) i filling_known (known_entries g l)))

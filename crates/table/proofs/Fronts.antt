@@ -6,13 +6,13 @@ use lib.ListN.{length, take}
 use lib.Seq.{length-take-le, take_at}
 use Rattle.text.specs.declared.Estimate.{Estimate}
 use Rattle.records.specs.declared.Entry.{Entry}
-use Rattle.records.specs.declared.Row.{Row}
+use Rattle.records.specs.declared.RowEnd.{RowEnd}
 use Rattle.columns.specs.Boxes.{Box}
 use Rattle.widths.specs.declared.Laid.{Laid}
 use Rattle.table.specs.Laying.{LaidTable}
 use Rattle.table.specs.inner.Room.{FrontLayable}
 
-pub laid_front : {r n c : ℕ} {es : List Entry} {rs : List Row} {figures : List Estimate} {width : ℕ} {column₀ x₀ wide₀ : List ℕ}
+pub laid_front : {r n c : ℕ} {es : List Entry} {rs : List RowEnd} {figures : List Estimate} {width : ℕ} {column₀ x₀ wide₀ : List ℕ}
     → FrontLayable r n c es rs figures width column₀ x₀ wide₀
     → {bs : List (List Box)} {raw : ℕ} {column x wide : List ℕ} {laid : Laid} → LaidTable (length (take c column₀)) bs raw width column x wide laid
     → length column ≡ length (take c column₀) → length x ≡ length (take n x₀) → length wide ≡ length (take n wide₀) → (u v w : List ℕ)

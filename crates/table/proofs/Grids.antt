@@ -2,18 +2,16 @@
 -- are later lines, whose estimates stand among the figures, and no least passes its size. Assumes nothing.
 use mathlib.Core.Path.{◌≡◌, sym, ap, ◌∙◌}
 use mathlib.Core.List.{List, [], ◌∷◌, ◌++◌}
-use Prim.Native.Nat.{ℕ, ◌+◌, ◌-◌, ◌/◌, ◌≤◌, ◌<◌}
+use Prim.Native.Nat.{ℕ, ◌+◌, ◌-◌, ◌≤◌, ◌<◌}
 use native.Mathlib.Omega.{arith}
 use lib.ListN.{length, get_or, take, get_or-map}
 use lib.Seq.{length-take-le, get_or-take}
 use Rattle.lists.specs.Lists.{All}
 use Rattle.lists.proofs.All.{all_weaken}
 use Rattle.text.specs.declared.Estimate.{Estimate}
-use Rattle.records.specs.Records.{records_of}
-use Rattle.records.proofs.Records.{length_of}
 use Rattle.records.specs.declared.Kept.{Kept}
 use Rattle.records.specs.declared.Entry as packed
-use Rattle.records.specs.declared.Row.{Row}
+use Rattle.records.specs.declared.RowEnd.{RowEnd}
 use Rattle.cells.specs.Cells as cells
 use Rattle.cells.specs.Listed.{table_rows}
 use Rattle.grid.specs.Grid.{Entry, GridRow, grid_of, columns_of, entries_of}
@@ -34,10 +32,6 @@ use Rattle.table.proofs.Table.{table_rows_lem, table_layable, table_laid}
 use Rattle.table.specs.Arranging.{CellsAre, TableMeasured, AllMeasured, boxes_at, ArrangedAt}
 use Rattle.table.specs.inner.Room.{FrontLayable, LayoutRoom}
 
--- slices of one length hold as many records
-pub same_records : {A : Type 0} (w : ℕ) (make : List ℕ → A) (xs ys : List ℕ) → length ys ≡ length xs → length (records_of w make ys) ≡ length (records_of w make xs)
-same_records w make xs ys e = length_of w make ys ∙ ap (λ (k : ℕ). k / w) e ∙ sym (length_of w make xs)
-
 -- what holds of all entries holds row by row
 rows_all : (P : Entry → Type 0) (g : List GridRow) → All P (entries_of g) → All (λ r. All P r.entries) g
 unfolding All entries_of
@@ -48,7 +42,7 @@ rows_all P (r ∷ rs) a = let (b, c) = part r.entries a in (b, rows_all P rs c)
     part [] a = (tt, a)
     part (e ∷ es) a = let (b, c) = part es a.1 in ((a.0, b), c)
 
-module _ {ks : List Kept} {at : ℕ} {es₀ : List packed.Entry} {rs₀ : List Row} (a : TableReady ks at es₀ rs₀)
+module _ {ks : List Kept} {at : ℕ} {es₀ : List packed.Entry} {rs₀ : List RowEnd} (a : TableReady ks at es₀ rs₀)
     {figures : List Estimate} (m : TableMeasured ks at figures) where
   abbrev table : List cells.Row
   table = table_rows ks at
@@ -84,7 +78,7 @@ module _ {ks : List Kept} {at : ℕ} {es₀ : List packed.Entry} {rs₀ : List R
   rows_few : length g ≤ length ks
   rows_few = omega (arith, grid_rows table a.sound, held_few ks at)
 
-  module _ {counts : Counts} {es : List packed.Entry} {rs : List Row} (w : TableMade table counts es rs) where
+  module _ {counts : Counts} {es : List packed.Entry} {rs : List RowEnd} (w : TableMade table counts es rs) where
     listed : Listed g (take counts.entries es) (take counts.rows rs)
     listed = record { entries = rw w.entries_are w.entries; rows = rw w.rows_are w.rows }
 

@@ -10,7 +10,7 @@ use Rattle.lists.proofs.Tiles.{tiles_start}
 use Rattle.lists.proofs.All.{all_append}
 use Rattle.text.specs.declared.Estimate.{Estimate}
 use Rattle.records.specs.declared.Entry.{Entry}
-use Rattle.records.specs.declared.Row.{Row}
+use Rattle.records.specs.declared.RowEnd.{RowEnd}
 use Rattle.columns.specs.Boxes.{Box, box_first, box_span, rows_by, flat, BoxesTile, Measures, TilesAll}
 use Rattle.columns.proofs.Upto.{length_up_to}
 use Rattle.widths.specs.inner.Lay.{LaidOut}
@@ -40,7 +40,7 @@ unfolding TilesAll flat All
 rows_whole n [] t = tt
 rows_whole n (r ∷ rows) t = all_append (Whole n) r (flat rows) (row_whole n 0 r t.0 t.1) (rows_whole n rows t.2)
 
-module _ {es : List Entry} {rs : List Row} {figures : List Estimate} {width : ℕ} {column₀ xs₀ wides₀ : List ℕ}
+module _ {es : List Entry} {rs : List RowEnd} {figures : List Estimate} {width : ℕ} {column₀ xs₀ wides₀ : List ℕ}
     (p : LayableTable es rs figures width column₀ xs₀ wides₀) where
   abbrev n : ℕ
   n = length column₀

@@ -11,7 +11,7 @@ use Rattle.lists.specs.Limits.{max_position, max_size}
 use Rattle.text.specs.declared.Estimate.{Estimate}
 use Rattle.records.specs.Kept.{no_entry}
 use Rattle.records.specs.declared.Entry.{Entry}
-use Rattle.records.specs.declared.Row.{Row}
+use Rattle.records.specs.declared.RowEnd.{RowEnd}
 use Rattle.grid.specs.Grid.{GridRow, entries_of}
 use Rattle.estimates.specs.Estimates.{Done, box_rows}
 use Rattle.widths.specs.declared.Laid.{Laid}
@@ -21,11 +21,11 @@ use Rattle.table.specs.inner.Room.{LayableTable}
 use Rattle.table.specs.inner.Grids.{RowTiles, RowKnown, Listed}
 use Rattle.table.proofs.Boxes.{boxes_of_grid, ends_ascend, lines_within, tiles_known}
 
-pub entry_count : {g : List GridRow} {es : List Entry} {rs : List Row} → Listed g es rs → length es ≡ length (entries_of g)
+pub entry_count : {g : List GridRow} {es : List Entry} {rs : List RowEnd} → Listed g es rs → length es ≡ length (entries_of g)
 entry_count {g} p = ap length p.entries ∙ length-map (entries_of g) shown
 
 -- the table in line t
-module _ {g : List GridRow} (all : List Done) (figures : List Estimate) {es : List Entry} {rs : List Row} (p : Listed g es rs)
+module _ {g : List GridRow} (all : List Done) (figures : List Estimate) {es : List Entry} {rs : List RowEnd} (p : Listed g es rs)
     (t : ℕ) (known : All (RowKnown t all figures) g) where
   pub table_rows_lem : box_rows_by rs es figures ≡ box_rows t (drop t all) g
   unfolding box_rows_by

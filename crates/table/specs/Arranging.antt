@@ -3,7 +3,7 @@ use Rattle.std.specs.Prelude.{◌≡◌, List, ℕ, ◌+◌, ◌≤◌, ◌<◌,
 use Rattle.text.specs.declared.Estimate.{Estimate}
 use Rattle.records.specs.declared.Kept.{Kept}
 use Rattle.records.specs.declared.Entry.{Entry}
-use Rattle.records.specs.declared.Row.{Row}
+use Rattle.records.specs.declared.RowEnd.{RowEnd}
 use Rattle.columns.specs.Boxes.{Box}
 use Rattle.cells.specs.Listed.{table_rows}
 use Rattle.grid.specs.Grid.{grid_of, columns_of, entries_of}
@@ -37,7 +37,7 @@ abbrev pub boxes_at : ℕ → List Kept → ℕ → List (List Box)
 boxes_at wrap ks at = box_rows (at + 1) (drop (at + 1) (measured wrap 1 ks)) (grid_of (table_rows ks at))
 
 -- the grid of the table made, and the table laid out, at the wrap of the estimates
-pub record ArrangedAt (ks : List Kept) (at : ℕ) (figures : List Estimate) (raw width : ℕ) (es : List Entry) (rs : List Row) (column x wide : List ℕ)
+pub record ArrangedAt (ks : List Kept) (at : ℕ) (figures : List Estimate) (raw width : ℕ) (es : List Entry) (rs : List RowEnd) (column x wide : List ℕ)
     (counts : Counts) (r : Laid) : Type 0 where
   pub made : TableMade (table_rows ks at) counts es rs
   pub laid : (wrap : ℕ) → CellsAre wrap ks at figures

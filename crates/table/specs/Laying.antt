@@ -2,7 +2,7 @@
 use Rattle.std.specs.Prelude.{◌≡◌, List, map, ℕ, ◌≤◌}
 use Rattle.text.specs.declared.Estimate.{Estimate}
 use Rattle.records.specs.declared.Entry.{Entry}
-use Rattle.records.specs.declared.Row.{Row}
+use Rattle.records.specs.declared.RowEnd.{RowEnd}
 use Rattle.columns.specs.Boxes.{Box, rows_by, flat}
 use Rattle.columns.specs.Columns.{size_of, least_of, largest}
 use Rattle.widths.specs.Widths.{way_of, final_widths, table_width}
@@ -14,7 +14,7 @@ use Rattle.placing.specs.Promise.{Promised}
 use Rattle.sizing.specs.Sizing.{entry_box}
 
 -- the rows of the boxes of all entries
-unfoldable pub box_rows_by : List Row → List Entry → List Estimate → List (List Box)
+unfoldable pub box_rows_by : List RowEnd → List Entry → List Estimate → List (List Box)
 box_rows_by rs es figures = rows_by 0 (map end_of rs) (map (entry_box figures) es)
 
 -- the way of a table with these rows of boxes in so many columns, and its final widths

@@ -2,7 +2,6 @@
 #![tactic(auto)]
 
 ghost use Rattle.std.specs.Prelude.{length, take};
-ghost use Rattle.records.specs.Kept.{kepts_of, entries_of, rows_of};
 ghost use Rattle.cells.specs.Listed.{table_rows};
 ghost use Rattle.gridding.specs.Packed.{TableReady};
 ghost use Rattle.table.specs.Laying.{box_rows_by, LaidTable};
@@ -10,6 +9,7 @@ ghost use Rattle.table.specs.Arranging.{TableMeasured, ArrangedAt};
 ghost use Rattle.table.specs.inner.Room.{LayableTable, FrontLayable, LayoutRoom};
 
 use gridding::Counts;
+use records::{Entry, Kept, RowEnd};
 use text::Estimate;
 use widths::Laid;
 
@@ -22,8 +22,8 @@ pub struct Arrangement {
 
 // Ports `render_table_tree`: the columns' widths, and then the place of each entry.
 pub fn lay(
-    entries: &[u32],
-    rows: &[u32],
+    entries: &[Entry],
+    rows: &[RowEnd],
     figures: &[Estimate],
     raw: u32,
     width: u32,
@@ -31,8 +31,8 @@ pub fn lay(
     x: &mut [u32],
     wide: &mut [u32],
 ) -> Laid
-    requires { LayableTable (entries_of entries.now) (rows_of rows.now) figures.now width column.old x.old wide.old }
-    ensures { LaidTable (length column.old) (box_rows_by (rows_of rows.now) (entries_of entries.now) figures.now) raw width column.new x.new wide.new result }
+    requires { LayableTable entries.now rows.now figures.now width column.old x.old wide.old }
+    ensures { LaidTable (length column.old) (box_rows_by rows.now entries.now figures.now) raw width column.new x.new wide.new result }
 {
     let laid = sizing::lay_columns(entries, figures, raw, width, column);
     let way = laid.way;
@@ -45,8 +45,8 @@ fn lay_front(
     r: usize,
     n: usize,
     c: usize,
-    entries: &[u32],
-    rows: &[u32],
+    entries: &[Entry],
+    rows: &[RowEnd],
     figures: &[Estimate],
     raw: u32,
     width: u32,
@@ -54,14 +54,12 @@ fn lay_front(
     x: &mut [u32],
     wide: &mut [u32],
 ) -> Laid
-    requires { FrontLayable r n c (entries_of entries.now) (rows_of rows.now) figures.now width column.old x.old wide.old }
-    ensures { LaidTable c (box_rows_by (take r (rows_of rows.now)) (take n (entries_of entries.now)) figures.now) raw width (take c column.new) (take n x.new) (take n wide.new) result }
+    requires { FrontLayable r n c entries.now rows.now figures.now width column.old x.old wide.old }
+    ensures { LaidTable c (box_rows_by (take r rows.now) (take n entries.now) figures.now) raw width (take c column.new) (take n x.new) (take n wide.new) result }
 {
-    let entries_end = 3 * n;
-    let rows_end = 2 * r;
     lay(
-        &entries[..entries_end],
-        &rows[..rows_end],
+        &entries[..n],
+        &rows[..r],
         figures,
         raw,
         width,
@@ -73,21 +71,21 @@ fn lay_front(
 
 // The table at the place `at` of a measured sheet: its entries and rows as records, final widths, x and width of each entry.
 pub fn arrange(
-    lines: &[u32],
+    lines: &[Kept],
     figures: &[Estimate],
     at: usize,
     raw: u32,
     width: u32,
-    entries: &mut [u32],
-    rows: &mut [u32],
+    entries: &mut [Entry],
+    rows: &mut [RowEnd],
     column: &mut [u32],
     x: &mut [u32],
     wide: &mut [u32],
 ) -> Arrangement
-    requires table_ready { TableReady (kepts_of lines.now) at (entries_of entries.old) (rows_of rows.old) }
-    requires table_measured { TableMeasured (kepts_of lines.now) at figures.now }
-    requires layout_room { LayoutRoom (table_rows (kepts_of lines.now) at) width column.old x.old wide.old }
-    ensures { ArrangedAt (kepts_of lines.now) at figures.now raw width (entries_of entries.new) (rows_of rows.new) column.new x.new wide.new result.counts result.laid }
+    requires table_ready { TableReady lines.now at entries.old rows.old }
+    requires table_measured { TableMeasured lines.now at figures.now }
+    requires layout_room { LayoutRoom (table_rows lines.now at) width column.old x.old wide.old }
+    ensures { ArrangedAt lines.now at figures.now raw width entries.new rows.new column.new x.new wide.new result.counts result.laid }
 {
     let counts = grid_plain::make(lines, at, entries, rows);
     let r = counts.rows;

@@ -11,7 +11,7 @@ use Rattle.lists.specs.Lists.{sum, All}
 use Rattle.lists.proofs.All.{at_any}
 use Rattle.text.specs.Text.{text_estimate}
 use Rattle.text.specs.declared.Estimate.{Estimate}
-use Rattle.kinds.specs.Kinds.{has_text, is_leaf, link_kind, break_kind, table_kind, body_kind, row_kind}
+use Rattle.kinds.specs.Kinds.{kind_number, has_text, is_leaf, link_kind, break_kind, table_kind, body_kind, row_kind}
 use Rattle.records.specs.declared.Kept.{Kept}
 use Rattle.columns.specs.Boxes.{Box, flat, Measures}
 use Rattle.columns.specs.Columns.{size_of, least_of, largest_at, sum_at, sums, largest}
@@ -69,7 +69,7 @@ tabled_fits n bs m = go (eqb n 0)
 
 leaf_fits : (wrap : ℕ) (l : Kept) → Fit (leaf_of wrap l)
 unfolding leaf_of
-leaf_fits wrap l = go (has_text l.kind) (eqb l.kind break_kind)
+leaf_fits wrap l = go (has_text (kind_number l.kind)) (eqb (kind_number l.kind) break_kind)
   where
     go : (a b : Bool) → Fit (cond a (text_estimate wrap l.own) (cond b (estimate 1 1 0) none))
     go true b = omega arith
@@ -88,7 +88,7 @@ gather_fits d a (m ∷ ms) h f = go (leb m.line.depth d) (eqb m.line.depth (d + 
 
 holder_fits : (l : Kept) (c : Children) → Fit c.est → Fit (holder_of l c)
 unfolding holder_of
-holder_fits l c h = go (eqb l.kind link_kind)
+holder_fits l c h = go (eqb (kind_number l.kind) link_kind)
   where
     go : (b : Bool) → Fit (cond b (add c.est (estimate 5 5 0)) (prefixed (prefix_of l c.count) c.est))
     go true = omega arith
@@ -98,7 +98,7 @@ holder_fits l c h = go (eqb l.kind link_kind)
 
 estimate_fits : (wrap t : ℕ) (l : Kept) (ls : List Kept) (rest : List Done) → All Fits rest → Fit (estimate_of wrap t l ls rest)
 unfolding estimate_of
-estimate_fits wrap t l ls rest f = go (is_leaf l.kind) (eqb l.kind body_kind || eqb l.kind row_kind) (eqb l.kind table_kind)
+estimate_fits wrap t l ls rest f = go (is_leaf (kind_number l.kind)) (eqb (kind_number l.kind) body_kind || eqb (kind_number l.kind) row_kind) (eqb (kind_number l.kind) table_kind)
   where
     n : ℕ
     n = columns_of (rows_under l.depth t ls)

@@ -11,7 +11,7 @@ use lib.ListN.{length, get_or, drop, length-drop}
 use lib.Seq.{get_or-drop}
 use borrow.Author.Tests.{lt-leb, eq-eqb, ne_eqb}
 use Rattle.records.specs.Parents.{Parent}
-use Rattle.kinds.specs.Kinds.{has_text, is_leaf, is_frame, link_kind, table_kind, body_kind, row_kind, cell_kind}
+use Rattle.kinds.specs.Kinds.{kind_number, has_text, is_leaf, is_frame, link_kind, table_kind, body_kind, row_kind, cell_kind}
 use Rattle.records.specs.declared.Kept.{Kept}
 use Rattle.estimates.specs.Estimates.{Done, undone, estimate, add, Children, no_children, with_child, gather, leaf_of, prefix_of, prefixed, holder_of, estimate_of}
 use Rattle.estimates.specs.Sheet.{line_at}
@@ -49,7 +49,7 @@ gather_child d a (m ∷ ms) (suc k) h e f =
 
 holder_keeps : (l : Kept) (c : Children) → c.est.least ≤ (holder_of l c).least
 unfolding holder_of
-holder_keeps l c = go (eqb l.kind link_kind)
+holder_keeps l c = go (eqb (kind_number l.kind) link_kind)
   where
     go : (b : Bool) → c.est.least ≤ (cond b (add c.est (estimate 5 5 0)) (prefixed (prefix_of l c.count) c.est)).least
     go true = omega arith
@@ -72,13 +72,13 @@ module _ (wrap : ℕ) (ks : List Kept) where
   abbrev held : ℕ → Children
   held p = gather (line_at ks p).depth no_children (drop (suc p) es)
 
-  holder_is : (p : ℕ) → p < length ks → Holds (line_at ks p).kind → est_at es p ≡ holder_of (line_at ks p) (held p)
+  holder_is : (p : ℕ) → p < length ks → Holds (kind_number (line_at ks p).kind) → est_at es p ≡ holder_of (line_at ks p) (held p)
   unfolding estimate_of
   holder_is p h w =
       est_of wrap ks p h
-      ∙ rw (w.leaf, ne_eqb (line_at ks p).kind body_kind w.body, ne_eqb (line_at ks p).kind row_kind w.row, ne_eqb (line_at ks p).kind table_kind w.table)
+      ∙ rw (w.leaf, ne_eqb (kind_number (line_at ks p).kind) body_kind w.body, ne_eqb (kind_number (line_at ks p).kind) row_kind w.row, ne_eqb (kind_number (line_at ks p).kind) table_kind w.table)
 
-  parent_least : (p i : ℕ) → Parent ks p i → Holds (line_at ks p).kind → (est_at es i).least ≤ (est_at es p).least
+  parent_least : (p i : ℕ) → Parent ks p i → Holds (kind_number (line_at ks p).kind) → (est_at es i).least ≤ (est_at es p).least
   parent_least p i r w =
       let h : p < length ks = omega (arith, r.before, r.within) in
       let k = i - suc p in
@@ -102,14 +102,14 @@ module _ (wrap : ℕ) (ks : List Kept) where
           )
 
   -- a line with text, and a link
-  text_least : (i : ℕ) → i < length ks → has_text (line_at ks i).kind ≡ true → (est_at es i).least ≡ min (est_at es i).size wrap
+  text_least : (i : ℕ) → i < length ks → has_text (kind_number (line_at ks i).kind) ≡ true → (est_at es i).least ≡ min (est_at es i).size wrap
   unfolding estimate_of leaf_of
   text_least i h t = rw (est_of wrap ks i h, t)
 
-  link_least : (i : ℕ) → i < length ks → (line_at ks i).kind ≡ link_kind → 5 ≤ (est_at es i).least
+  link_least : (i : ℕ) → i < length ks → kind_number (line_at ks i).kind ≡ link_kind → 5 ≤ (est_at es i).least
   unfolding holder_of
   link_least i h e =
-      let w : Holds (line_at ks i).kind = rw e (record { leaf = refl; body = λ z. omega arith; row = λ z. omega arith; table = λ z. omega arith }) in
+      let w : Holds (kind_number (line_at ks i).kind) = rw e (record { leaf = refl; body = λ z. omega arith; row = λ z. omega arith; table = λ z. omega arith }) in
       rw (holder_is i h w, e) (omega arith)
 
   -- ---- from a cell down
@@ -118,20 +118,20 @@ module _ (wrap : ℕ) (ks : List Kept) where
   pub record In (c i : ℕ) : Type 0 where
     pub within : i < length ks
     pub least : (est_at es i).least ≤ (est_at es c).least
-    pub body : (line_at ks i).kind ≡ body_kind → ⊥
-    pub row : (line_at ks i).kind ≡ row_kind → ⊥
+    pub body : kind_number (line_at ks i).kind ≡ body_kind → ⊥
+    pub row : kind_number (line_at ks i).kind ≡ row_kind → ⊥
 
   no_frame : (k : ℕ) → is_frame k ≡ false → (k ≡ body_kind → ⊥) × (k ≡ row_kind → ⊥)
   no_frame k f = (λ e. true≢false (rw e at f), λ e. true≢false (rw e at f))
 
-  pub inside_in : Nests ks → (c : ℕ) → c < length ks → (line_at ks c).kind ≡ cell_kind → (i : ℕ) → Inside ks c i → In c i
+  pub inside_in : Nests ks → (c : ℕ) → c < length ks → kind_number (line_at ks c).kind ≡ cell_kind → (i : ℕ) → Inside ks c i → In c i
   inside_in z c h e _ itself = record { within = h; least = omega arith; body = λ f. omega arith; row = λ f. omega arith }
   inside_in z c h e _ (below p i s n r) =
       let q = inside_in z c h e p s in
       let a =
-      allowed (line_at ks p).kind (line_at ks i).kind
+      allowed (kind_number (line_at ks p).kind) (kind_number (line_at ks i).kind)
       (z.holds p i (record { before = r.before; within = r.within; deeper = r.deeper; between = r.between })) in
-      let f = no_frame (line_at ks i).kind (a.elsewhere n q.body q.row) in
+      let f = no_frame (kind_number (line_at ks i).kind) (a.elsewhere n q.body q.row) in
       record {
         within = r.within;
         least = omega (arith, q.least, parent_least p i r (record { leaf = a.holder; body = q.body; row = q.row; table = n }));
@@ -139,8 +139,8 @@ module _ (wrap : ℕ) (ks : List Kept) where
         row = f.1;
       }
 
-  pub text_in : (c i : ℕ) → In c i → has_text (line_at ks i).kind ≡ true → min (est_at es i).size wrap ≤ (est_at es c).least
+  pub text_in : (c i : ℕ) → In c i → has_text (kind_number (line_at ks i).kind) ≡ true → min (est_at es i).size wrap ≤ (est_at es c).least
   text_in c i q t = omega (arith, q.least, text_least i q.within t)
 
-  pub link_in : (c i : ℕ) → In c i → (line_at ks i).kind ≡ link_kind → 5 ≤ (est_at es c).least
+  pub link_in : (c i : ℕ) → In c i → kind_number (line_at ks i).kind ≡ link_kind → 5 ≤ (est_at es c).least
   link_in c i q e = omega (arith, q.least, link_least i q.within e)

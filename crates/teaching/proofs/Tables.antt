@@ -14,7 +14,7 @@ use lib.Seq.{get_or-drop}
 use borrow.Author.Tests.{eq-eqb}
 use Rattle.lists.specs.Refusals.{Check, passes}
 use Rattle.lists.proofs.All.{all_drop, at_all}
-use Rattle.kinds.specs.Kinds.{table_kind, cell_kind}
+use Rattle.kinds.specs.Kinds.{kind_number, table_kind, cell_kind}
 use Rattle.records.specs.Kept.{no_kept}
 use Rattle.records.specs.declared.Kept.{Kept}
 use Rattle.sheet.specs.Sheet.{sheet_checks, sheet_lines}
@@ -50,7 +50,7 @@ use Rattle.teaching.proofs.Fits.{measured_fits}
 -- ---- the checks of the tables
 
 -- those of the table in line u, where the lines from line t on follow
-pub table_passes : (t : ℕ) (ls : List Kept) (i u : ℕ) → t + i ≡ u → i < length ls → (get_or ls i no_kept).kind ≡ table_kind → passes (tables_checks t ls) ≡ true
+pub table_passes : (t : ℕ) (ls : List Kept) (i u : ℕ) → t + i ≡ u → i < length ls → kind_number (get_or ls i no_kept).kind ≡ table_kind → passes (tables_checks t ls) ≡ true
     → passes (table_checks u (rows_under (get_or ls i no_kept).depth u (drop (suc i) ls))) ≡ true
 unfolding tables_checks
 table_passes t [] i u e h k p = absurd (not-suc-le-zero h)
@@ -58,14 +58,14 @@ table_passes t (l ∷ ls) zero u e h k p =
     let z : t ≡ u = omega arith in
     let q : passes (table_checks t (rows_under l.depth t ls)) ≡ true =
     (both_true (passes (table_checks t (rows_under l.depth t ls))) (passes (tables_checks (suc t) ls))
-    (sym (passes_append (table_checks t (rows_under l.depth t ls)) (tables_checks (suc t) ls)) ∙ (rw (eq-eqb l.kind table_kind k) at p))).0 in
+    (sym (passes_append (table_checks t (rows_under l.depth t ls)) (tables_checks (suc t) ls)) ∙ (rw (eq-eqb (kind_number l.kind) table_kind k) at p))).0 in
     rw z at q
 table_passes t (l ∷ ls) (suc i) u e h k p =
     table_passes (suc t) ls i u (omega arith) (le_of_suc-le-suc h) k
     (both_true (passes own) (passes (tables_checks (suc t) ls)) (sym (passes_append own (tables_checks (suc t) ls)) ∙ p)).1
   where
     own : List Check
-    own = cond (eqb l.kind table_kind) (table_checks t (rows_under l.depth t ls)) []
+    own = cond (eqb (kind_number l.kind) table_kind) (table_checks t (rows_under l.depth t ls)) []
 
 -- ---- cells by their lines
 
@@ -205,7 +205,7 @@ module _ {s : List ℕ} {line : ℕ} (w : TableIn s line) where
     pub cell_within : cell_at s line k - 1 < length ks
     cell_within = cell_of.within
 
-    pub is_cell : (get_or ks (cell_at s line k - 1) no_kept).kind ≡ cell_kind
+    pub is_cell : kind_number (get_or ks (cell_at s line k - 1) no_kept).kind ≡ cell_kind
     is_cell = cell_kind_lem ks lined.step nests t (cell_at s line k - 1) cell_of apt.kind
 
     -- its least width is that of its line

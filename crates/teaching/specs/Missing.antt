@@ -4,7 +4,7 @@ use Rattle.std.specs.Prelude.{◌≡◌, true, List, map, ℕ, ◌+◌, ◌-◌,
 use Rattle.lists.specs.Lists.{sum}
 use Rattle.lists.specs.Limits.{max_wrap, max_size}
 use Rattle.lists.specs.Refusals.{verdict_of}
-use Rattle.kinds.specs.Kinds.{table_kind, link_kind, has_text}
+use Rattle.kinds.specs.Kinds.{kind_number, table_kind, link_kind, has_text}
 use Rattle.records.specs.Parents.{Parent}
 use Rattle.records.specs.Kept.{no_kept}
 use Rattle.records.specs.declared.Kept.{Kept}
@@ -62,7 +62,7 @@ column_cause s line wrap raw width j = cause_at (sizes_at s line wrap) (leasts_a
 -- the line at place i stands in the line at place c, and no table stands between (place k holds line k + 1)
 pub data Inside (ks : List Kept) (c : ℕ) : ℕ → Type 0 where
   itself : Inside ks c c
-  below : (p i : ℕ) → Inside ks c p → ((get_or ks p no_kept).kind ≡ table_kind → ⊥) → Parent ks p i → Inside ks c i
+  below : (p i : ℕ) → Inside ks c p → (kind_number (get_or ks p no_kept).kind ≡ table_kind → ⊥) → Parent ks p i → Inside ks c i
 
 -- ---- what holds
 
@@ -90,14 +90,14 @@ NeverMissing = (s : List ℕ) (line wrap raw width : ℕ) → TableIn s line →
 abbrev pub TextKeeps : Type 0
 TextKeeps = (s : List ℕ) (line wrap raw width : ℕ) → TableIn s line → Allowed wrap raw width → 1 ≤ width →
     (k i : ℕ) → k < entry_total s line → 1 ≤ cell_at s line k → Inside (kept_lines s) (cell_at s line k - 1) i →
-    has_text (get_or (kept_lines s) i no_kept).kind ≡ true →
+    has_text (kind_number (get_or (kept_lines s) i no_kept).kind) ≡ true →
     (entry_at s line wrap k).span ≤ (get_or (estimates wrap (kept_lines s)) i none).size → (entry_at s line wrap k).span ≤ wrap →
     0 < printed_at s line wrap raw width k
 
 abbrev pub LinkKeeps : Type 0
 LinkKeeps = (s : List ℕ) (line wrap raw width : ℕ) → TableIn s line → Allowed wrap raw width → 1 ≤ width →
     (k i : ℕ) → k < entry_total s line → 1 ≤ cell_at s line k → Inside (kept_lines s) (cell_at s line k - 1) i →
-    (get_or (kept_lines s) i no_kept).kind ≡ link_kind → (entry_at s line wrap k).span ≤ 5 → 0 < printed_at s line wrap raw width k
+    kind_number (get_or (kept_lines s) i no_kept).kind ≡ link_kind → (entry_at s line wrap k).span ≤ 5 → 0 < printed_at s line wrap raw width k
 
 -- (d) the causes in a teacher's words: sideways, column j of this size and least width
 abbrev pub Side : List ℕ → ℕ → ℕ → ℕ → ℕ → Type 0

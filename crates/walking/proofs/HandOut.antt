@@ -14,12 +14,11 @@ use Rattle.lists.proofs.All.{at_all, all_map}
 use Rattle.lists.specs.Lists.{mem}
 use Rattle.lists.specs.Limits.{max_size}
 use Rattle.text.specs.declared.Estimate.{Estimate}
-use Rattle.kinds.specs.Kinds.{table_kind}
-use Rattle.records.specs.Kept.{no_kept, no_entry, entry_by, entries_of, row_by, rows_of}
+use Rattle.kinds.specs.Kinds.{kind_number, table_kind}
+use Rattle.records.specs.Kept.{no_kept, no_entry}
 use Rattle.records.specs.declared.Kept.{Kept}
 use Rattle.records.specs.declared.Entry as packed
-use Rattle.records.specs.declared.Row.{Row}
-use Rattle.records.proofs.Records.{length_of}
+use Rattle.records.specs.declared.RowEnd.{RowEnd}
 use Rattle.cells.specs.Listed.{table_rows}
 use Rattle.grid.specs.Grid as grid
 use Rattle.grid.specs.Grid.{Entry, shown_line, grid_of, columns_of}
@@ -59,18 +58,18 @@ cells_shown es = map-map cell_in shown es
 -- ---- what is asked for
 
 module _ {ks : List Kept} {figures : List Estimate} (p : Walkable ks figures) {t : ℕ} (h : t < length ks) where
-  module _ (kind : (get_or ks t no_kept).kind ≡ table_kind) where
+  module _ (kind : kind_number (get_or ks t no_kept).kind ≡ table_kind) where
     sound_here : Sound (table_rows ks t)
     sound_here = p.sound t h kind
 
-    module _ {entries rows column x wide : List ℕ} (r : Rooms entries rows column x wide) where
-      pub table_ready : TableReady ks t (entries_of entries) (rows_of rows)
+    module _ {entries : List packed.Entry} {rows : List RowEnd} {column x wide : List ℕ} (r : Rooms entries rows column x wide) where
+      pub table_ready : TableReady ks t entries rows
       table_ready = record {
         within = h;
         lined = p.lined;
         sound = sound_here;
-        entry_room = omega (arith, sound_here.few, length_of 3 entry_by entries, r.entry_room);
-        row_room = omega (arith, p.lined.short, length_of 2 row_by rows, r.row_room);
+        entry_room = omega (arith, sound_here.few, r.entry_room);
+        row_room = omega (arith, p.lined.short, r.row_room);
       }
 
       pub layout_room : {v : ℕ} → v ≤ max_size → LayoutRoom (table_rows ks t) v column x wide
@@ -82,11 +81,11 @@ module _ {ks : List Kept} {figures : List Estimate} (p : Walkable ks figures) {t
       }
 
   -- the entries and their widths have places
-  pub cells_room : (kind : (get_or ks t no_kept).kind ≡ table_kind) (entries₀ entries : List ℕ) {rows column x wide : List ℕ} → Rooms entries₀ rows column x wide
-      → length entries ≡ length entries₀ → length (grid.entries_of (grid_of (table_rows ks t))) ≤ length (entries_of entries)
-  cells_room kind entries₀ entries r e = omega (arith, grid_entries (table_rows ks t) (sound_here kind), length_of 3 entry_by entries, r.entry_room)
+  pub cells_room : (kind : kind_number (get_or ks t no_kept).kind ≡ table_kind) (entries₀ entries : List packed.Entry) {rows : List RowEnd} {column x wide : List ℕ} → Rooms entries₀ rows column x wide
+      → length entries ≡ length entries₀ → length (grid.entries_of (grid_of (table_rows ks t))) ≤ length entries
+  cells_room kind entries₀ entries r e = omega (arith, grid_entries (table_rows ks t) (sound_here kind), r.entry_room)
 
-  pub wides_room : (kind : (get_or ks t no_kept).kind ≡ table_kind) {entries rows column x : List ℕ} (wide₀ wide : List ℕ) → Rooms entries rows column x wide₀
+  pub wides_room : (kind : kind_number (get_or ks t no_kept).kind ≡ table_kind) {entries : List packed.Entry} {rows : List RowEnd} {column x : List ℕ} (wide₀ wide : List ℕ) → Rooms entries rows column x wide₀
       → length wide ≡ length wide₀ → length (grid.entries_of (grid_of (table_rows ks t))) ≤ length wide
   wides_room kind wide₀ wide r e = omega (arith, grid_entries (table_rows ks t) (sound_here kind), r.wide_room)
 
@@ -95,7 +94,7 @@ module _ {ks : List Kept} {figures : List Estimate} (p : Walkable ks figures) {t
   abbrev es : List Entry
   es = grid.entries_of (grid_of (table_rows ks t))
 
-  module _ {raw v : ℕ} {qs : List packed.Entry} {rs : List Row} {column x wide : List ℕ} {counts : Counts} {laid : Laid}
+  module _ {raw v : ℕ} {qs : List packed.Entry} {rs : List RowEnd} {column x wide : List ℕ} {counts : Counts} {laid : Laid}
       (a : ArrangedAt ks t figures raw v qs rs column x wide counts laid) where
     cells_are : map cell_in (take counts.entries qs) ≡ map shown_line es
     cells_are = ap (λ (n : ℕ). map cell_in (take n qs)) a.made.entries_are ∙ ap (map cell_in) a.made.entries ∙ cells_shown es
@@ -113,7 +112,7 @@ module _ {ks : List Kept} {figures : List Estimate} (p : Walkable ks figures) {t
           (all_map (IsCell ks t) (λ y. y.cell ≤ length ps) shown (λ y. shown_within (length ps) ks t y n) es (entries_cells p.lined t h)) b);
     }
 
-    module _ (kind : (get_or ks t no_kept).kind ≡ table_kind) (N : ℕ) (e : N ≡ counts.entries) (ew : length es ≤ length wide) (ps₀ ps : List (Option ℕ))
+    module _ (kind : kind_number (get_or ks t no_kept).kind ≡ table_kind) (N : ℕ) (e : N ≡ counts.entries) (ew : length es ≤ length wide) (ps₀ ps : List (Option ℕ))
         (n : length ks ≤ length ps₀) (w : ps ≡ printed_by (map cell_in (take N qs)) (take N wide) ps₀) where
       member : (i : ℕ) → mem (suc i) (map cell_in (take N qs)) ≡ mem (suc i) (cell_owners es)
       member i = ap (mem (suc i)) (ap (λ (m : ℕ). map cell_in (take m qs)) e ∙ cells_are) ∙ shown_mem i es
@@ -156,9 +155,9 @@ handed_at e h = rw e h
 
 -- ---- nothing is given
 
-pub handed_other : {ks : List Kept} {t : ℕ} {figures : List Estimate} {raw : ℕ} {w : Option ℕ} {ps : List (Option ℕ)} (k : Kept) → k ≡ get_or ks t no_kept → (k.kind ≡ table_kind → ⊥)
+pub handed_other : {ks : List Kept} {t : ℕ} {figures : List Estimate} {raw : ℕ} {w : Option ℕ} {ps : List (Option ℕ)} → (kind_number (get_or ks t no_kept).kind ≡ table_kind → ⊥)
     → HandedOut ks t figures raw w ps ps
-handed_other k q n = record { cell = λ wrap f i c. absurd (n (ap (λ (x : Kept). x.kind) q ∙ c.0)); other = λ i c. refl }
+handed_other n = record { cell = λ wrap f i c. absurd (n c.0); other = λ i c. refl }
 
 pub handed_none : {ks : List Kept} {t : ℕ} {figures : List Estimate} {raw : ℕ} {w : Option ℕ} {ps : List (Option ℕ)} → w ≡ None → HandedOut ks t figures raw w ps ps
 unfolding cell_width

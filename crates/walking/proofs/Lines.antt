@@ -11,7 +11,7 @@ use lib.Dec.{eqb}
 use lib.ListN.{length, get_or, length-append, get_or-append}
 use lib.Seq.{get_or_at}
 use borrow.Author.Tests.{eq-eqb, ne_eqb}
-use Rattle.kinds.specs.Kinds.{table_kind, body_kind, row_kind, cell_kind, is_frame}
+use Rattle.kinds.specs.Kinds.{kind_number, table_kind, body_kind, row_kind, cell_kind, is_frame}
 use Rattle.records.specs.Kept.{no_kept}
 use Rattle.records.specs.declared.Kept.{Kept}
 use Rattle.grid.specs.Facts.{CellOf}
@@ -116,21 +116,21 @@ pub record InTable (ks : List Kept) (i : ℕ) : Type 0 where
   pub cell : CellIn ks table i
 
 module _ {ks : List Kept} (w : Sheet ks) where
-  frame_parent : (i : ℕ) → i < length ks → is_frame (line_at ks i).kind ≡ true → (p : ℕ) × Parent ks p i
+  frame_parent : (i : ℕ) → i < length ks → is_frame (kind_number (line_at ks i).kind) ≡ true → (p : ℕ) × Parent ks p i
   frame_parent i h f = parent w i h (go (ℕ_discrete i 0))
     where
       go : Dec (i ≡ 0) → 0 < (line_at ks i).depth
-      go (yes e) = absurd (true≢false (sym f ∙ ap (λ (x : ℕ). is_frame (line_at ks x).kind) e ∙ w.root))
+      go (yes e) = absurd (true≢false (sym f ∙ ap (λ (x : ℕ). is_frame (kind_number (line_at ks x).kind)) e ∙ w.root))
       go (no e) = w.under i (omega arith) h
 
-  pub cell_table : (i : ℕ) → i < length ks → (line_at ks i).kind ≡ cell_kind → InTable ks i
+  pub cell_table : (i : ℕ) → i < length ks → kind_number (line_at ks i).kind ≡ cell_kind → InTable ks i
   cell_table i h e =
       let x = frame_parent i h (rw e refl) in
-      let xk = (frames (line_at ks x.0).kind (line_at ks i).kind (may w x.0 i x.1)).cell e in
+      let xk = (frames (kind_number (line_at ks x.0).kind) (kind_number (line_at ks i).kind) (may w x.0 i x.1)).cell e in
       let y = frame_parent x.0 (omega (arith, x.1.before)) (rw xk refl) in
-      let yk = (frames (line_at ks y.0).kind (line_at ks x.0).kind (may w y.0 x.0 y.1)).row xk in
+      let yk = (frames (kind_number (line_at ks y.0).kind) (kind_number (line_at ks x.0).kind) (may w y.0 x.0 y.1)).row xk in
       let z = frame_parent y.0 (omega (arith, x.1.before, y.1.before)) (rw yk refl) in
-      let zk = (frames (line_at ks z.0).kind (line_at ks y.0).kind (may w z.0 y.0 z.1)).body yk in
+      let zk = (frames (kind_number (line_at ks z.0).kind) (kind_number (line_at ks y.0).kind) (may w z.0 y.0 z.1)).body yk in
       record {
         table = z.0;
         cell = (

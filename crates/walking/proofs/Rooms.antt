@@ -11,9 +11,11 @@ use lib.Dec.{eqb}
 use lib.ListN.{length, get_or, take, replicate}
 use Rattle.lists.specs.Limits.{max_size, depths}
 use Rattle.text.specs.declared.Estimate.{Estimate}
-use Rattle.records.specs.Kept.{no_kept, kept_count, kepts_of}
+use Rattle.kinds.specs.Kinds.{kind_number}
+use Rattle.records.specs.Kept.{no_kept}
 use Rattle.records.specs.declared.Kept.{Kept}
-use Rattle.records.proofs.Kepts.{length_kepts}
+use Rattle.records.specs.declared.Entry.{Entry}
+use Rattle.records.specs.declared.RowEnd.{RowEnd}
 use Rattle.estimates.specs.Estimates.{none, estimates}
 use Rattle.passing.specs.Walk.{too_narrow}
 use Rattle.walking.specs.inner.Steps.{Walkable, Rooms, Kepts, HandReady, HandedOut, LineHere, Stepped, Cleared, Walked}
@@ -25,65 +27,62 @@ abbrev pub SofarAny : List Kept → List Estimate → ℕ → ℕ → ℕ → Li
 SofarAny ks figures raw root overflow ps qs i =
     (p : Walkable ks figures) (wrap : ℕ) (same : take (length ks) figures ≡ estimates wrap ks) → Sofar p wrap same raw root overflow ps qs i
 
--- a place that is passed is one of the lines'
-pub here_in : {n i : ℕ} (lines : List ℕ) → n ≡ kept_count lines → i < n → i < length (kepts_of lines)
-here_in lines e h = omega (arith, length_kepts lines)
-
-module _ (lines : List ℕ) (figures : List Estimate) (walk₀ : List (Option ℕ)) (p : Walkable (kepts_of lines) figures) (c : Cleared (length (kepts_of lines)) walk₀) where
-  pub figure_in : {i : ℕ} → i < length (kepts_of lines) → i < length figures
+module _ (lines : List Kept) (figures : List Estimate) (walk₀ : List (Option ℕ)) (p : Walkable lines figures) (c : Cleared (length lines) walk₀) where
+  pub figure_in : {i : ℕ} → i < length lines → i < length figures
   figure_in h = omega (arith, p.measured.enough)
 
-  pub line_here : (walk passed : List (Option ℕ)) {i : ℕ} → length walk ≡ length walk₀ → length passed ≡ depths → i < length (kepts_of lines) → LineHere lines figures walk passed i
+  pub line_here : (walk passed : List (Option ℕ)) {i : ℕ} → length walk ≡ length walk₀ → length passed ≡ depths → i < length lines → LineHere lines figures walk passed i
   line_here walk passed {i} e f h = record {
-    within = omega (arith, length_kepts lines);
+    within = omega arith;
     figure_in = figure_in h;
     place_in = omega (arith, c.line_room);
     depth_in = omega (arith, p.lined.shallow i);
   }
 
-  pub walk_room : (walk : List (Option ℕ)) → length walk ≡ length walk₀ → length (kepts_of lines) ≤ length walk
+  pub walk_room : (walk : List (Option ℕ)) → length walk ≡ length walk₀ → length lines ≤ length walk
   walk_room walk e = omega (arith, c.line_room)
 
   passed_room : (passed : List (Option ℕ)) → length passed ≡ depths → depths ≤ length passed
   passed_room passed e = omega arith
 
   module _ (raw root overflow : ℕ) (small : root ≤ max_size) where
-    pub started : SofarAny (kepts_of lines) figures raw root overflow walk₀ (replicate depths None) 0
+    pub started : SofarAny lines figures raw root overflow walk₀ (replicate depths None) 0
     started q wrap same = start q wrap same raw root overflow c (none_at depths)
 
     module _ (walk passed : List (Option ℕ)) (e : length walk ≡ length walk₀) (f : length passed ≡ depths) (i : ℕ)
-        (z : SofarAny (kepts_of lines) figures raw root overflow walk passed i) where
-      pub walked_all : length (kepts_of lines) ≤ i → Walked (kepts_of lines) figures raw root overflow (Ok tt) walk
+        (z : SofarAny lines figures raw root overflow walk passed i) where
+      pub walked_all : length lines ≤ i → Walked lines figures raw root overflow (Ok tt) walk
       walked_all h = record {
         answer = λ wrap same. (stop p wrap same small (z p wrap same) h (walk_room walk e)).0;
         widths = λ wrap same _. (stop p wrap same small (z p wrap same) h (walk_room walk e)).1;
         small = λ wrap same _. (stop p wrap same small (z p wrap same) h (walk_room walk e)).2;
       }
 
-      module _ (h : i < length (kepts_of lines)) (w : Option ℕ) (ps qs : List (Option ℕ))
-          (s : Stepped (kepts_of lines) figures root i w walk passed ps qs) where
-        pub hand_ready : HandReady (kepts_of lines) i w
+      module _ (h : i < length lines) (w : Option ℕ) (ps qs : List (Option ℕ))
+          (s : Stepped lines figures root i w walk passed ps qs) where
+        pub hand_ready : HandReady lines i w
         hand_ready = record { within = h; small = step_small p p.measured.wrap p.measured.figures_are small (z p p.measured.wrap p.measured.figures_are) h s }
 
-        module _ (b : Bool) (o : b ≡ (eqb overflow 0 && too_narrow (get_or (kepts_of lines) i no_kept).kind (get_or figures i none) w)) where
-          pub walked_refused : b ≡ true → (last : List (Option ℕ)) → Walked (kepts_of lines) figures raw root overflow (Err (refusal TooNarrow (i + 1))) last
+        module _ (b : Bool) (o : b ≡ (eqb overflow 0 && too_narrow (kind_number (get_or lines i no_kept).kind) (get_or figures i none) w)) where
+          pub walked_refused : b ≡ true → (last : List (Option ℕ)) → Walked lines figures raw root overflow (Err (refusal TooNarrow (i + 1))) last
           walked_refused t last = record {
             answer = λ wrap same. turn_refused p wrap same small (z p wrap same) h s b o t;
             widths = λ wrap same a. let x : ◌≡◌ {A = ℕ} 0 1 = cc in absurd (omega arith);
             small = λ wrap same a. let x : ◌≡◌ {A = ℕ} 0 1 = cc in absurd (omega arith);
           }
 
-          pub walked_on : b ≡ false → (last : List (Option ℕ)) → HandedOut (kepts_of lines) i figures raw w ps last
-              → SofarAny (kepts_of lines) figures raw root overflow last qs (i + 1)
+          pub walked_on : b ≡ false → (last : List (Option ℕ)) → HandedOut lines i figures raw w ps last
+              → SofarAny lines figures raw root overflow last qs (i + 1)
           walked_on t last g q wrap same = turn q wrap same small (z q wrap same) h s g (walk_room walk e) (passed_room passed f) b o t
 
 -- ---- slices that keep their lengths
 
-pub same_start : {entries rows column x wide : List ℕ} → Kepts entries rows column x wide entries rows column x wide
+pub same_start : {entries : List Entry} {rows : List RowEnd} {column x wide : List ℕ} → Kepts entries rows column x wide entries rows column x wide
 same_start = record { entry_same = refl; row_same = refl; column_same = refl; x_same = refl; wide_same = refl }
 
-module _ {entries₀ rows₀ column₀ x₀ wide₀ entries rows column x wide : List ℕ} (s : Kepts entries₀ rows₀ column₀ x₀ wide₀ entries rows column x wide) where
-  pub same_turn : {entries' rows' column' x' wide' : List ℕ}
+module _ {entries₀ : List Entry} {rows₀ : List RowEnd} {column₀ x₀ wide₀ : List ℕ} {entries : List Entry} {rows : List RowEnd} {column x wide : List ℕ}
+    (s : Kepts entries₀ rows₀ column₀ x₀ wide₀ entries rows column x wide) where
+  pub same_turn : {entries' : List Entry} {rows' : List RowEnd} {column' x' wide' : List ℕ}
       → length entries' ≡ length entries → length rows' ≡ length rows → length column' ≡ length column → length x' ≡ length x → length wide' ≡ length wide
       → Kepts entries₀ rows₀ column₀ x₀ wide₀ entries' rows' column' x' wide'
   same_turn a b c d e = record { entry_same = a ∙ s.entry_same; row_same = b ∙ s.row_same; column_same = c ∙ s.column_same; x_same = d ∙ s.x_same; wide_same = e ∙ s.wide_same }

@@ -17,7 +17,7 @@ use Rattle.lists.specs.Limits.{max_size, depths}
 use Rattle.lists.specs.Lists.{All}
 use Rattle.lists.specs.Refusals.{Check, first_answer, verdict_of, refusal}
 use Rattle.text.specs.declared.Estimate.{Estimate}
-use Rattle.kinds.specs.Kinds.{table_kind, cell_kind}
+use Rattle.kinds.specs.Kinds.{kind_number, table_kind, cell_kind}
 use Rattle.records.specs.Kept.{no_kept}
 use Rattle.records.specs.declared.Kept.{Kept}
 use Rattle.cells.specs.Listed.{table_rows}
@@ -50,7 +50,7 @@ module _ {ks : List Kept} {figures : List Estimate} (p : Walkable ks figures) (w
       rw (get_or-map est_of (measured wrap 1 ks) k undone) at (rw e at f))
 
   -- no cell is wider than its table
-  pub cell_most : (raw t w i : ℕ) → t < length ks → (get_or ks t no_kept).kind ≡ table_kind → AtMost w (cell_width wrap raw ks t (Some w) i)
+  pub cell_most : (raw t w i : ℕ) → t < length ks → kind_number (get_or ks t no_kept).kind ≡ table_kind → AtMost w (cell_width wrap raw ks t (Some w) i)
   unfolding cell_width
   cell_most raw t w i h e =
       most_printed w (map shown_line (entries_of (grid_of (table_rows ks t)))) (map width_in (places_in (columns_of (table_rows ks t)) (boxes_at wrap ks t) raw w)) (i + 1)
@@ -67,7 +67,7 @@ module _ {ks : List Kept} {figures : List Estimate} (p : Walkable ks figures) (w
   unfolding cell_width AtMost
   none_small raw t i = tt
 
-  cell_small : (raw t i : ℕ) (v : Option ℕ) → t < length ks → (get_or ks t no_kept).kind ≡ table_kind → AtMost max_size v → AtMost max_size (cell_width wrap raw ks t v i)
+  cell_small : (raw t i : ℕ) (v : Option ℕ) → t < length ks → kind_number (get_or ks t no_kept).kind ≡ table_kind → AtMost max_size v → AtMost max_size (cell_width wrap raw ks t v i)
   cell_small raw t i None h e s = none_small raw t i
   cell_small raw t i (Some w) h e s = wide_small w (cell_width wrap raw ks t (Some w) i) s (cell_most raw t w i h e)
 
@@ -124,36 +124,36 @@ module _ {ks : List Kept} {figures : List Estimate} (p : Walkable ks figures) (w
       here = get_or ks i no_kept
 
       -- the line's own width
-      cell_own : here.kind ≡ cell_kind → get_or ps i None ≡ (from_nearest (λ t. cell_width wrap raw ks t (get_or (W i) t None) i) ks (here.depth - 3) i)
+      cell_own : kind_number here.kind ≡ cell_kind → get_or ps i None ≡ (from_nearest (λ t. cell_width wrap raw ks t (get_or (W i) t None) i) ks (here.depth - 3) i)
       cell_own e =
           let c = cell_table p.sheet i h e in
           z.ahead c.table i c.cell (omega arith) ∙ (sym (cell_nearest p.sheet (λ t. cell_width wrap raw ks t (get_or (W i) t None) i) i c))
 
       pub own_is : own_width root i (get_or ks i no_kept) ps qs ≡ line_width wrap raw root ks (walk_to wrap raw root ks i) i
       unfolding line_width
-      own_is = go (eqb i 0) (eqb here.kind cell_kind) refl
+      own_is = go (eqb i 0) (eqb (kind_number here.kind) cell_kind) refl
         where
-          go : (a b : Bool) → eqb here.kind cell_kind ≡ b
+          go : (a b : Bool) → eqb (kind_number here.kind) cell_kind ≡ b
               → cond a (Some root) (cond b (get_or ps i None) (get_or qs (here.depth - 1) None))
               ≡ cond a (Some root) (cond b (from_nearest (λ t. cell_width wrap raw ks t (get_or (W i) t None) i) ks (here.depth - 3) i) (from_nearest (passed_by wrap ks (W i)) ks (here.depth - 1) i))
           go true b e = refl
-          go false true e = cell_own (eqb-true here.kind cell_kind e)
+          go false true e = cell_own (eqb-true (kind_number here.kind) cell_kind e)
           go false false e = z.passes (here.depth - 1) (omega (arith, p.lined.shallow i))
 
       pub own_small : AtMost max_size (line_width wrap raw root ks (walk_to wrap raw root ks i) i)
       unfolding line_width AtMost
-      own_small = go (eqb i 0) (eqb here.kind cell_kind) refl
+      own_small = go (eqb i 0) (eqb (kind_number here.kind) cell_kind) refl
         where
           passed_small : (k : ℕ) → k < i → AtMost max_size (passed_by wrap ks (W i) k)
           passed_small k l =
-              most_passed max_size (get_or ks k no_kept).kind (get_or (estimates wrap ks) k none) (get_or (W i) k None)
+              most_passed max_size (kind_number (get_or ks k no_kept).kind) (get_or (estimates wrap ks) k none) (get_or (W i) k None)
               (omega (arith, p.small k (omega arith), ap (λ (e : Estimate). e.least) (figure_at_lem k (omega arith)))) (z.small k)
 
-          go : (a b : Bool) → eqb here.kind cell_kind ≡ b
+          go : (a b : Bool) → eqb (kind_number here.kind) cell_kind ≡ b
               → AtMost max_size (cond a (Some root) (cond b (from_nearest (λ t. cell_width wrap raw ks t (get_or (W i) t None) i) ks (here.depth - 3) i) (from_nearest (passed_by wrap ks (W i)) ks (here.depth - 1) i)))
           go true b e = root-small
           go false true e =
-              let c = cell_table p.sheet i h (eqb-true here.kind cell_kind e) in
+              let c = cell_table p.sheet i h (eqb-true (kind_number here.kind) cell_kind e) in
               rw (cell_nearest p.sheet (λ t. cell_width wrap raw ks t (get_or (W i) t None) i) i c)
               (cell_small raw c.table i (get_or (W i) c.table None) (omega (arith, c.cell.1.before)) c.cell.0 (z.small c.table))
           go false false e = most_nearest max_size (passed_by wrap ks (W i)) ks (here.depth - 1) i passed_small
@@ -162,11 +162,11 @@ module _ {ks : List Kept} {figures : List Estimate} (p : Walkable ks figures) (w
       abbrev rest : List Check
       rest = narrow_from wrap raw root overflow ks (length ks - (i + 1)) (i + 1)
 
-      here_narrow : (w : Option ℕ) → w ≡ own → narrow_at wrap raw root ks i ≡ too_narrow here.kind (get_or figures i none) w
+      here_narrow : (w : Option ℕ) → w ≡ own → narrow_at wrap raw root ks i ≡ too_narrow (kind_number here.kind) (get_or figures i none) w
       here_narrow w e =
-          (λ j. too_narrow here.kind (sym (figure_at_lem i h) j) ((walk_stays wrap raw root ks (length ks) (suc i) i (omega arith) h ∙ walk_last wrap raw root ks i ∙ sym e) j))
+          (λ j. too_narrow (kind_number here.kind) (sym (figure_at_lem i h) j) ((walk_stays wrap raw root ks (length ks) (suc i) i (omega arith) h ∙ walk_last wrap raw root ks i ∙ sym e) j))
 
-      verdict_here : (w : Option ℕ) → w ≡ own → (b : Bool) → b ≡ (eqb overflow 0 && too_narrow here.kind (get_or figures i none) w)
+      verdict_here : (w : Option ℕ) → w ≡ own → (b : Bool) → b ≡ (eqb overflow 0 && too_narrow (kind_number here.kind) (get_or figures i none) w)
           → verdict_of (narrow_checks wrap raw root overflow ks) ≡ cond b (Err (refusal TooNarrow (i + 1))) (verdict_of rest)
       unfolding narrow_from verdict_of first_answer
       verdict_here w e b f =
@@ -183,7 +183,7 @@ module _ {ks : List Kept} {figures : List Estimate} (p : Walkable ks figures) (w
         pub step_small : AtMost max_size w
         step_small = rw w_is own_small
 
-        pub turn_refused : (b : Bool) → b ≡ (eqb overflow 0 && too_narrow (get_or ks i no_kept).kind (get_or figures i none) w) → b ≡ true
+        pub turn_refused : (b : Bool) → b ≡ (eqb overflow 0 && too_narrow (kind_number (get_or ks i no_kept).kind) (get_or figures i none) w) → b ≡ true
             → Err (refusal TooNarrow (i + 1)) ≡ verdict_of (narrow_checks wrap raw root overflow ks)
         turn_refused b f t = sym (verdict_here w w_is b f ∙ rw t)
 
@@ -223,22 +223,22 @@ module _ {ks : List Kept} {figures : List Estimate} (p : Walkable ks figures) (w
           passes_next d l (yes e) =
               rw (eq-eqb here.depth d e)
               (ap (λ (y : List (Option ℕ)). get_or y d None) s.passes
-              ∙ ap (λ (x : ℕ). get_or (set qs here.depth (passed_on here.kind (get_or figures i none) w)) x None) (sym e)
-              ∙ get_or-set_same qs here.depth (passed_on here.kind (get_or figures i none) w) None (omega arith)
-              ∙ (λ n. passed_on here.kind (figure_at_lem i h n) (sym now_own n)))
+              ∙ ap (λ (x : ℕ). get_or (set qs here.depth (passed_on (kind_number here.kind) (get_or figures i none) w)) x None) (sym e)
+              ∙ get_or-set_same qs here.depth (passed_on (kind_number here.kind) (get_or figures i none) w) None (omega arith)
+              ∙ (λ n. passed_on (kind_number here.kind) (figure_at_lem i h n) (sym now_own n)))
           passes_next d l (no e) =
               rw (ne_eqb here.depth d e)
               (ap (λ (y : List (Option ℕ)). get_or y d None) s.passes
-              ∙ get_or-set_other qs here.depth d (passed_on here.kind (get_or figures i none) w) None (λ q. e (sym q))
+              ∙ get_or-set_other qs here.depth d (passed_on (kind_number here.kind) (get_or figures i none) w) None (λ q. e (sym q))
               ∙ z.passes d l
               ∙ (nearest_same (passed_by wrap ks (W i)) (passed_by wrap ks (W (suc i))) ks d i
-              (λ k m. ap (λ (v : Option ℕ). passed_on (get_or ks k no_kept).kind (get_or (estimates wrap ks) k none) v) (sym (walk_at wrap raw root ks i k (λ q. omega arith))))))
+              (λ k m. ap (λ (v : Option ℕ). passed_on (kind_number (get_or ks k no_kept).kind) (get_or (estimates wrap ks) k none) v) (sym (walk_at wrap raw root ks i k (λ q. omega arith))))))
 
           small_next : (k : ℕ) → Dec (k ≡ i) → AtMost max_size (get_or (W (suc i)) k None)
           small_next k (yes e) = rw (e, walk_last wrap raw root ks i) own_small
           small_next k (no e) = rw (walk_at wrap raw root ks i k e) (z.small k)
 
-          pub turn : (b : Bool) → b ≡ (eqb overflow 0 && too_narrow (get_or ks i no_kept).kind (get_or figures i none) w) → b ≡ false → Sofar raw root overflow ps₂ qs₁ (i + 1)
+          pub turn : (b : Bool) → b ≡ (eqb overflow 0 && too_narrow (kind_number (get_or ks i no_kept).kind) (get_or figures i none) w) → b ≡ false → Sofar raw root overflow ps₂ qs₁ (i + 1)
           turn b f t = record {
             at = omega arith;
             front = rw add-one (λ k l. front_next k l (ℕ_discrete k i));

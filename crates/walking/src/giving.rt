@@ -1,17 +1,18 @@
 // What a table gives its cells: each printed one has its own width, and a missing one none.
 ghost use Rattle.std.specs.Prelude.{◌≡◌, map, ◌≤◌, length, take};
-ghost use Rattle.records.specs.Kept.{kepts_of, entries_of};
 ghost use Rattle.walking.specs.inner.Steps.{Walkable, Rooms, CellsFit, cell_in, printed_by, HandReady, HandedOut};
 
+use kinds::Kind;
+use records::{Entry, Kept, RowEnd};
 use text::Estimate;
 
 // Writes the width of each of the first n entries to the place of its cell's line; a filler has none.
-fn print_cells(entries: &[u32], wide: &[u32], n: usize, walk: &mut [Option<u32>])
-    requires { CellsFit n (entries_of entries.now) wide.now walk.old }
-    ensures { walk.new ≡ printed_by (map cell_in (take n (entries_of entries.now))) (take n wide.now) walk.old }
+fn print_cells(entries: &[Entry], wide: &[u32], n: usize, walk: &mut [Option<u32>])
+    requires { CellsFit n entries.now wide.now walk.old }
+    ensures { walk.new ≡ printed_by (map cell_in (take n entries.now)) (take n wide.now) walk.old }
 {
     for k in (0..n).rev() {
-        let e = records::entry_at(entries, k);
+        let e = entries[k];
         if e.cell != 0 {
             let at = (e.cell - 1) as usize;
             walk[at] = passing::printed(wide[k]);
@@ -21,26 +22,26 @@ fn print_cells(entries: &[u32], wide: &[u32], n: usize, walk: &mut [Option<u32>]
 
 // Lays out the line at the place `at`, if it is a table and has a width, and writes the widths of its cells.
 pub fn hand_out(
-    lines: &[u32],
+    lines: &[Kept],
     figures: &[Estimate],
     at: usize,
     raw: u32,
     width: Option<u32>,
     walk: &mut [Option<u32>],
-    entries: &mut [u32],
-    rows: &mut [u32],
+    entries: &mut [Entry],
+    rows: &mut [RowEnd],
     column: &mut [u32],
     x: &mut [u32],
     wide: &mut [u32],
 )
-    requires walkable { Walkable (kepts_of lines.now) figures.now }
-    requires hand_ready { HandReady (kepts_of lines.now) at width }
-    requires lines_in_bounds { length (kepts_of lines.now) ≤ length walk.old }
+    requires walkable { Walkable lines.now figures.now }
+    requires hand_ready { HandReady lines.now at width }
+    requires lines_in_bounds { length lines.now ≤ length walk.old }
     requires rooms { Rooms entries.old rows.old column.old x.old wide.old }
-    ensures { HandedOut (kepts_of lines.now) at figures.now raw width walk.old walk.new }
+    ensures { HandedOut lines.now at figures.now raw width walk.old walk.new }
 {
-    let here = records::kept_at(lines, at);
-    if here.kind != kinds::TABLE {
+    let here = lines[at];
+    if here.kind != Kind::Table {
         return;
     }
     let Some(v) = width else {

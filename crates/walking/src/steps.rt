@@ -1,18 +1,21 @@
 // The lines one after the other.
 ghost use Rattle.std.specs.Prelude.{◌≡◌, ◌&&◌, ◌≤◌, ◌<◌, ◌/◌, eqb, length, get_or};
 ghost use Rattle.lists.specs.Limits.{max_size};
-ghost use Rattle.records.specs.Kept.{no_kept, kept_count, kepts_of};
+ghost use Rattle.kinds.specs.Kinds.{kind_number};
+ghost use Rattle.records.specs.Kept.{no_kept};
 ghost use Rattle.estimates.specs.Estimates.{none};
 ghost use Rattle.passing.specs.Walk.{too_narrow};
 ghost use Rattle.walking.specs.inner.Steps.{Walkable, Rooms, own_width, LineHere, Stepped, Cleared, Walked};
 
+use kinds::Kind;
 use lists::{DEPTHS, Reason, Refusal};
+use records::{Entry, Kept, RowEnd};
 use text::Estimate;
 
 // The width of the line at the place i: the first line has the page's; what a cell has, its table wrote there; any other line has what its parent
 // passes on, the nearest line one less deep.
 fn own_width(
-    k: records::Kept,
+    k: Kept,
     i: usize,
     width: u32,
     walk: &[Option<u32>],
@@ -25,7 +28,7 @@ fn own_width(
     if i == 0 {
         return Some(width);
     }
-    if k.kind == kinds::CELL {
+    if k.kind == Kind::Cell {
         return walk[i];
     }
     passed[k.depth.saturating_sub(1) as usize]
@@ -33,7 +36,7 @@ fn own_width(
 
 // Line i: its width, which is written to its place, and what it passes on, which is written to the place of its depth.
 fn step(
-    lines: &[u32],
+    lines: &[Kept],
     figures: &[Estimate],
     i: usize,
     width: u32,
@@ -41,10 +44,10 @@ fn step(
     passed: &mut [Option<u32>],
 ) -> Option<u32>
     requires { LineHere lines.now figures.now walk.old passed.old i }
-    ensures { Stepped (kepts_of lines.now) figures.now width i result
+    ensures { Stepped lines.now figures.now width i result
         walk.old passed.old walk.new passed.new }
 {
-    let here = records::kept_at(lines, i);
+    let here = lines[i];
     let own = own_width(here, i, width, walk, passed);
     let e = figures[i];
     walk[i] = own;
@@ -53,40 +56,40 @@ fn step(
 }
 
 // Whether line i ends the walk: it is too narrow, and overflow is off.
-fn ends(lines: &[u32], figures: &[Estimate], i: usize, own: Option<u32>, overflow: u32) -> bool
-    requires { (i < kept_count lines.now) × (i < length figures.now) }
-    ensures { result ≡ (eqb overflow 0 && too_narrow (get_or (kepts_of lines.now) i no_kept).kind (get_or figures.now i none) own) }
+fn ends(lines: &[Kept], figures: &[Estimate], i: usize, own: Option<u32>, overflow: u32) -> bool
+    requires { (i < length lines.now) × (i < length figures.now) }
+    ensures { result ≡ (eqb overflow 0 && too_narrow (kind_number (get_or lines.now i no_kept).kind) (get_or figures.now i none) own) }
 {
     if overflow != 0 {
         return false;
     }
-    let here = records::kept_at(lines, i);
+    let here = lines[i];
     let e = figures[i];
     passing::too_narrow(here.kind, e, own)
 }
 
 // Walks the lines from the first on, where none has a width yet. A place of `passed` for each depth holds what the nearest line of that depth passes on.
 pub fn walk_lines(
-    lines: &[u32],
+    lines: &[Kept],
     figures: &[Estimate],
     raw: u32,
     width: u32,
     overflow: u32,
     walk: &mut [Option<u32>],
-    entries: &mut [u32],
-    rows: &mut [u32],
+    entries: &mut [Entry],
+    rows: &mut [RowEnd],
     column: &mut [u32],
     x: &mut [u32],
     wide: &mut [u32],
 ) -> Result<(), Refusal>
-    requires walkable { Walkable (kepts_of lines.now) figures.now }
+    requires walkable { Walkable lines.now figures.now }
     requires raw_bound { (raw ≤ 1) × (width ≤ max_size) }
-    requires cleared { Cleared (length (kepts_of lines.now)) walk.old }
+    requires cleared { Cleared (length lines.now) walk.old }
     requires rooms { Rooms entries.old rows.old column.old x.old wide.old }
-    ensures { Walked (kepts_of lines.now) figures.now raw width overflow result walk.new }
+    ensures { Walked lines.now figures.now raw width overflow result walk.new }
 {
     let mut passed = [None; DEPTHS];
-    let n = records::count(lines);
+    let n = lines.len();
     for i in 0..n {
         let own = step(lines, figures, i, width, walk, &mut passed);
         if ends(lines, figures, i, own, overflow) {

@@ -1,4 +1,5 @@
 -- The call `walk`: what is found in the sheet is what it answers and leaves. Assumes nothing.
+use Rattle.records.specs.declared.Kept.{Kept}
 use Rattle.lists.specs.declared.Refusal.{Refusal}
 use Rattle.std.specs.Prelude.{Err, Ok, Result, Option, None, Some}
 use Rattle.std.specs.Option.{is_some, unwrap_or}
@@ -44,7 +45,7 @@ unfolding width_number
 width_is None = refl
 width_is (Some v) = refl
 
-module _ {asked : Option ℕ} {s : List ℕ} {wrap raw width overflow : ℕ} {r : Result ℕ Refusal} {lines : List ℕ} {figures : List Estimate} {ps : List (Option ℕ)}
+module _ {asked : Option ℕ} {s : List ℕ} {wrap raw width overflow : ℕ} {r : Result ℕ Refusal} {lines : List Kept} {figures : List Estimate} {ps : List (Option ℕ)}
     (w : SheetWalked asked s wrap raw width overflow r lines figures ps) where
   -- there are no more lines than there is room for
   pub lines_few : (lines_in r ≤ room_for s) × (lines_in r ≤ max_lines)

@@ -30,7 +30,7 @@ fn walk_out(
     requires walk_room { WalkRoom given.old wide.old }
     ensures { WalkFound (walked_checks None sheet.now settings.wrap settings.raw settings.width settings.overflow) sheet.now settings.wrap settings.raw settings.width result given.new wide.new }
 {
-    let mut lines = [0u32; records::WIDTH * MAX_LINES];
+    let mut lines = [records::NO_LINE; MAX_LINES];
     let mut figures = [estimates::NONE; MAX_LINES];
     let mut walk = [None; MAX_LINES];
     let read = pacing::walk_sheet(

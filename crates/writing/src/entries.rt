@@ -1,66 +1,67 @@
 // The entries of a grid, row by row, with two figures of each. What is in the slices is not trusted: a place outside counts as 0.
-ghost use Rattle.std.specs.Prelude.{◌≤◌};
-
 use super::lines::{four, two};
 use printing::Output;
+use records::{Entry, NO_ENTRY, NO_ROW, RowEnd};
 
-// Where a grid and two figures of its entries stand. The grid stands in buffers, or as records of its entries and rows: of how many numbers each is, is
-// told beside it.
+// The first so many rows of a grid, its entries, and two figures of each entry.
 #[derive(Clone, Copy)]
 pub struct Entries<'a> {
-    pub rows: u32,
-    pub row: &'a [u32],
-    pub end: &'a [u32],
-    pub each_row: usize,
-    pub cell: &'a [u32],
-    pub each: usize,
+    pub count: u32,
+    pub rows: &'a [RowEnd],
+    pub grid: &'a [Entry],
     pub start: &'a [u32],
     pub extent: &'a [u32],
-    ghost record_size: { (each_row ≤ 3) × (each ≤ 3) },
 }
 
-// The first number of a record, where each has so many: one in a buffer, two or three in records of rows and entries.
-pub fn number_at(values: &[u32], each: usize, i: u32) -> u32
-    requires { each ≤ 3 }
-{
-    values.get(i as usize * each).copied().unwrap_or(0)
+// The number at a place of a buffer.
+pub fn number_at(values: &[u32], i: u32) -> u32 {
+    values.get(i as usize).copied().unwrap_or(0)
+}
+
+// A row, and an entry, at a place of a grid.
+pub fn row_at(rows: &[RowEnd], i: u32) -> RowEnd {
+    rows.get(i as usize).copied().unwrap_or(NO_ROW)
+}
+
+pub fn entry_at(grid: &[Entry], e: u32) -> Entry {
+    grid.get(e as usize).copied().unwrap_or(NO_ENTRY)
 }
 
 impl Entries<'_> {
     // Puts the line of one entry: row, cell, and its two figures. An entry whose second figure is 0 is left out: in a layout the missing
     // ones have width 0, and in a grid each span is at least 1.
     fn put_one(&self, out: &mut Output, line: u32, e: u32) {
-        let figure = number_at(self.extent, 1, e);
+        let figure = number_at(self.extent, e);
         if figure != 0 {
-            let cell = number_at(self.cell, self.each, e);
-            four(out, line, cell, number_at(self.start, 1, e), figure);
+            let cell = entry_at(self.grid, e).cell;
+            four(out, line, cell, number_at(self.start, e), figure);
         }
     }
 
     // Puts the entries of so many rows: those of a row end where it says, and the next row's begin there.
     pub fn put(&self, out: &mut Output) {
         let mut from = 0;
-        for i in 0..self.rows {
-            let line = number_at(self.row, self.each_row, i);
-            let to = number_at(self.end, self.each_row, i);
-            for e in from..to {
-                self.put_one(out, line, e);
+        for i in 0..self.count {
+            let row = row_at(self.rows, i);
+            for e in from..row.end {
+                self.put_one(out, row.line, e);
             }
-            from = to;
+            from = row.end;
         }
     }
 }
 
 // Puts the line and the end of each of so many rows.
-pub fn row_ends(out: &mut Output, rows: u32, row: &[u32], end: &[u32]) {
-    for i in 0..rows {
-        two(out, number_at(row, 1, i), number_at(end, 1, i));
+pub fn row_ends(out: &mut Output, rows: &[RowEnd], count: u32) {
+    for i in 0..count {
+        let row = row_at(rows, i);
+        two(out, row.line, row.end);
     }
 }
 
 // Puts a line for each of the first numbers of a buffer: its place, from 0 on, and the number.
 pub fn numbered(out: &mut Output, values: &[u32], count: u32) {
     for j in 0..count {
-        two(out, j, number_at(values, 1, j));
+        two(out, j, number_at(values, j));
     }
 }

@@ -5,7 +5,6 @@ use Rattle.lists.specs.declared.Refusal.{Refusal}
 use Rattle.std.specs.Prelude.{◌≡◌, List, ℕ, ◌-◌, ◌≤◌, length, take, Err, Ok, Result}
 use Rattle.lists.specs.Limits.{max_entries, max_position}
 use Rattle.text.specs.declared.Estimate.{Estimate}
-use Rattle.records.specs.Kept.{kepts_of}
 use Rattle.records.specs.declared.Kept.{Kept}
 use Rattle.cells.specs.Listed.{table_rows}
 use Rattle.grid.specs.Grid.{grid_of, columns_of, entries_of}
@@ -30,8 +29,8 @@ abbrev pub answer_of : Arrangement → Layout
 answer_of a = layout_with a.laid.way a.counts.entries a.counts.columns a.laid.width
 
 -- the refusal handed up, or the layout
-pub record LayoutRead (read : Result ℕ Refusal) (lines : List ℕ) (line : ℕ) (figures : List Estimate) (raw width : ℕ) (r : Result Layout Refusal) (column x wide : List ℕ) : Type 0 where
+pub record LayoutRead (read : Result ℕ Refusal) (lines : List Kept) (line : ℕ) (figures : List Estimate) (raw width : ℕ) (r : Result Layout Refusal) (column x wide : List ℕ) : Type 0 where
   pub refused : (why : Refusal) → read ≡ Err why → r ≡ Err why
   pub arranged : (n : ℕ) → read ≡ Ok n → Arrangement
   pub answer : (n : ℕ) (e : read ≡ Ok n) → r ≡ Ok (answer_of (arranged n e))
-  pub made : (n : ℕ) (e : read ≡ Ok n) → LayoutMade (take n (kepts_of lines)) line figures raw width (arranged n e) column x wide
+  pub made : (n : ℕ) (e : read ≡ Ok n) → LayoutMade (take n lines) line figures raw width (arranged n e) column x wide

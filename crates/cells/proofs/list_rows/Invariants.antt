@@ -3,11 +3,10 @@
 -- line resolves the last body, a row line adds a row to it, a cell line a cell to its last row, and a deeper line nothing. A cell line
 -- finds a row, since a line is at most one deeper than the line before it. Assumes nothing.
 -- from the loop's head: the lines, and what is known of the table's line
-use Rattle.records.specs.Kept.{kepts_of}
 use Rattle.cells.specs.Held.{lines_of, spans_of, rowspans_of, row_lines_of, row_ends_of}
 use Rattle.cells.proofs.Listing.{Listing}
 use Rattle.cells.proofs.list_rows.Given as goal
 
 abbrev pub invariant-loop-i : goal.invariant-loop-i
 invariant-loop-i l =
-    Listing (kepts_of l.lines) l.at (lines_of l.initial.cells) (spans_of l.initial.cells) (rowspans_of l.initial.cells) (row_lines_of l.initial.rows) (row_ends_of l.initial.rows) (lines_of l.cells) (spans_of l.cells) (rowspans_of l.cells) (row_lines_of l.rows) (row_ends_of l.rows) l.n l.r l.first_cell l.first_row l.i
+    Listing l.lines l.at (lines_of l.initial.cells) (spans_of l.initial.cells) (rowspans_of l.initial.cells) (row_lines_of l.initial.rows) (row_ends_of l.initial.rows) (lines_of l.cells) (spans_of l.cells) (rowspans_of l.cells) (row_lines_of l.rows) (row_ends_of l.rows) l.n l.r l.first_cell l.first_row l.i

@@ -3,68 +3,68 @@
 -- ensures, none of which lies past the row's end. After the loop `count_words` gives each word that has an edge its count. Assumes nothing.
 use mathlib.Core.Path.{◌≡◌, refl, sym, ap, subst, ◌∙◌}
 use mathlib.Core.List.{List}
-use Prim.Native.Nat.{ℕ, ◌*◌, ◌-◌, ◌≤◌, ◌<◌, max}
+use Prim.Native.Nat.{ℕ, ◌-◌, ◌≤◌, ◌<◌, max}
 use native.Mathlib.Omega.{arith}
-use lib.ListN.{length, get_or, take, drop}
+use lib.ListN.{length, get_or, take, drop, length-map, get_or-map}
 use Rattle.lists.specs.Lists.{sum}
 use Rattle.lists.specs.Limits.{max_position}
-use Rattle.records.specs.Kept.{entry_by, row_by}
+use Rattle.records.specs.Kept.{no_row}
 use Rattle.cells.specs.Held.{row_end, row_ends_of, entry_span, entry_spans_of}
-use Rattle.cells.proofs.Figures.{length_figures, figure_at_lem, figures_part}
+use Rattle.std.proofs.lemmas.List.{take-map, drop-map}
 use Rattle.edges.specs.Edges.{part}
 use Rattle.edges.proofs.MarkLoop.{rows_start, rows_fit, rows_turn_by, rows_stop}
 use Rattle.edges.proofs.mark_rows.Goals as goal
-use Rattle.edges.proofs.mark_rows.Goals.{After-row_at-row}
+use Rattle.edges.proofs.mark_rows.Goals.{In-loop-r}
 
-more : (c : After-row_at-row) → c.loop-r.r < length (row_ends_of c.args.rows.now)
-more c = omega (arith, length_figures 2 row_by row_end c.args.rows.now, c.loop-r-test.true)
+more : (c : In-loop-r) → c.loop-r.r < length (row_ends_of c.args.rows.now)
+more c = omega (arith, length-map c.args.rows.now row_end, c.loop-r-test.true)
 
-end_is : (c : After-row_at-row) → get_or (row_ends_of c.args.rows.now) c.loop-r.r 0 ≡ c.row_at-row.result.end
-end_is c = figure_at_lem 2 row_by row_end c.args.rows.now c.loop-r.r c.loop-r-test.true ∙ sym (ap row_end c.row_at-row.ensures)
+end_is : (c : In-loop-r) → get_or (row_ends_of c.args.rows.now) c.loop-r.r 0 ≡ (get_or c.args.rows.now c.loop-r.r no_row).end
+end_is c = get_or-map row_end c.args.rows.now c.loop-r.r no_row
 
 -- the row's entries lie within the entries
-row_in : (c : After-row_at-row) → (c.loop-r.start ≤ c.row_at-row.result.end) × (3 * c.row_at-row.result.end ≤ length c.args.entries.now)
+row_in : (c : In-loop-r) → let e = (get_or c.args.rows.now c.loop-r.r no_row).end in
+    (c.loop-r.start ≤ e) × (e ≤ length c.args.entries.now)
 row_in c =
     let f = rows_fit c.loop-r.invariant (more c) in
-    (omega (arith, f.0, end_is c), omega (arith, f.1, end_is c, length_figures 3 entry_by entry_span c.args.entries.now))
+    (omega (arith, f.0, end_is c), omega (arith, f.1, end_is c, length-map c.args.entries.now entry_span))
 
-part-here : (c : After-row_at-row) → entry_spans_of (take (3 * c.row_at-row.result.end - 3 * c.loop-r.start) (drop (3 * c.loop-r.start) c.args.entries.now))
-    ≡ part c.loop-r.start c.row_at-row.result.end (entry_spans_of c.args.entries.now)
-part-here c = figures_part 3 entry_by entry_span (omega arith) c.loop-r.start c.row_at-row.result.end c.args.entries.now (row_in c).0 (row_in c).1
+part-here : (c : In-loop-r) → let e = (get_or c.args.rows.now c.loop-r.r no_row).end in
+    entry_spans_of (take (e - c.loop-r.start) (drop c.loop-r.start c.args.entries.now)) ≡ part c.loop-r.start e (entry_spans_of c.args.entries.now)
+part-here c =
+    let a = c.loop-r.start in
+    let xs = c.args.entries.now in
+    let n = (get_or c.args.rows.now c.loop-r.r no_row).end - a in
+    sym (ap (take n) (drop-map entry_span a xs) ∙ take-map entry_span n (drop a xs))
 
-spans-here : (c : After-row_at-row) → entry_spans_of (take (3 * c.row_at-row.result.end - 3 * c.loop-r.start) (drop (3 * c.loop-r.start) c.args.entries.now))
+spans-here : (c : In-loop-r) →
+    entry_spans_of (take ((get_or c.args.rows.now c.loop-r.r no_row).end - c.loop-r.start) (drop c.loop-r.start c.args.entries.now))
     ≡ part c.loop-r.start (get_or (row_ends_of c.args.rows.now) c.loop-r.r 0) (entry_spans_of c.args.entries.now)
 spans-here c = part-here c ∙ ap (λ (t : ℕ). part c.loop-r.start t (entry_spans_of c.args.entries.now)) (sym (end_is c))
 
 pub loop-r-init : goal.loop-r-init
 loop-r-init c = rows_start _ _ _ c.requires.rows_fit c.requires.none_above
 
-pub overflow_mul-start : goal.overflow_mul-start
-overflow_mul-start c = omega (arith, row_in (goal.at.overflow_mul-start c).After-row_at-row)
-
-pub overflow_mul-end : goal.overflow_mul-end
-overflow_mul-end c = omega (arith, row_in (goal.at.overflow_mul-end c).After-row_at-row)
-
 pub offset_bounds-entries-start : goal.offset_bounds-entries-start
-offset_bounds-entries-start c = omega (arith, row_in (goal.at.offset_bounds-entries-start c).After-row_at-row)
+offset_bounds-entries-start c = omega (arith, row_in (goal.at.offset_bounds-entries-start c).In-loop-r)
 
 pub slice_bounds-mark-count : goal.slice_bounds-mark-count
-slice_bounds-mark-count c = omega (arith, row_in (goal.at.slice_bounds-mark-count c).After-row_at-row)
+slice_bounds-mark-count c = omega (arith, row_in (goal.at.slice_bounds-mark-count c).In-loop-r)
 
 pub slice_bounds-mark-start : goal.slice_bounds-mark-start
-slice_bounds-mark-start c = omega (arith, row_in (goal.at.slice_bounds-mark-start c).After-row_at-row)
+slice_bounds-mark-start c = omega (arith, row_in (goal.at.slice_bounds-mark-start c).In-loop-r)
 
 pub slice_bounds-mark-end : goal.slice_bounds-mark-end
-slice_bounds-mark-end c = omega (arith, row_in (goal.at.slice_bounds-mark-end c).After-row_at-row)
+slice_bounds-mark-end c = omega (arith, row_in (goal.at.slice_bounds-mark-end c).In-loop-r)
 
 pub mark-last-requires : goal.mark-last-requires
 mark-last-requires c =
-    let here : After-row_at-row = (goal.at.mark-last-requires c).After-row_at-row in
+    let here : In-loop-r = (goal.at.mark-last-requires c).In-loop-r in
     subst (λ (l : List ℕ). sum l ≤ max_position) (sym (spans-here here)) (rows_fit c.loop-r.invariant (more here)).2
 
 pub loop-r-preserved : goal.loop-r-preserved
 loop-r-preserved c =
-    let here : After-row_at-row = (goal.at.loop-r-preserved c).After-row_at-row in
+    let here : In-loop-r = (goal.at.loop-r-preserved c).In-loop-r in
     let e = part-here here in
     rows_turn_by c.loop-r.invariant (more here) _ (end_is here) _ _ (c.max-top.ensures ∙ ap (max c.loop-r.top) (c.mark-last.ensures.ended ∙ ap sum e))
     (rw e at c.mark-last.ensures.marked)
@@ -82,5 +82,5 @@ pub returns : goal.returns
 returns c =
     record {
       counted = c.count_words.ensures;
-      marked = rows_stop c.loop-r.invariant (omega (arith, length_figures 2 row_by row_end c.args.rows.now, c.loop-r-test.false));
+      marked = rows_stop c.loop-r.invariant (omega (arith, length-map c.args.rows.now row_end, c.loop-r-test.false));
     }

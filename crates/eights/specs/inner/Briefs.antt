@@ -1,6 +1,5 @@
 -- A line in the form in which it is kept. These are definitions; nothing is assumed.
 use Rattle.std.specs.Prelude.{◌≡◌, List, ℕ, Option, Some, Ok}
-use Rattle.records.specs.Kept.{kept_with}
 use Rattle.records.specs.declared.Kept.{Kept}
 use Rattle.line.specs.LineAt.{line_at}
 use Rattle.line.specs.declared.Node.{Node}
@@ -8,13 +7,13 @@ use Rattle.eights.specs.declared.Brief.{Brief}
 
 -- the figures that are kept of a line that was read
 abbrev pub figures_of : Node → Kept
-figures_of n = record { depth = n.depth; kind = n.kind; number = n.number; cols = n.cols; rows = n.rows; own = n.own }
+figures_of n = record { depth = n.depth; kind = n.kind; cols = n.cols; rows = n.rows; number = n.number; own = n.own }
 
 -- a line in brief is the line that starts at the place
 pub record InBrief (s : List ℕ) (at : ℕ) (b : Brief) : Type 0 where
   pub node : Node
   pub read : line_at s at ≡ Ok node
-  pub kept : kept_with b.depth b.kind b.figure ≡ figures_of node
+  pub kept : b.line ≡ figures_of node
   pub next : b.next ≡ node.next
 
 -- what is told of a line is so; of some lines nothing is told

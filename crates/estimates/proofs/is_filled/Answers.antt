@@ -3,22 +3,22 @@ use mathlib.Core.Path.{sym, ◌∙◌}
 use mathlib.Core.Bool.{true≢false}
 use Prim.Native.Nat.{◌+◌}
 use native.Mathlib.Omega.{arith}
-use borrow.Author.Tests.{ltb-false}
-use Rattle.records.proofs.Kepts.{length_kepts}
+use lib.ListN.{length}
+use borrow.Author.Tests.{ltb-false, eqb-false}
 use Rattle.estimates.proofs.is_filled.Goals as goal
-use Rattle.estimates.proofs.is_filled.Goals.{then-line-eq-CELL, else-line-eq-CELL}
+use Rattle.estimates.proofs.is_filled.Goals.{then-eq, else-eq}
 
-pub returns-else-i-count : goal.returns-else-i-count
-returns-else-i-count c =
-    elim c.if-line-eq-CELL.branch [
-      | then-line-eq-CELL w ↦
+pub returns-else-i-lines : goal.returns-else-i-lines
+returns-else-i-lines c =
+    elim c.if-eq.branch [
+      | then-eq w ↦
           record {
-            cell = λ e. absurd (true≢false (sym e ∙ c.if-i-count.false));
-            bare = λ e k h. absurd (omega (arith, ltb-false (c.args.i + 1) w.count.result (sym w.value-is ∙ c.if-i-count.false), w.count.ensures, length_kepts c.args.lines.now));
+            cell = λ e. absurd (true≢false (sym e ∙ c.if-i-lines.false));
+            bare = λ e k h. absurd (omega (arith, ltb-false (c.args.i + 1) (length c.args.lines.now) (sym w.value-is ∙ c.if-i-lines.false)));
           }
-      | else-line-eq-CELL w ↦
+      | else-eq w ↦
           record {
-            cell = λ e. absurd (true≢false (sym e ∙ c.if-i-count.false));
-            bare = λ e k. absurd (w.if-line-eq-CELL.false (rw c.kept_at-line.ensures k));
+            cell = λ e. absurd (true≢false (sym e ∙ c.if-i-lines.false));
+            bare = λ e k. absurd (eqb-false _ _ (sym c.eq.ensures ∙ w.if-eq.false) k);
           }
     ]

@@ -1,12 +1,13 @@
 -- What the functions that walk over a sheet's lines take and promise. These are definitions; nothing is assumed.
-use Rattle.std.specs.Prelude.{◌≡◌, Bool, true, false, List, map, ℕ, zero, suc, ◌+◌, ◌-◌, ◌≤◌, ◌<◌, ◌/◌, length, get_or, drop}
+use Rattle.std.specs.Prelude.{◌≡◌, Bool, true, false, List, map, ℕ, zero, suc, ◌+◌, ◌-◌, ◌≤◌, ◌<◌, length, get_or, drop}
 use Rattle.lists.specs.Lists.{sum}
 use Rattle.lists.specs.Limits.{max_position}
 use Rattle.text.specs.declared.Estimate.{Estimate}
 use Rattle.text.specs.Decimal.{shift}
-use Rattle.kinds.specs.Kinds.{table_kind, body_kind, row_kind, cell_kind, head_kind, ol_kind, is_leaf, is_frame}
-use Rattle.records.specs.Kept.{kepts_of, kept_count}
+use Rattle.kinds.specs.Kinds.{kind_number, table_kind, body_kind, row_kind, cell_kind, head_kind, ol_kind, is_leaf, is_frame}
 use Rattle.records.specs.declared.Kept.{Kept}
+use Rattle.records.specs.declared.Entry.{Entry}
+use Rattle.records.specs.declared.RowEnd.{RowEnd}
 use Rattle.grid.specs.Facts.{cell_lines}
 use Rattle.grid.specs.Judging.{Lined}
 use Rattle.estimates.specs.Estimates.{Done, undone, none, estimate, Children, no_children, gather, measured}
@@ -21,9 +22,9 @@ held_of p = record { est = estimate p.size p.least 0; count = p.children }
 
 -- the number of a heading or a list is in its range, and so is the count of children
 pub record Numbered (l : Kept) (children : ℕ) : Type 0 where
-  pub rank_low : l.kind ≡ head_kind → shift ≤ l.number
-  pub rank_high : l.kind ≡ head_kind → l.number ≤ shift + 6
-  pub start : l.kind ≡ ol_kind → l.number ≤ 2000000000
+  pub rank_low : kind_number l.kind ≡ head_kind → shift ≤ l.number
+  pub rank_high : kind_number l.kind ≡ head_kind → l.number ≤ shift + 6
+  pub start : kind_number l.kind ≡ ol_kind → l.number ≤ 2000000000
   pub few : children ≤ 4095
 
 -- no figure of a part is so large that a prefix could make it overflow
@@ -40,14 +41,14 @@ weight ls zero = 0
 weight ls (suc n) = weight ls n + ((line_at ls n).own + 4096)
 
 -- what a call at line `at` takes, in slices
-pub record NodeReady (lines : List ℕ) (figures : List Estimate) (leasts entries rows : List ℕ) (at : ℕ) : Type 0 where
-  pub sheet : Sheet (kepts_of lines)
-  pub lined : Lined (kepts_of lines)
-  pub tables : TablesFit (kepts_of lines) (length entries / 3)
-  pub figures_fit : kept_count lines ≤ length figures
+pub record NodeReady (lines : List Kept) (figures : List Estimate) (leasts : List ℕ) (entries : List Entry) (rows : List RowEnd) (at : ℕ) : Type 0 where
+  pub sheet : Sheet lines
+  pub lined : Lined lines
+  pub tables : TablesFit lines (length entries)
+  pub figures_fit : length lines ≤ length figures
   pub scratch : max_position ≤ length leasts
-  pub row_room : kept_count lines ≤ length rows / 2
-  pub within : at < kept_count lines
+  pub row_room : length lines ≤ length rows
+  pub within : at < length lines
 
 -- what is below a line of depth d ends at r
 abbrev pub Ends : List Kept → ℕ → ℕ → Type 0
@@ -66,19 +67,19 @@ pub record Passed (ls : List Kept) (es : List Done) (b c : List Estimate) (at lo
 
 -- whether the line at i is a cell that holds anything: if not and it is a cell, it ends where it begins
 pub record FilledAt (ls : List Kept) (i : ℕ) (r : Bool) : Type 0 where
-  pub cell : r ≡ true → (line_at ls i).kind ≡ cell_kind
-  pub bare : r ≡ false → (line_at ls i).kind ≡ cell_kind → Ends ls (line_at ls i).depth (i + 1)
+  pub cell : r ≡ true → kind_number (line_at ls i).kind ≡ cell_kind
+  pub bare : r ≡ false → kind_number (line_at ls i).kind ≡ cell_kind → Ends ls (line_at ls i).depth (i + 1)
 
 -- a line that `node` takes: no body, row or cell
 abbrev pub Plain : Kept → Type 0
-Plain l = is_frame l.kind ≡ false
+Plain l = is_frame (kind_number l.kind) ≡ false
 
 -- a line whose children `cell` combines
 pub record Holder (l : Kept) : Type 0 where
-  pub leaf : is_leaf l.kind ≡ false
-  pub table : l.kind ≡ table_kind → ⊥
-  pub body : l.kind ≡ body_kind → ⊥
-  pub row : l.kind ≡ row_kind → ⊥
+  pub leaf : is_leaf (kind_number l.kind) ≡ false
+  pub table : kind_number l.kind ≡ table_kind → ⊥
+  pub body : kind_number l.kind ≡ body_kind → ⊥
+  pub row : kind_number l.kind ≡ row_kind → ⊥
 
 -- the sheet's lines with their estimates, and the children of the line at `at` combined
 abbrev pub done_of : ℕ → List Kept → List Done

@@ -3,7 +3,7 @@ use Rattle.std.specs.Prelude.{◌≡◌, cond, List, [], ◌∷◌, map, ℕ, �
 use Rattle.lists.specs.Lists.{sum}
 use Rattle.lists.specs.Limits.{max_position}
 use Rattle.text.specs.declared.Estimate.{Estimate}
-use Rattle.records.specs.Kept.{entries_of, no_entry}
+use Rattle.records.specs.Kept.{no_entry}
 use Rattle.records.specs.declared.Kept.{Kept}
 use Rattle.records.specs.declared.Entry.{Entry}
 use Rattle.columns.specs.Boxes.{Box, box}
@@ -57,13 +57,13 @@ pub record EntryFits (es : List Estimate) (columns : ℕ) (e : Entry) : Type 0 w
   pub sound : (e.cell ≡ 0 → ⊥) → (get_or es (e.cell - 1) none).least ≤ (get_or es (e.cell - 1) none).size
 
 -- the first n entries, in slices
-pub record SpreadReady (entries : List ℕ) (n : ℕ) (figures : List Estimate) (columns : ℕ) : Type 0 where
-  pub within : n ≤ length (entries_of entries)
-  pub fit : (k : ℕ) → k < n → EntryFits figures columns (get_or (entries_of entries) k no_entry)
-  pub room : spread_cells (entry_boxes figures (take n (entries_of entries))) + max_position ≤ 2 ^ 32
+pub record SpreadReady (entries : List Entry) (n : ℕ) (figures : List Estimate) (columns : ℕ) : Type 0 where
+  pub within : n ≤ length entries
+  pub fit : (k : ℕ) → k < n → EntryFits figures columns (get_or entries k no_entry)
+  pub room : spread_cells (entry_boxes figures (take n entries)) + max_position ≤ 2 ^ 32
 
 -- besides, there is scratch for the columns
-pub record TabulateReady (entries : List ℕ) (n columns : ℕ) (figures : List Estimate) (scratch : ℕ) : Type 0 where
+pub record TabulateReady (entries : List Entry) (n columns : ℕ) (figures : List Estimate) (scratch : ℕ) : Type 0 where
   pub spread : SpreadReady entries n figures columns
   pub few : columns ≤ max_position
   pub room : max_position ≤ scratch

@@ -2,39 +2,39 @@
 -- its own on, so its positions can be made, since it is sound and has places for its entries. Every slice keeps the length that it had.
 -- Assumes nothing.
 use mathlib.Core.Path.{◌≡◌, sym, ap, ◌∙◌}
-use mathlib.Core.List.{List, ◌++◌}
+use mathlib.Core.List.{List, ◌++◌, map}
 use Prim.Native.Nat.{ℕ, ◌+◌, ◌*◌, ◌-◌, ◌≤◌}
 use native.Mathlib.Omega.{arith}
-use lib.ListN.{length, take, drop, take-append-drop}
+use lib.ListN.{length, take, drop, length-map, take-append-drop}
 use lib.Seq.{length-take-le}
-use Rattle.records.specs.Kept.{kepts_of, entry_by, row_by}
-use Rattle.records.specs.declared.Row.{Row}
+use Rattle.std.proofs.lemmas.List.{take-map}
+use Rattle.records.specs.declared.RowEnd.{RowEnd}
 use Rattle.cells.specs.declared.Cell.{Cell}
 use Rattle.cells.specs.Held.{figures, cell_by, held_line, held_span, held_rows, row_line, row_end, row_lines_of, entry_cell, entry_span}
 use Rattle.cells.specs.Listed.{all_cells, table_rows}
 use Rattle.cells.proofs.Figures.{length_figures, figures_take}
 use Rattle.rows.specs.inner.Overhangs.{overhang_by, hung_left, hung_at, hung_span}
 use Rattle.positions.proofs.Thirds.{lefts_long, ats_long, wides_long}
-use Rattle.grid.proofs.Rebuilt.{figures_front, held_few, listed_in, listed_ready, lined_ready}
+use Rattle.grid.proofs.Rebuilt.{map_front, held_few, listed_in, listed_ready, lined_ready}
 use Rattle.grid.proofs.Judging.{placed_stands}
 use Rattle.grid.proofs.place_table.Goals as goal
 use Rattle.grid.proofs.place_table.Goals.{After-list_rows-listed}
 
 -- there are no more rows and cells than lines, so they lie within the slices
-few : (c : After-list_rows-listed) → length (table_rows (kepts_of c.args.lines.now) c.args.at) + length (all_cells (table_rows (kepts_of c.args.lines.now) c.args.at)) ≤ length (kepts_of c.args.lines.now) - c.args.at
-few c = held_few (kepts_of c.args.lines.now) c.args.at
+few : (c : After-list_rows-listed) → length (table_rows c.args.lines.now c.args.at) + length (all_cells (table_rows c.args.lines.now c.args.at)) ≤ length c.args.lines.now - c.args.at
+few c = held_few c.args.lines.now c.args.at
 
 fits-cells : (c : After-list_rows-listed) → 3 * c.list_rows-listed.result.cells ≤ length c.list_rows-listed.new.cells
 fits-cells c = omega (arith, listed_in c.list_rows-listed.ensures (few c), c.requires.room.cell_room, c.list_rows-listed.auto.cells)
 
-fits-rows : (c : After-list_rows-listed) → 2 * c.list_rows-listed.result.rows ≤ length c.list_rows-listed.new.rows
+fits-rows : (c : After-list_rows-listed) → c.list_rows-listed.result.rows ≤ length c.list_rows-listed.new.rows
 fits-rows c = omega (arith, listed_in c.list_rows-listed.ensures (few c), c.requires.room.row_room, c.list_rows-listed.auto.rows)
 
 cells-front : (c : After-list_rows-listed) (f : Cell → ℕ) → figures 3 cell_by f (take (3 * c.list_rows-listed.result.cells) c.list_rows-listed.new.cells) ≡ take c.list_rows-listed.result.cells (figures 3 cell_by f c.list_rows-listed.new.cells)
 cells-front c f = figures_take 3 cell_by f (omega arith) c.list_rows-listed.result.cells c.list_rows-listed.new.cells (fits-cells c)
 
-rows-front : (c : After-list_rows-listed) (f : Row → ℕ) → figures 2 row_by f (take (2 * c.list_rows-listed.result.rows) c.list_rows-listed.new.rows) ≡ take c.list_rows-listed.result.rows (figures 2 row_by f c.list_rows-listed.new.rows)
-rows-front c f = figures_take 2 row_by f (omega arith) c.list_rows-listed.result.rows c.list_rows-listed.new.rows (fits-rows c)
+rows-front : (c : After-list_rows-listed) (f : RowEnd → ℕ) → map f (take (c.list_rows-listed.result.rows) c.list_rows-listed.new.rows) ≡ take c.list_rows-listed.result.rows (map f c.list_rows-listed.new.rows)
+rows-front c f = sym (take-map f c.list_rows-listed.result.rows c.list_rows-listed.new.rows)
 
 pub list_rows-listed-requires : goal.list_rows-listed-requires
 list_rows-listed-requires c =
@@ -42,13 +42,10 @@ list_rows-listed-requires c =
     let k = c.args.cells.now in
     let o = c.args.rows.now in
     lined_ready c.requires.lined c.requires.at_in_bounds (omega (arith, r.cell_room, length_figures 3 cell_by held_line k)) (omega (arith, r.cell_room, length_figures 3 cell_by held_span k)) (omega (arith, r.cell_room, length_figures 3 cell_by held_rows k))
-    (omega (arith, r.row_room, length_figures 2 row_by row_line o)) (omega (arith, r.row_room, length_figures 2 row_by row_end o))
+    (omega (arith, r.row_room, length-map o row_line)) (omega (arith, r.row_room, length-map o row_end))
 
 pub overflow_mul-n : goal.overflow_mul-n
 overflow_mul-n c = omega (arith, fits-cells (goal.at.overflow_mul-n c).After-list_rows-listed)
-
-pub overflow_mul-r : goal.overflow_mul-r
-overflow_mul-r c = omega (arith, fits-rows (goal.at.overflow_mul-r c).After-list_rows-listed)
 
 pub slice_bounds-position_rows-end : goal.slice_bounds-position_rows-end
 slice_bounds-position_rows-end c = fits-cells (goal.at.slice_bounds-position_rows-end c).After-list_rows-listed
@@ -71,19 +68,17 @@ position_rows-requires c =
     let m = c.list_rows-listed.result.rows in
     rw (cells-front (goal.at.position_rows-requires c).After-list_rows-listed held_line, cells-front (goal.at.position_rows-requires c).After-list_rows-listed held_span, cells-front (goal.at.position_rows-requires c).After-list_rows-listed held_rows, rows-front (goal.at.position_rows-requires c).After-list_rows-listed row_end)
     (listed_ready c.list_rows-listed.ensures (few (goal.at.position_rows-requires c).After-list_rows-listed) (omega (arith, c.requires.lined.short))
-    (omega (arith, fits-cells (goal.at.position_rows-requires c).After-list_rows-listed, length_figures 3 cell_by held_line x)) (omega (arith, fits-cells (goal.at.position_rows-requires c).After-list_rows-listed, length_figures 3 cell_by held_span x)) (omega (arith, fits-cells (goal.at.position_rows-requires c).After-list_rows-listed, length_figures 3 cell_by held_rows x)) (omega (arith, fits-rows (goal.at.position_rows-requires c).After-list_rows-listed, length_figures 2 row_by row_end y))
+    (omega (arith, fits-cells (goal.at.position_rows-requires c).After-list_rows-listed, length_figures 3 cell_by held_line x)) (omega (arith, fits-cells (goal.at.position_rows-requires c).After-list_rows-listed, length_figures 3 cell_by held_span x)) (omega (arith, fits-cells (goal.at.position_rows-requires c).After-list_rows-listed, length_figures 3 cell_by held_rows x)) (omega (arith, fits-rows (goal.at.position_rows-requires c).After-list_rows-listed, length-map y row_end))
     c.requires.sound
-    (omega (arith, r.entry_room, length_figures 3 entry_by entry_cell c.args.entries.now)) (omega (arith, r.entry_room, length_figures 3 entry_by entry_span c.args.entries.now))
+    (omega (arith, r.entry_room, length-map c.args.entries.now entry_cell)) (omega (arith, r.entry_room, length-map c.args.entries.now entry_span))
     (omega (arith, r.overhang_room, lefts_long c.args.overhang.now)) (omega (arith, r.overhang_room, ats_long c.args.overhang.now)) (omega (arith, r.overhang_room, wides_long c.args.overhang.now))
     (omega (arith, r.next_room, length_figures 3 overhang_by hung_left c.args.next.now)) (omega (arith, r.next_room, length_figures 3 overhang_by hung_at c.args.next.now)) (omega (arith, r.next_room, length_figures 3 overhang_by hung_span c.args.next.now)))
 
 pub returns : goal.returns
 returns c =
-    let p = c.position_rows in
     let k = c.list_rows-listed.result.rows in
     let x = c.list_rows-listed.new.rows in
     let d = rw (cells-front (goal.at.returns c).After-list_rows-listed held_line, cells-front (goal.at.returns c).After-list_rows-listed held_span, cells-front (goal.at.returns c).After-list_rows-listed held_rows, rows-front (goal.at.returns c).After-list_rows-listed row_end) at (c.position_rows.ensures.made (row_lines_of x)) in
-    let n = c.position_rows.auto.rows in
     placed_stands c.list_rows-listed.ensures d
-    (figures_front 2 row_by row_line (omega arith) k x _ (fits-rows (goal.at.returns c).After-list_rows-listed) n ∙ ap (λ (l : List ℕ). l ++ drop k (row_lines_of x)) (c.position_rows.ensures.lined ∙ rows-front (goal.at.returns c).After-list_rows-listed row_line) ∙ take-append-drop k (row_lines_of x))
-    (figures_front 2 row_by row_end (omega arith) k x _ (fits-rows (goal.at.returns c).After-list_rows-listed) n)
+    (map_front row_line k x _ ∙ ap (λ (l : List ℕ). l ++ drop k (row_lines_of x)) (c.position_rows.ensures.lined ∙ rows-front (goal.at.returns c).After-list_rows-listed row_line) ∙ take-append-drop k (row_lines_of x))
+    (map_front row_end k x _)

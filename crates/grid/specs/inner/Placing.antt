@@ -2,6 +2,7 @@
 use Rattle.std.specs.Prelude.{◌≡◌, Bool, List, ◌∷◌, map, ℕ, ◌/◌, ◌≤◌, length, take, Some}
 use Rattle.lists.specs.Lists.{mem}
 use Rattle.records.specs.declared.Entry as packed
+use Rattle.records.specs.declared.RowEnd.{RowEnd}
 use Rattle.edges.specs.Edges.{rows_from, rows_ends, RowsFit}
 use Rattle.cells.specs.Cells as cells
 use Rattle.rows.specs.Row.{item_line, item_span}
@@ -53,9 +54,9 @@ pub record GridStands (table : List cells.Row) (rows n columns : ℕ) (es : List
   pub row_ends_fits : take (length (grid_of table)) end ≡ row_ends 0 (grid_of table)
 
 -- the lent slices have a record for each entry, and for each of n lines
-pub record Room (n entries : ℕ) (cells overhang next es rows : List ℕ) : Type 0 where
+pub record Room (n entries : ℕ) (cells overhang next : List ℕ) (es : List packed.Entry) (rows : List RowEnd) : Type 0 where
   pub cell_room : n ≤ length cells / 3
   pub overhang_room : n ≤ length overhang / 3
   pub next_room : n ≤ length next / 3
-  pub entry_room : entries ≤ length es / 3
-  pub row_room : n ≤ length rows / 2
+  pub entry_room : entries ≤ length es
+  pub row_room : n ≤ length rows

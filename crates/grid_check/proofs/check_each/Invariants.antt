@@ -1,7 +1,6 @@
 -- `grid_check::check_each` meets its contract. The loop's invariant, `Sofar`: the verdict on the lines left is that on all. Assumes nothing.
-use Rattle.records.specs.Kept.{kepts_of}
 use Rattle.grid_check.proofs.CheckLoop.{Sofar}
 use Rattle.grid_check.proofs.check_each.Given as goal
 
 abbrev pub invariant-loop-t : goal.invariant-loop-t
-invariant-loop-t l = Sofar (kepts_of l.lines) l.t
+invariant-loop-t l = Sofar l.lines l.t

@@ -1,11 +1,10 @@
 -- `grid_counts::row_sum` meets its contract. The loop's invariant, `Summing`: what is added up, with the sum of the cells from place j on, is the row's sum.
 -- Assumes nothing.
-use mathlib.Core.Path.{ap}
+use mathlib.Core.Path.{◌∙◌}
 use Prim.Native.Nat.{◌+◌, ◌<◌}
 use native.Mathlib.Omega.{arith}
-use Rattle.records.specs.Kept.{kepts_of}
-use Rattle.records.specs.declared.Kept.{Kept}
-use Rattle.records.proofs.Kepts.{length_kepts}
+use lib.ListN.{get_or}
+use Rattle.records.specs.Kept.{no_kept}
 use Rattle.grid_counts.proofs.Scan.{past_lines}
 use Rattle.grid_counts.proofs.SumLoop.{sum_stop, sum_more, sum_on}
 use Rattle.grid_counts.proofs.row_sum.Goals as goal
@@ -14,14 +13,14 @@ use Rattle.grid_counts.proofs.row_sum.Goals.{then-line-row-2, else-line-row-2}
 pub loop-j-preserved : goal.loop-j-preserved
 loop-j-preserved c =
     let z = c.loop-j.invariant in
-    let deep : c.args.d + 2 < c.kept_at-line.result.depth = omega arith in
+    let deep : c.args.d + 2 < (get_or c.args.lines.now c.loop-j.j no_kept).depth = omega arith in
     elim c.if-line-row-2.branch [
-      | then-line-row-2 w ↦ rw w.sum-is (sum_more c.requires.lines z _ c.kept_at-line.ensures deep (omega (arith, w.if-line-row-2.true)) _ w.max-sum.ensures)
-      | else-line-row-2 w ↦ rw w.sum-is (sum_on c.requires.lines z _ c.kept_at-line.ensures deep (λ o. w.if-line-row-2.false (omega arith)))
+      | then-line-row-2 w ↦ rw w.sum-is (sum_more c.requires.lines z deep (omega (arith, w.if-line-row-2.true)) _ (w.from-sum.ensures ∙ w.max.ensures))
+      | else-line-row-2 w ↦ rw w.sum-is (sum_on c.requires.lines z deep (λ o. w.if-line-row-2.false (omega arith)))
     ]
 
 pub returns-after-loop-j : goal.returns-after-loop-j
-returns-after-loop-j c = sum_stop c.requires.lines c.loop-j.invariant (omega (arith, past_lines (kepts_of c.args.lines.now) c.loop-j.j (omega (arith, length_kepts c.args.lines.now))))
+returns-after-loop-j c = sum_stop c.requires.lines c.loop-j.invariant (omega (arith, past_lines c.args.lines.now c.loop-j.j (omega arith)))
 
 pub returns-then-line-row : goal.returns-then-line-row
-returns-then-line-row c = sum_stop c.requires.lines c.loop-j.invariant (omega (arith, ap (λ (k : Kept). k.depth) c.kept_at-line.ensures))
+returns-then-line-row c = sum_stop c.requires.lines c.loop-j.invariant (omega arith)

@@ -1,7 +1,6 @@
 -- `grid_counts::survey` meets its contract. The loop's invariant, `Surveying`: what is counted, with the rows from place j on, is the body. Assumes nothing.
-use Rattle.records.specs.Kept.{kepts_of}
 use Rattle.grid_counts.proofs.SumLoop.{Surveying}
 use Rattle.grid_counts.proofs.survey.Given as goal
 
 abbrev pub invariant-loop-j : goal.invariant-loop-j
-invariant-loop-j l = Surveying (kepts_of l.lines) l.d l.i l.initial.ends l.ends l.rows l.most l.j
+invariant-loop-j l = Surveying l.lines l.d l.i l.initial.ends l.ends l.rows l.most l.j

@@ -3,13 +3,12 @@
 -- `try_row` passes what is deeper. The measure is the number of lines left. Assumes nothing.
 use Prim.Native.Nat.{◌-◌}
 use lib.ListN.{length}
-use Rattle.records.specs.Kept.{kepts_of, entries_of, rows_of}
 use Rattle.grid_plain.proofs.TableLoop.{TableLoop}
 use Rattle.grid_plain.proofs.try_plain.Given as goal
 
 abbrev pub invariant-loop-line : goal.invariant-loop-line
 invariant-loop-line l =
-    TableLoop (kepts_of l.lines) l.at (entries_of l.initial.entries) (entries_of l.entries) (rows_of l.initial.rows) (rows_of l.rows) l.n l.r l.columns l.i
+    TableLoop l.lines l.at l.initial.entries l.entries l.initial.rows l.rows l.n l.r l.columns l.i
 
 abbrev pub decreases-loop-line : goal.decreases-loop-line
-decreases-loop-line l = length (kepts_of l.lines) - l.i
+decreases-loop-line l = length l.lines - l.i

@@ -5,12 +5,12 @@ use Rattle.lists.specs.Limits.{max_lines, max_depth, max_entries}
 use Rattle.records.specs.Kept.{no_kept}
 use Rattle.records.specs.declared.Kept.{Kept}
 use Rattle.records.specs.declared.Entry.{Entry}
-use Rattle.records.specs.declared.Row.{Row}
+use Rattle.records.specs.declared.RowEnd.{RowEnd}
 use Rattle.cells.specs.Cells.{Cell, Frame, frame}
 use Rattle.cells.specs.Cells as cells
 use Rattle.gridding.specs.declared.Counts.{Counts}
 use Rattle.gridding.specs.Packed.{shown, TableMade}
-use Rattle.grid_plain.specs.declared.RowEnd.{RowEnd}
+use Rattle.grid_plain.specs.declared.RowCells.{RowCells}
 use Rattle.grid_plain.specs.Plain.{Plain, plain_entries}
 
 -- what the lines from the place i on hold, below a table of depth d
@@ -30,7 +30,7 @@ pub record RowReady (ks : List Kept) (d i n : ℕ) (es : List Entry) : Type 0 wh
   pub room : n + length (cells_from ks d i) ≤ length es
 
 -- the row's lines end at the place `next`, its cells are plain, and their entries stand after those before
-pub record RowDone (ks : List Kept) (d i n : ℕ) (end : RowEnd) (es₀ es : List Entry) : Type 0 where
+pub record RowDone (ks : List Kept) (d i n : ℕ) (end : RowCells) (es₀ es : List Entry) : Type 0 where
   pub after : i ≤ end.next
   pub within : end.next ≤ length ks
   pub stops : (get_or ks end.next no_kept).depth ≤ d + 2
@@ -40,9 +40,9 @@ pub record RowDone (ks : List Kept) (d i n : ℕ) (end : RowEnd) (es₀ es : Lis
   pub count : end.cells ≡ length (cells_from ks d i)
   pub written : take (n + end.cells) es ≡ take n es₀ ++ map shown (plain_entries 0 (cells_from ks d i))
 
-pub record RowWalked (ks : List Kept) (d i n : ℕ) (found : Option RowEnd) (es₀ es : List Entry) : Type 0 where
-  pub done : (end : RowEnd) → found ≡ Some end → RowDone ks d i n end es₀ es
+pub record RowWalked (ks : List Kept) (d i n : ℕ) (found : Option RowCells) (es₀ es : List Entry) : Type 0 where
+  pub done : (end : RowCells) → found ≡ Some end → RowDone ks d i n end es₀ es
 
 -- of a table that is found plain the grid is made
-pub record TableWalked (table : List cells.Row) (found : Option Counts) (es : List Entry) (rs : List Row) : Type 0 where
+pub record TableWalked (table : List cells.Row) (found : Option Counts) (es : List Entry) (rs : List RowEnd) : Type 0 where
   pub made : (counts : Counts) → found ≡ Some counts → TableMade table counts es rs

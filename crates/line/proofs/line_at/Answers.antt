@@ -1,6 +1,5 @@
 -- `line::line_at` meets its contract. Where a field is not sound the line is unread. Where all are, the fields and the front that the scan finds
 -- determine the answer (Judging): no line feed, a refused byte, a text where none may stand, a calc, or the node. Assumes nothing.
-use borrow.Author.Tests.{eq-eqb, ne_eqb}
 use mathlib.Core.Path.{sym, ap, ◌∙◌}
 use Prim.Native.Nat.{ℕ}
 use native.Mathlib.Omega.{arith}
@@ -39,7 +38,7 @@ returns-then-is_calc c =
     let may = sym c.text_fits.ensures ∙ c.if-not-text_fits.false in
     c.calc_line.ensures
     ∙ sym
-    (front_calc _ _ _ told _ c.scan_front-front.ensures.end c.if-to-bytes.false c.if-bytes-to-ne10.false may (eq-eqb _ _ c.if-is_calc.true))
+    (front_calc _ _ _ told _ c.scan_front-front.ensures.end c.if-to-bytes.false c.if-bytes-to-ne10.false may (sym c.eq-is_calc.ensures ∙ c.if-is_calc.true))
 
 pub with_img-own-requires : goal.with_img-own-requires
 with_img-own-requires c = omega (arith, front_size_le text_size_le c.scan_front-front.ensures, c.requires.bytes_len_bound)
@@ -50,5 +49,5 @@ returns c =
     let f = c.in-Some.f in
     let told = reads _ _ _ (sym c.fields_at.ensures ∙ c.in-Some.is) in
     let may = sym c.text_fits.ensures ∙ c.if-not-text_fits.false in
-    ap Ok (c.node_with.ensures ∙ ap (λ (own : ℕ). node_with f own f.from c.scan_front-front.result.end) c.with_img-own.ensures)
-    ∙ sym (front_good _ _ _ told _ front.end c.if-to-bytes.false c.if-bytes-to-ne10.false may (ne_eqb _ _ c.if-is_calc.false) _ front.size)
+    ap Ok (c.node_with.ensures ∙ ap (λ (own : ℕ). node_with f own f.from c.scan_front-front.result.end) (c.with_img-own.ensures ∙ rw c.eq.ensures))
+    ∙ sym (front_good _ _ _ told _ front.end c.if-to-bytes.false c.if-bytes-to-ne10.false may (sym c.eq-is_calc.ensures ∙ c.if-is_calc.false) _ front.size)

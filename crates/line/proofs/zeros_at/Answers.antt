@@ -8,6 +8,6 @@ use Rattle.line.proofs.zeros_at.Goals.{then-not-ranked, else-not-ranked}
 pub returns-then-four_at : goal.returns-then-four_at
 returns-then-four_at c = λ e.
     elim c.if-not-ranked.branch [
-      | then-not-ranked w ↦ zeros _ _ _ w.if-not-ranked.true (w.four_at.ensures (sym w.value-is ∙ c.if-four_at.true)) (c.four_at-then-four_at.ensures e)
+      | then-not-ranked w ↦ zeros _ _ _ (sym c.eq-ranked.ensures ∙ w.if-not-ranked.true) (w.four_at.ensures (sym w.value-is ∙ c.if-four_at.true)) (c.four_at-then-four_at.ensures e)
       | else-not-ranked w ↦ absurd (true≢false (sym c.if-four_at.true ∙ w.value-is ∙ rw w.if-not-ranked.false))
     ]

@@ -6,7 +6,6 @@ use Rattle.std.specs.Prelude.{◌≡◌, List, ℕ, ◌-◌, ◌≤◌, length, 
 use Rattle.lists.specs.Limits.{max_lines, max_entries}
 use Rattle.lists.specs.Refusals.{Check, first_answer, if_passes}
 use Rattle.text.specs.declared.Estimate.{Estimate}
-use Rattle.records.specs.Kept.{kepts_of}
 use Rattle.records.specs.declared.Kept.{Kept}
 use Rattle.columns.specs.Boxes.{Box, flat}
 use Rattle.columns.specs.Columns.{size_of, least_of, largest}
@@ -47,9 +46,9 @@ pub record MissingMade (ks : List Kept) (line : ℕ) (figures : List Estimate) (
       → TableTold (columns_of (table_rows ks (line - 1))) (boxes_at wrap ks (line - 1)) raw width r entry cause
 
 -- the refusal handed up, or those of the lines that were read
-pub record MissingRead (read : Result ℕ Refusal) (lines : List ℕ) (line : ℕ) (figures : List Estimate) (raw width : ℕ) (r : Result Causes Refusal) (entry cause : List ℕ) : Type 0 where
+pub record MissingRead (read : Result ℕ Refusal) (lines : List Kept) (line : ℕ) (figures : List Estimate) (raw width : ℕ) (r : Result Causes Refusal) (entry cause : List ℕ) : Type 0 where
   pub refused : (why : Refusal) → read ≡ Err why → r ≡ Err why
-  pub made : (n : ℕ) → read ≡ Ok n → MissingMade (take n (kepts_of lines)) line figures raw width r entry cause
+  pub made : (n : ℕ) → read ≡ Ok n → MissingMade (take n lines) line figures raw width r entry cause
 
 -- found in the sheet, or the first refusal; the figures stand in the first places
 pub record MissingFound (cs : List Check) (s : List ℕ) (line wrap raw width : ℕ) (r : Result Causes Refusal) (entry cause : List ℕ) : Type 0 where

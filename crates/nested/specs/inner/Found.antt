@@ -6,6 +6,7 @@ use Rattle.lists.specs.declared.Refusal.{Refusal}
 use Rattle.std.specs.Prelude.{◌≡◌, true, List, ℕ, ◌-◌, ◌≤◌, ◌<◌, length, get_or, take, Err, Ok, Option, Result, None, Some}
 use Rattle.lists.specs.Limits.{max_lines, max_entries}
 use Rattle.lists.specs.Refusals.{Check, first_answer, passes, if_passes}
+use Rattle.records.specs.declared.Kept.{Kept}
 use Rattle.text.specs.declared.Estimate.{Estimate}
 use Rattle.placing.specs.Promise.{Promised}
 use Rattle.sheet_figures.specs.Figures.{columns_at, boxes_at, way_at, widths_at}
@@ -32,7 +33,7 @@ without_in (Ok n) = Ok None
 without_in (Err why) = Err why
 
 -- what is laid out at this width
-pub record NestRead (read : Result ℕ Refusal) (w : Option ℕ) (lines : List ℕ) (line : ℕ) (figures : List Estimate) (raw : ℕ) (r : Result (Option Nested) Refusal) (column x wide : List ℕ) : Type 0 where
+pub record NestRead (read : Result ℕ Refusal) (w : Option ℕ) (lines : List Kept) (line : ℕ) (figures : List Estimate) (raw : ℕ) (r : Result (Option Nested) Refusal) (column x wide : List ℕ) : Type 0 where
   pub without : w ≡ None → r ≡ without_in read
   pub arranged : (v : ℕ) → w ≡ Some v → Result Layout Refusal
   pub answer : (v : ℕ) (e : w ≡ Some v) → r ≡ nest_in v (arranged v e)

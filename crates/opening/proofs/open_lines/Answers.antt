@@ -1,7 +1,6 @@
 -- `opening::open_lines` meets its contract: 10, or the verdict on the tables. Assumes nothing.
 use Rattle.std.proofs.Common.{rules, ◌≡◌, Err}
 use mathlib.Core.Path.{refl, sym, ap, ◌∙◌}
-use Rattle.records.proofs.Kepts.{length_kepts}
 use Rattle.opening.proofs.Answers.{told_as, opened_amiss, opened_checked}
 use Rattle.opening.proofs.open_lines.Goals as goal
 
@@ -9,9 +8,9 @@ pub returns-then-asks_amiss : goal.returns-then-asks_amiss
 returns-then-asks_amiss c = rw c.at.ensures (opened_amiss (sym c.asks_amiss.ensures ∙ c.if-asks_amiss.true))
 
 pub returns : goal.returns
-returns c = opened_checked _ (c.count.ensures ∙ sym (length_kepts c.args.lines.now)) _ (sym (ap (told_as _) c.in_ok-check_tables.was)) (sym c.asks_amiss.ensures ∙ c.if-asks_amiss.false) c.check_tables.ensures
+returns c = opened_checked _ refl _ (sym (ap (told_as _) c.in_ok-check_tables.was)) (sym c.asks_amiss.ensures ∙ c.if-asks_amiss.false) c.check_tables.ensures
 
 pub returns-in_err-check_tables : goal.returns-in_err-check_tables
 returns-in_err-check_tables c =
     let q : c.from_residual.result ≡ Err c.in_err-check_tables.field-0.0 = search rules in
-    rw q (opened_checked _ (sym (length_kepts c.args.lines.now) ∙ refl) _ (sym (ap (told_as _) c.in_err-check_tables.was)) (sym c.asks_amiss.ensures ∙ c.if-asks_amiss.false) c.check_tables.ensures)
+    rw q (opened_checked _ refl _ (sym (ap (told_as _) c.in_err-check_tables.was)) (sym c.asks_amiss.ensures ∙ c.if-asks_amiss.false) c.check_tables.ensures)

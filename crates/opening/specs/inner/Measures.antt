@@ -1,12 +1,11 @@
 -- What measuring an opened sheet takes and promises. These are definitions; nothing is assumed.
 use Rattle.lists.specs.declared.Refusal.{Refusal}
-use Rattle.std.specs.Prelude.{◌≡◌, ◌⊎◌, List, ℕ, ◌-◌, ◌/◌, ◌≤◌, ◌<◌, length, get_or, take, Ok, Result, Option, Some, None}
+use Rattle.std.specs.Prelude.{◌≡◌, ◌⊎◌, List, ℕ, ◌-◌, ◌≤◌, ◌<◌, length, get_or, take, Ok, Result, Option, Some, None}
 use Rattle.lists.specs.Limits.{max_position, max_entries, max_lines}
 use Rattle.text.specs.declared.Estimate.{Estimate}
-use Rattle.records.specs.Kept.{kept_count, kepts_of}
 use Rattle.records.specs.declared.Kept.{Kept}
 use Rattle.records.specs.declared.Entry.{Entry}
-use Rattle.records.specs.declared.Row.{Row}
+use Rattle.records.specs.declared.RowEnd.{RowEnd}
 use Rattle.grid.specs.Facts.{CellOf}
 use Rattle.grid.specs.Judging.{Lined}
 use Rattle.grid_bounds.specs.Sheets.{Nests, AllSound, Suffice}
@@ -37,31 +36,31 @@ pub record ScopeMeasured (below : Option ℕ) (wrap : ℕ) (ks : List Kept) (b c
 -- ---- the lines that were read
 
 -- they are the first of the records
-abbrev pub LinesIn : Result ℕ Refusal → List ℕ → Type 0
-LinesIn r lines = (n : ℕ) → r ≡ Ok n → n ≤ kept_count lines
+abbrev pub LinesIn : Result ℕ Refusal → List Kept → Type 0
+LinesIn r lines = (n : ℕ) → r ≡ Ok n → n ≤ length lines
 
 -- so many records of entries and of rows do for any table of the lines: as many as all cells ask for, or as many as a table may have
 abbrev pub Enough : ℕ → ℕ → List Kept → Type 0
 Enough entries rows ks = Suffice entries rows ks ⊎ ((max_entries ≤ entries) × (max_lines ≤ rows))
 
 -- they do for those that were read
-abbrev pub EnoughIn : Result ℕ Refusal → List ℕ → ℕ → ℕ → Type 0
-EnoughIn r lines entries rows = (n : ℕ) → r ≡ Ok n → Enough entries rows (take n (kepts_of lines))
+abbrev pub EnoughIn : Result ℕ Refusal → List Kept → ℕ → ℕ → Type 0
+EnoughIn r lines entries rows = (n : ℕ) → r ≡ Ok n → Enough entries rows (take n lines)
 
 -- scratch for any table
-pub record ScratchForAny (leasts entries rows : List ℕ) : Type 0 where
+pub record ScratchForAny (leasts : List ℕ) (entries : List Entry) (rows : List RowEnd) : Type 0 where
   pub leasts_room : max_position ≤ length leasts
-  pub entries_room : max_entries ≤ length entries / 3
-  pub rows_room : max_lines ≤ length rows / 2
+  pub entries_room : max_entries ≤ length entries
+  pub rows_room : max_lines ≤ length rows
 
 -- what measuring them takes, and promises
-pub record ReadLent (r : Result ℕ Refusal) (below : Option ℕ) (lines : List ℕ) (fs : List Estimate) (leasts : List ℕ) (es : List Entry) (rs : List Row) : Type 0 where
+pub record ReadLent (r : Result ℕ Refusal) (below : Option ℕ) (lines : List Kept) (fs : List Estimate) (leasts : List ℕ) (es : List Entry) (rs : List RowEnd) : Type 0 where
   pub front : LinesIn r lines
-  pub lent : (n : ℕ) → r ≡ Ok n → Lent (take n (kepts_of lines)) fs leasts es rs
-  pub scope : (n : ℕ) → r ≡ Ok n → InScope below (take n (kepts_of lines))
+  pub lent : (n : ℕ) → r ≡ Ok n → Lent (take n lines) fs leasts es rs
+  pub scope : (n : ℕ) → r ≡ Ok n → InScope below (take n lines)
 
-abbrev pub ReadMeasured : Result ℕ Refusal → Option ℕ → ℕ → List ℕ → List Estimate → List Estimate → Type 0
-ReadMeasured r below wrap lines b c = (n : ℕ) → r ≡ Ok n → ScopeMeasured below wrap (take n (kepts_of lines)) b c
+abbrev pub ReadMeasured : Result ℕ Refusal → Option ℕ → ℕ → List Kept → List Estimate → List Estimate → Type 0
+ReadMeasured r below wrap lines b c = (n : ℕ) → r ≡ Ok n → ScopeMeasured below wrap (take n lines) b c
 
 -- ---- a sheet
 
@@ -70,7 +69,7 @@ pub record LinesMeasured (wrap : ℕ) (ks : List Kept) (fs : List Estimate) : Ty
   pub figures : take (length ks) fs ≡ estimates wrap ks
   pub sound : (k : ℕ) → k < length ks → Bounded (get_or (estimates wrap ks) k none)
 
-pub record SheetMeasured (asked : Option ℕ) (s : List ℕ) (wrap : ℕ) (r : Result ℕ Refusal) (lines : List ℕ) (figures : List Estimate) : Type 0 where
+pub record SheetMeasured (asked : Option ℕ) (s : List ℕ) (wrap : ℕ) (r : Result ℕ Refusal) (lines : List Kept) (figures : List Estimate) : Type 0 where
   pub opened : Opened asked s r lines
   pub measured : (n : ℕ) → r ≡ Ok n → LinesMeasured wrap (kept_lines s) figures
 
@@ -79,6 +78,6 @@ pub record CellsKnown (wrap : ℕ) (ks : List Kept) (at : ℕ) (fs : List Estima
   pub cells : (k : ℕ) → CellOf ks at k → get_or fs k none ≡ get_or (estimates wrap ks) k none
   pub sound : (k : ℕ) → CellOf ks at k → Bounded (get_or (estimates wrap ks) k none)
 
-pub record TableMeasured (s : List ℕ) (line wrap : ℕ) (r : Result ℕ Refusal) (lines : List ℕ) (figures : List Estimate) : Type 0 where
+pub record TableMeasured (s : List ℕ) (line wrap : ℕ) (r : Result ℕ Refusal) (lines : List Kept) (figures : List Estimate) : Type 0 where
   pub opened : Opened (Some line) s r lines
   pub measured : (n : ℕ) → r ≡ Ok n → CellsKnown wrap (kept_lines s) (line - 1) figures

@@ -6,9 +6,6 @@ use lib.Seq.{length-take-le}
 use Rattle.pacing.proofs.Opening.{front_walkable, walk_refused, walk_accepted, walk_narrow}
 use Rattle.pacing.proofs.walk_read.Goals as goal
 
-pub overflow_mul-end : goal.overflow_mul-end
-overflow_mul-end c = omega (arith, c.requires.read_walkable.front _ c.in_ok-n.was)
-
 pub slice_bounds-walk_lines-end : goal.slice_bounds-walk_lines-end
 slice_bounds-walk_lines-end c = sym (length-take-le _ _ (omega (arith, c.requires.read_walkable.front _ c.in_ok-n.was)))
 

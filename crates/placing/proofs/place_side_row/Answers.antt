@@ -4,61 +4,51 @@
 use mathlib.Core.Path.{◌≡◌, refl}
 use Prim.Native.Nat.{◌+◌, ◌-◌, ◌≤◌, ◌<◌}
 use native.Mathlib.Omega.{arith}
-use lib.ListN.{length, take, drop}
+use lib.ListN.{length, get_or, take, drop}
 use Rattle.lists.specs.Limits.{max_size}
 use Rattle.lists.specs.Lists.{sum}
-use Rattle.records.specs.Kept.{entry_by, entries_of}
-use Rattle.records.proofs.Records.{length_of}
+use Rattle.records.specs.Kept.{no_entry}
 use Rattle.placing.proofs.RowLoop.{side_start, side_columns, side_sum, side_room, side_turn, side_stop, part_sum}
 use Rattle.placing.proofs.place_side_row.Goals as goal
-use Rattle.placing.proofs.place_side_row.Goals.{After-entry_at-e, After-total-total, In-loop-i}
+use Rattle.placing.proofs.place_side_row.Goals.{After-total-total, In-loop-i}
 
 -- there is one more entry
-less : (c : In-loop-i) → c.loop-i.i < length (entries_of c.args.entries.now)
+less : (c : In-loop-i) → c.loop-i.i < length c.args.entries.now
 less c = omega (arith, c.loop-i-test.true, c.requires.xs_length)
 
 -- its columns are there
-inside : (c : After-entry_at-e) → c.entry_at-e.result.first + c.entry_at-e.result.span ≤ length c.args.ws.now
-inside c = side_columns _ _ _ _ c.requires _ c.entry_at-e.result c.entry_at-e.ensures (omega (arith, c.loop-i-test.true, c.requires.xs_length))
+inside : (c : In-loop-i) → let e = get_or c.args.entries.now c.loop-i.i no_entry in
+    e.first + e.span ≤ length c.args.ws.now
+inside c = side_columns _ _ _ _ c.requires c.loop-i.i (less c)
 
 -- what `total` answers is their sum
-sum_is : (c : After-total-total) → let e = c.entry_at-e.result in
+sum_is : (c : After-total-total) → let e = get_or c.args.entries.now c.loop-i.i no_entry in
     c.total-total.result ≡ sum (take e.span (drop e.first c.args.ws.now))
-sum_is c = part_sum _ _ c.entry_at-e.result.first c.entry_at-e.result.span _ _ c.total-total.ensures refl refl
+sum_is c =
+    let e = get_or c.args.entries.now c.loop-i.i no_entry in
+    part_sum _ _ e.first e.span _ _ c.total-total.ensures refl refl
 
 -- the entry does not reach too far
-room : (c : After-total-total) → c.loop-i.start + (c.total-total.result + c.entry_at-e.result.span) ≤ max_size + 1
+room : (c : After-total-total) → c.loop-i.start + (c.total-total.result + (get_or c.args.entries.now c.loop-i.i no_entry).span) ≤ max_size + 1
 room c =
     let l = c.loop-i in
     rw (sum_is c)
-    (side_room _ _ _ _ c.requires l.i c.entry_at-e.result c.entry_at-e.ensures l.x l.wide l.start l.invariant (omega (arith, c.loop-i-test.true, c.requires.xs_length)))
+    (side_room _ _ _ _ c.requires l.x l.wide l.start l.i l.invariant (omega (arith, c.loop-i-test.true, c.requires.xs_length)))
 
 pub loop-i-init : goal.loop-i-init
 loop-i-init c = side_start _ _ _ _ c.requires
 
-pub entry_at-e-requires : goal.entry_at-e-requires
-entry_at-e-requires c = omega (arith, less (goal.at.entry_at-e-requires c).In-loop-i, length_of 3 entry_by c.args.entries.now)
-
-pub overflow_add-to : goal.overflow_add-to
-overflow_add-to c = omega (arith, inside (goal.at.overflow_add-to c).After-entry_at-e)
-
-pub offset_bounds-ws-from : goal.offset_bounds-ws-from
-offset_bounds-ws-from c = omega (arith, inside (goal.at.offset_bounds-ws-from c).After-entry_at-e)
-
 pub slice_bounds-total-end : goal.slice_bounds-total-end
-slice_bounds-total-end c = omega (arith, inside (goal.at.slice_bounds-total-end c).After-entry_at-e)
+slice_bounds-total-end c = omega (arith, inside (goal.at.slice_bounds-total-end c).In-loop-i)
 
 pub total-total-requires : goal.total-total-requires
 total-total-requires c =
-    let e = c.entry_at-e.result in
+    let e = get_or c.args.entries.now c.loop-i.i no_entry in
     let s = side_sum _ _ _ _ c.requires e.first (e.first + e.span - e.first) in
     omega (arith, s)
 
 pub own_width-requires : goal.own_width-requires
 own_width-requires c = omega (arith, room (goal.at.own_width-requires c).After-total-total)
-
-pub bounds-wide-i : goal.bounds-wide-i
-bounds-wide-i c = omega (arith, less (goal.at.bounds-wide-i c).In-loop-i, c.loop-i.invariant.wides_length, c.requires.wides_length)
 
 pub next_start-start-requires : goal.next_start-start-requires
 next_start-start-requires c = room (goal.at.next_start-start-requires c).After-total-total
@@ -66,7 +56,7 @@ next_start-start-requires c = room (goal.at.next_start-start-requires c).After-t
 pub loop-i-preserved : goal.loop-i-preserved
 loop-i-preserved c =
     let l = c.loop-i in
-    side_turn _ _ _ _ c.requires l.i c.entry_at-e.result c.entry_at-e.ensures l.x l.wide l.start l.invariant (less (goal.at.loop-i-preserved c).In-loop-i) _ _ _
+    side_turn _ _ _ _ c.requires l.x l.wide l.start l.i l.invariant (less (goal.at.loop-i-preserved c).In-loop-i) _ _ _
     (sum_is (goal.at.loop-i-preserved c).After-total-total) c.own_width.ensures c.next_start-start.ensures
 
 pub returns : goal.returns

@@ -3,7 +3,7 @@ use Rattle.std.specs.Prelude.{cond, ◌≡◌, List, [], ◌∷◌, map, ℕ, �
 use Rattle.lists.specs.Lists.{sum}
 use Rattle.lists.specs.Limits.{max_size}
 use Rattle.records.specs.declared.Entry.{Entry}
-use Rattle.records.specs.declared.Row.{Row}
+use Rattle.records.specs.declared.RowEnd.{RowEnd}
 use Rattle.columns.specs.Boxes.{Box, box, rows_by, BoxesTile, TilesAll}
 use Rattle.cutting.specs.Cut.{gaps}
 use Rattle.answers.specs.declared.Way.{Way}
@@ -25,7 +25,7 @@ abbrev pub bare_boxes : List Entry → List Box
 bare_boxes es = map bare_box es
 
 -- how many entries there are up to and including a row
-abbrev pub end_of : Row → ℕ
+abbrev pub end_of : RowEnd → ℕ
 end_of r = r.end
 
 -- a row sideways: a place for each entry; the entries tile the columns; widths and gaps are no wider than a table may lie
@@ -48,7 +48,7 @@ Ascends a [] n = a ≡ n
 Ascends a (e ∷ ends) n = (a ≤ e) × Ascends e ends n
 
 -- all rows of a table
-pub record AllRows (way : Way) (es : List Entry) (rs : List Row) (ws xs wides : List ℕ) : Type 0 where
+pub record AllRows (way : Way) (es : List Entry) (rs : List RowEnd) (ws xs wides : List ℕ) : Type 0 where
   pub xs_length : length xs ≡ length es
   pub wides_length : length wides ≡ length es
   pub ascends : Ascends 0 (map end_of rs) (length es)

@@ -4,9 +4,8 @@ use mathlib.Core.Path.{◌≡◌, sym, ap, ◌∙◌}
 use mathlib.Core.List.{map}
 use Prim.Native.Nat.{ℕ, ◌*◌, ◌-◌, ◌≤◌}
 use native.Mathlib.Omega.{arith}
-use lib.ListN.{length, take, drop, length-drop}
+use lib.ListN.{length, take, drop, length-drop, length-map}
 use lib.Seq.{length-take-le}
-use Rattle.records.specs.Kept.{entry_by}
 use Rattle.records.specs.declared.Entry.{Entry}
 use Rattle.cells.specs.declared.Cell.{Cell}
 use Rattle.cells.specs.Held.{figures, cell_by, held_line, held_span, held_rows, lines_of, spans_of, rowspans_of, entry_cell, entry_span}
@@ -15,25 +14,25 @@ use Rattle.cells.proofs.Figures.{length_figures, figures_part}
 use Rattle.rows.specs.inner.Overhangs.{third, lefts_in, ats_in, wides_in}
 use Rattle.rows.specs.Row.{item_line, item_span}
 use Rattle.positions.specs.inner.Slices.{row_at}
-use Rattle.positions.proofs.OverAt.{part_length, rest_figures, figures_over}
+use Rattle.positions.proofs.OverAt.{part_length, rest_map, over_map}
 use Rattle.positions.proofs.Thirds.{lefts_long, lefts_here, ats_here, wides_here}
 use Rattle.positions.proofs.one_row.Goals as goal
 use Rattle.positions.proofs.one_row.Goals.{Start}
 
 -- the row's cells, what hangs into it and its entries lie within the slices
-within : (c : Start) → (c.args.first ≤ c.args.end) × (3 * c.args.end ≤ length c.args.cells.now) × (c.args.k ≤ third c.args.overhang.now) × (3 * c.args.n ≤ length c.args.entries.now)
+within : (c : Start) → (c.args.first ≤ c.args.end) × (3 * c.args.end ≤ length c.args.cells.now) × (c.args.k ≤ third c.args.overhang.now) × (c.args.n ≤ length c.args.entries.now)
 within c = (
   c.requires.rises,
   omega (arith, c.requires.lines_in_fits, length_figures 3 cell_by held_line c.args.cells.now),
   omega (arith, c.requires.left_in, lefts_long c.args.overhang.now),
-  omega (arith, c.requires.line_room, length_figures 3 entry_by entry_cell c.args.entries.now),
+  omega (arith, c.requires.line_room, length-map c.args.entries.now entry_cell),
 )
 
 cells_here : (c : Start) (f : Cell → ℕ) → figures 3 cell_by f (take (3 * c.args.end - 3 * c.args.first) (drop (3 * c.args.first) c.args.cells.now)) ≡ part c.args.first c.args.end (figures 3 cell_by f c.args.cells.now)
 cells_here c f = figures_part 3 cell_by f (omega arith) c.args.first c.args.end c.args.cells.now (within c).0 (within c).1
 
-rest-count : (c : Start) (f : Entry → ℕ) → length (figures 3 entry_by f (take (length c.args.entries.now - 3 * c.args.n) (drop (3 * c.args.n) c.args.entries.now))) ≡ length (figures 3 entry_by f c.args.entries.now) - c.args.n
-rest-count c f = ap length (rest_figures entry_by f c.args.n c.args.entries.now (within c).3) ∙ length-drop c.args.n (figures 3 entry_by f c.args.entries.now)
+rest-count : (c : Start) (f : Entry → ℕ) → length (map f (take (length c.args.entries.now - c.args.n) (drop c.args.n c.args.entries.now))) ≡ length (map f c.args.entries.now) - c.args.n
+rest-count c f = ap length (rest_map f c.args.n c.args.entries.now (within c).3) ∙ length-drop c.args.n (map f c.args.entries.now)
 
 pub merge_row-requires : goal.merge_row-requires
 unfolding row_at
@@ -49,8 +48,8 @@ merge_row-requires c =
     let room = rest-count (goal.at.merge_row-requires c).Start in record {
       at_len = (ha ∙ sym hl, hw ∙ sym hl);
       row_room = record {
-        lines = omega (arith, il, hl, room entry_cell, length_figures 3 entry_by entry_cell a.entries.now, q.line_room);
-        spans = omega (arith, il, hl, room entry_span, length_figures 3 entry_by entry_span a.entries.now, q.span_room);
+        lines = omega (arith, il, hl, room entry_cell, length-map a.entries.now entry_cell, q.line_room);
+        spans = omega (arith, il, hl, room entry_span, length-map a.entries.now entry_span, q.span_room);
         lefts = omega (arith, il, hl, q.next_left_room);
         ats = omega (arith, il, hl, q.next_at_room);
         wides = omega (arith, il, hl, q.next_wide_room);
@@ -69,8 +68,8 @@ returns c =
     record {
       hangs = m.hangs;
       written = let w = m.written in record {
-        lines = figures_over entry_by entry_cell a.n a.entries.now (within (goal.at.returns c).Start).3 (map item_line xs) _ w.lines;
-        spans = figures_over entry_by entry_span a.n a.entries.now (within (goal.at.returns c).Start).3 (map item_span xs) _ w.spans;
+        lines = over_map entry_cell a.n a.entries.now (within (goal.at.returns c).Start).3 (map item_line xs) _ w.lines;
+        spans = over_map entry_span a.n a.entries.now (within (goal.at.returns c).Start).3 (map item_span xs) _ w.spans;
         lefts = w.lefts;
         ats = w.ats;
         wides = w.wides;

@@ -1,38 +1,32 @@
 -- `positions::position_rows` merges the rows. The loop keeps: the rows done, with the rows of what is left of the table and of what
 -- hangs now, are the table's rows, of which none ends past 4,096 and whose entries have places; those of the rows done are written, and the records of
 -- the rows that are left say where their cells end. A turn merges the next row. Assumes nothing.
-use mathlib.Core.Path.{◌≡◌, refl, sym, ap, ◌∙◌}
+use mathlib.Core.Path.{◌≡◌, refl, sym, ◌∙◌}
 use mathlib.Core.List.{[]}
-use Prim.Native.Nat.{◌/◌, ◌<◌}
+use Prim.Native.Nat.{◌<◌}
 use native.Mathlib.Omega.{arith}
-use lib.ListN.{length, get_or}
-use Rattle.records.specs.Kept.{entry_by, row_by}
+use lib.ListN.{length, get_or, length-map, get_or-map}
+use Rattle.records.specs.Kept.{no_row}
 use Rattle.cells.specs.Held.{row_end, row_ends_of, entry_cell, entry_span}
-use Rattle.cells.proofs.Figures.{length_figures, figure_at_lem, figures_still}
+use Rattle.cells.proofs.Figures.{length_figures, figures_still, maps_still}
 use Rattle.rows.specs.inner.Overhangs.{overhang_by, hung_left, hung_at, hung_span}
 use Rattle.positions.proofs.RowsLoop.{end_kept, start_bounds, start, stop, cells_in_lem, few_entries, ready, small, turn, turn_bounds}
 use Rattle.positions.proofs.Thirds.{lefts_long, lefts_still, ats_still, wides_still}
 use Rattle.positions.proofs.position_rows.Goals as goal
-use Rattle.positions.proofs.position_rows.Goals.{After-row_at-row, In-loop-r}
+use Rattle.positions.proofs.position_rows.Goals.{In-loop-r}
 
 more : (c : In-loop-r) → c.loop-r.r < length (row_ends_of c.args.rows.now)
-more c = omega (arith, length_figures 2 row_by row_end c.args.rows.now, c.loop-r-test.true)
+more c = omega (arith, length-map c.args.rows.now row_end, c.loop-r-test.true)
 
 -- where the next row's cells end is still in its record
-end_is : (c : After-row_at-row) → get_or (row_ends_of c.args.rows.now) c.loop-r.r 0 ≡ c.row_at-row.result.end
-end_is c =
-    let i = c.loop-r.invariant in
-    sym (end_kept (i.1 [])) ∙ figure_at_lem 2 row_by row_end c.loop-r.rows c.loop-r.r (omega (arith, i.2.rows_long, c.loop-r-test.true))
-    ∙ sym (ap row_end c.row_at-row.ensures)
+end_is : (c : In-loop-r) → get_or (row_ends_of c.args.rows.now) c.loop-r.r 0 ≡ (get_or c.loop-r.rows c.loop-r.r no_row).end
+end_is c = sym (end_kept (c.loop-r.invariant.1 [])) ∙ get_or-map row_end c.loop-r.rows c.loop-r.r no_row
 
 pub loop-r-init : goal.loop-r-init
 loop-r-init c = (start_bounds c.requires, start c.requires, record { rows_long = refl; entries_long = refl; overhang_long = refl; next_long = refl; lines_same = refl })
 
-pub row_at-row-requires : goal.row_at-row-requires
-row_at-row-requires c = omega (arith, c.loop-r.invariant.2.rows_long, c.loop-r-test.true)
-
 pub one_row-hangs-requires : goal.one_row-hangs-requires
-one_row-hangs-requires c = ready c.requires c.loop-r.invariant.0 (more (goal.at.one_row-hangs-requires c).In-loop-r) _ (end_is (goal.at.one_row-hangs-requires c).After-row_at-row) [] (c.loop-r.invariant.1 [])
+one_row-hangs-requires c = ready c.requires c.loop-r.invariant.0 (more (goal.at.one_row-hangs-requires c).In-loop-r) _ (end_is (goal.at.one_row-hangs-requires c).In-loop-r) [] (c.loop-r.invariant.1 [])
 
 pub carry-requires : goal.carry-requires
 carry-requires c =
@@ -40,24 +34,18 @@ carry-requires c =
     let b = c.loop-r.invariant.0 in
     let v = c.loop-r.invariant.2 in
     let o = c.one_row-hangs in
-    let w = small c.requires c.loop-r.invariant.0 (more (goal.at.carry-requires c).In-loop-r) _ (end_is (goal.at.carry-requires c).After-row_at-row) [] (c.loop-r.invariant.1 []) c.one_row-hangs.ensures in
-    let e = cells_in_lem c.requires c.loop-r.invariant.0 (more (goal.at.carry-requires c).In-loop-r) _ (end_is (goal.at.carry-requires c).After-row_at-row) in
+    let w = small c.requires c.loop-r.invariant.0 (more (goal.at.carry-requires c).In-loop-r) _ (end_is (goal.at.carry-requires c).In-loop-r) [] (c.loop-r.invariant.1 []) c.one_row-hangs.ensures in
+    let e = cells_in_lem c.requires c.loop-r.invariant.0 (more (goal.at.carry-requires c).In-loop-r) _ (end_is (goal.at.carry-requires c).In-loop-r) in
     (omega (arith, w, e.1, q.next_left_room, length_figures 3 overhang_by hung_left c.args.next.now, v.next_long, c.one_row-hangs.auto.next), omega (arith, w, e.1, q.left_room, lefts_long c.args.overhang.now, v.overhang_long))
 
 pub overflow_sub-n : goal.overflow_sub-n
-overflow_sub-n c = (cells_in_lem c.requires c.loop-r.invariant.0 (more (goal.at.overflow_sub-n c).In-loop-r) _ (end_is (goal.at.overflow_sub-n c).After-row_at-row)).0
-
-pub overflow_add-n : goal.overflow_add-n
-overflow_add-n c = omega (arith, cells_in_lem c.requires c.loop-r.invariant.0 (more (goal.at.overflow_add-n c).In-loop-r) _ (end_is (goal.at.overflow_add-n c).After-row_at-row), c.loop-r.invariant.0.few, c.requires.few)
+overflow_sub-n c = (cells_in_lem c.requires c.loop-r.invariant.0 (more (goal.at.overflow_sub-n c).In-loop-r) _ (end_is (goal.at.overflow_sub-n c).In-loop-r)).0
 
 pub overflow_add-n-in-loop-r : goal.overflow_add-n-in-loop-r
-overflow_add-n-in-loop-r c = omega (arith, few_entries c.requires c.loop-r.invariant.0 (more (goal.at.overflow_add-n-in-loop-r c).In-loop-r) _ (end_is (goal.at.overflow_add-n-in-loop-r c).After-row_at-row) [] (c.loop-r.invariant.1 []))
+overflow_add-n-in-loop-r c = omega (arith, few_entries c.requires c.loop-r.invariant.0 (more (goal.at.overflow_add-n-in-loop-r c).In-loop-r) _ (end_is (goal.at.overflow_add-n-in-loop-r c).In-loop-r) [] (c.loop-r.invariant.1 []))
 
 pub overflow_cast-n : goal.overflow_cast-n
-overflow_cast-n c = omega (arith, few_entries c.requires c.loop-r.invariant.0 (more (goal.at.overflow_cast-n c).In-loop-r) _ (end_is (goal.at.overflow_cast-n c).After-row_at-row) [] (c.loop-r.invariant.1 []))
-
-pub end_row-requires : goal.end_row-requires
-end_row-requires c = omega (arith, c.loop-r.invariant.2.rows_long, c.loop-r-test.true)
+overflow_cast-n c = omega (arith, few_entries c.requires c.loop-r.invariant.0 (more (goal.at.overflow_cast-n c).In-loop-r) _ (end_is (goal.at.overflow_cast-n c).In-loop-r) [] (c.loop-r.invariant.1 []))
 
 pub loop-r-preserved : goal.loop-r-preserved
 loop-r-preserved c =
@@ -69,10 +57,10 @@ loop-r-preserved c =
     let oe = c.one_row-hangs.auto.entries in
     let on = c.one_row-hangs.auto.next in
     let vo = c.carry.auto.overhang in (
-      turn_bounds c.requires c.loop-r.invariant.0 (more (goal.at.loop-r-preserved c).In-loop-r) _ (end_is (goal.at.loop-r-preserved c).After-row_at-row) [] (z []) c.one_row-hangs.ensures c.end_row.ensures.ended (figures_still 3 entry_by entry_cell _ _ oe) (figures_still 3 entry_by entry_span _ _ oe)
+      turn_bounds c.requires c.loop-r.invariant.0 (more (goal.at.loop-r-preserved c).In-loop-r) _ (end_is (goal.at.loop-r-preserved c).In-loop-r) [] (z []) c.one_row-hangs.ensures c.end_row.ensures.ended (maps_still entry_cell _ _ oe) (maps_still entry_span _ _ oe)
           (lefts_still c.carry.new.overhang c.loop-r.overhang vo) (ats_still c.carry.new.overhang c.loop-r.overhang vo) (wides_still c.carry.new.overhang c.loop-r.overhang vo)
           (figures_still 3 overhang_by hung_left _ _ on) (figures_still 3 overhang_by hung_at _ _ on) (figures_still 3 overhang_by hung_span _ _ on),
-      (λ row_lines. turn c.requires c.loop-r.invariant.0 (more (goal.at.loop-r-preserved c).In-loop-r) _ (end_is (goal.at.loop-r-preserved c).After-row_at-row) row_lines (z row_lines) c.one_row-hangs.ensures c.carry.ensures c.end_row.ensures.ended),
+      (λ row_lines. turn c.requires c.loop-r.invariant.0 (more (goal.at.loop-r-preserved c).In-loop-r) _ (end_is (goal.at.loop-r-preserved c).In-loop-r) row_lines (z row_lines) c.one_row-hangs.ensures c.carry.ensures c.end_row.ensures.ended),
       record {
         rows_long = c.end_row.auto.rows ∙ h.rows_long;
         entries_long = oe ∙ h.entries_long;
@@ -82,9 +70,7 @@ loop-r-preserved c =
       },
     )
 
-pub returns : goal.returns
-returns c =
-    let i = c.loop-r.invariant in record {
-      made = (λ row_lines. stop c.requires i.0 row_lines (i.1 row_lines) (omega (arith, length_figures 2 row_by row_end c.args.rows.now, c.loop-r-test.false)) (length c.args.rows.now / 2) (sym (length_figures 2 row_by row_end c.args.rows.now)));
-      lined = i.2.lines_same;
-    }
+pub returns-clause-made : goal.returns-clause-made
+returns-clause-made c =
+    let i = c.loop-r.invariant in
+    λ row_lines. stop c.requires i.0 row_lines (i.1 row_lines) (omega (arith, length-map c.args.rows.now row_end, c.loop-r-test.false)) (length c.args.rows.now) (sym (length-map c.args.rows.now row_end))

@@ -1,13 +1,10 @@
--- `report::told` meets its contract: the lines of a sheet that is accepted are the first records, which stand in the first places (`front_listable`).
+-- `report::told` meets its contract: the lines of a sheet that is accepted are the first of the records (`front_listable`).
 -- Assumes nothing.
 use mathlib.Core.Path.{sym}
 use native.Mathlib.Omega.{arith}
 use lib.Seq.{length-take-le}
 use Rattle.report.proofs.Ready.{front_listable, front_narrow}
 use Rattle.report.proofs.told.Goals as goal
-
-pub overflow_mul-n : goal.overflow_mul-n
-overflow_mul-n c = omega (arith, c.requires.few _ c.in-Ok.is)
 
 pub slice_bounds-laid-end : goal.slice_bounds-laid-end
 slice_bounds-laid-end c = sym (length-take-le _ _ (omega (arith, c.requires.front _ c.in-Ok.is)))

@@ -2,9 +2,9 @@
 use Rattle.lists.specs.declared.Refusal.{Refusal}
 use Rattle.std.specs.Prelude.{◌≡◌, List, ℕ, ◌≤◌, ◌<◌, length, get_or, take, Ok, Result, Option, None}
 use Rattle.lists.specs.Limits.{max_lines, max_size}
-use Rattle.kinds.specs.Kinds.{table_kind}
+use Rattle.kinds.specs.Kinds.{kind_number, table_kind}
 use Rattle.text.specs.declared.Estimate.{Estimate}
-use Rattle.records.specs.Kept.{no_kept, kept_count, kepts_of}
+use Rattle.records.specs.Kept.{no_kept}
 use Rattle.records.specs.declared.Kept.{Kept}
 use Rattle.cells.specs.Listed.{table_rows}
 use Rattle.grid.specs.Facts.{Sound}
@@ -15,19 +15,14 @@ use Rattle.walking.specs.inner.Steps.{AtMost}
 -- a measured sheet, none of whose tables is refused, and a width at which they can be laid out
 pub record Listable (ks : List Kept) (figures : List Estimate) (width : ℕ) : Type 0 where
   pub lined : Lined ks
-  pub sound : (t : ℕ) → t < length ks → (get_or ks t no_kept).kind ≡ table_kind → Sound (table_rows ks t)
+  pub sound : (t : ℕ) → t < length ks → kind_number (get_or ks t no_kept).kind ≡ table_kind → Sound (table_rows ks t)
   pub measured : AllMeasured ks figures
   pub small : width ≤ max_size
 
 -- the line at a place is a table
 pub record TableAt (ks : List Kept) (at : ℕ) : Type 0 where
   pub within : at < length ks
-  pub kind : (get_or ks at no_kept).kind ≡ table_kind
-
--- no more rows than a sheet has lines, and records for some
-pub record RowsFew (n : ℕ) (rows : List ℕ) : Type 0 where
-  pub few : n ≤ max_lines
-  pub room : 1 ≤ length rows
+  pub kind : kind_number (get_or ks at no_kept).kind ≡ table_kind
 
 -- the widths of so many lines, at which tables can be laid out
 pub record WalkNarrow (n : ℕ) (walk : List (Option ℕ)) : Type 0 where
@@ -35,8 +30,8 @@ pub record WalkNarrow (n : ℕ) (walk : List (Option ℕ)) : Type 0 where
   pub small : (k : ℕ) → k < n → AtMost max_size (get_or walk k None)
 
 -- if the sheet is accepted, its lines are the first records, and they can be listed
-pub record ReadListable (read : Result ℕ Refusal) (lines : List ℕ) (figures : List Estimate) (width : ℕ) (walk : List (Option ℕ)) : Type 0 where
-  pub front : (n : ℕ) → read ≡ Ok n → n ≤ kept_count lines
+pub record ReadListable (read : Result ℕ Refusal) (lines : List Kept) (figures : List Estimate) (width : ℕ) (walk : List (Option ℕ)) : Type 0 where
+  pub front : (n : ℕ) → read ≡ Ok n → n ≤ length lines
   pub few : (n : ℕ) → read ≡ Ok n → n ≤ max_lines
-  pub listable : (n : ℕ) → read ≡ Ok n → Listable (take n (kepts_of lines)) figures width
+  pub listable : (n : ℕ) → read ≡ Ok n → Listable (take n lines) figures width
   pub narrow : (n : ℕ) → read ≡ Ok n → WalkNarrow n walk

@@ -1,17 +1,17 @@
--- `report_causes::told` meets its contract: the entries of a table stand in the front of their slice (`records_in`), and the missing ones are few (`front_few`). Assumes nothing.
+-- `report_causes::told` meets its contract: the missing ones are few (`front_few`). Assumes nothing.
 use mathlib.Core.Path.{sym}
 use native.Mathlib.Omega.{arith}
 use lib.Seq.{length-take-le}
-use Rattle.causes.proofs.Told.{front_few, records_in, causes_ready}
+use Rattle.causes.proofs.Told.{front_few, causes_ready}
 use Rattle.report_causes.proofs.told.Goals as goal
 
 pub slice_bounds-columns-end : goal.slice_bounds-columns-end
-slice_bounds-columns-end c = sym (length-take-le _ _ (records_in _ c.requires))
+slice_bounds-columns-end c = sym (length-take-le _ _ c.requires.entries_in_fits)
 
 pub columns-requires : goal.columns-requires
 columns-requires c =
     let pre = c.requires in record {
-      entered = rw (length-take-le _ _ pre.cause_in) at (causes_ready _ pre).0;
+      entered = rw (length-take-le _ _ pre.cause_in) at (causes_ready pre).0;
       c_le_max_position = pre.columns_few;
     }
 

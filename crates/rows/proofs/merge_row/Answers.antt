@@ -6,8 +6,7 @@ use mathlib.Core.Path.{◌≡◌, ap, ◌∙◌}
 use mathlib.Core.List.{List}
 use Prim.Native.Nat.{◌+◌, ◌/◌, ◌<◌}
 use native.Mathlib.Omega.{arith}
-use lib.ListN.{length}
-use Rattle.records.specs.Kept.{entry_by}
+use lib.ListN.{length, length-map}
 use Rattle.cells.specs.Held.{cell_by, held_line, entry_cell}
 use Rattle.cells.proofs.Figures.{length_figures}
 use Rattle.rows.specs.Row.{Item, hanging, row_from, row_of, nexts}
@@ -17,12 +16,12 @@ use Rattle.rows.proofs.MergeLoop.{start, turn, within, stop, cells_in, cells_cou
 use Rattle.rows.proofs.merge_row.Goals as goal
 use Rattle.rows.proofs.merge_row.Goals.{In-loop-n, then-due, else-due}
 
-room-here : (c : In-loop-n) → (c.loop-n.n < length c.loop-n.entries / 3) × (c.loop-n.k < length c.loop-n.next / 3)
+room-here : (c : In-loop-n) → (c.loop-n.n < length c.loop-n.entries) × (c.loop-n.k < length c.loop-n.next / 3)
 room-here c =
     let r = c.requires.row_room in
     let z = c.loop-n.invariant in
     let n = length_figures 3 cell_by held_line c.args.cells.now in
-    (omega (arith, n, r.lines, length_figures 3 entry_by entry_cell c.args.entries.now, c.loop-n.auto.entries), omega (arith, n, r.lefts, z.few, length_figures 3 overhang_by hung_left c.args.next.now, c.loop-n.auto.next))
+    (omega (arith, n, r.lines, length-map c.args.entries.now entry_cell, c.loop-n.auto.entries), omega (arith, n, r.lefts, z.few, length_figures 3 overhang_by hung_left c.args.next.now, c.loop-n.auto.next))
 
 pub loop-n-init : goal.loop-n-init
 loop-n-init c =

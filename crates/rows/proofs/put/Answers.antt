@@ -1,20 +1,19 @@
 -- `put` meets its contract: an entry that takes more than one row leaves one hanging, any other none. Assumes nothing.
 use native.Mathlib.Omega.{arith}
-use Rattle.records.specs.Kept.{entry_by}
 use Rattle.cells.specs.Held.{entry_cell, entry_span}
-use Rattle.cells.proofs.Figures.{figure_set}
+use Rattle.cells.proofs.Figures.{map_set, figure_set}
 use Rattle.rows.specs.inner.Overhangs.{overhang_by, hung_left, hung_at, hung_span}
 use Rattle.rows.proofs.Steps.{put_more, put_none}
 use Rattle.rows.proofs.put.Goals as goal
 
 pub returns-then-rows-le1 : goal.returns-then-rows-le1
 returns-then-rows-le1 c =
-    let e = c.put_entry.ensures in
-    rw (figure_set 3 entry_by entry_cell _ _ _ _ e, figure_set 3 entry_by entry_span _ _ _ _ e) (put_none _ _ _ _ _ _ _ _ (omega (arith, c.if-rows-le1.true)))
+    let a = c.args in
+    rw (map_set entry_cell a.entries.now a.n _, map_set entry_span a.entries.now a.n _) (put_none _ _ _ _ _ _ _ _ (omega (arith, c.if-rows-le1.true)))
 
 pub returns : goal.returns
 returns c =
-    let e = c.put_entry.ensures in
+    let a = c.args in
     let o = c.put_overhang.ensures in
-    rw (figure_set 3 entry_by entry_cell _ _ _ _ e, figure_set 3 entry_by entry_span _ _ _ _ e, figure_set 3 overhang_by hung_left _ _ _ _ o, figure_set 3 overhang_by hung_at _ _ _ _ o, figure_set 3 overhang_by hung_span _ _ _ _ o)
+    rw (map_set entry_cell a.entries.now a.n _, map_set entry_span a.entries.now a.n _, figure_set 3 overhang_by hung_left _ _ _ _ o, figure_set 3 overhang_by hung_at _ _ _ _ o, figure_set 3 overhang_by hung_span _ _ _ _ o)
     (put_more _ _ _ _ _ _ _ _ (omega (arith, c.if-rows-le1.false)))

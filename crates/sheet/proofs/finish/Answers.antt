@@ -4,21 +4,16 @@ use mathlib.Core.Path.{sym, ap, ◌∙◌}
 use Prim.Native.Nat.{ℕ}
 use native.Mathlib.Omega.{arith}
 use Rattle.std.specs.Prelude.{Ok, Err}
-use Rattle.records.specs.Kept.{kepts_of}
-use Rattle.records.proofs.Kepts.{length_kepts}
 use Rattle.sheet.proofs.Ending.{bare_length, bare_empty, ends_none, ends_start, ends_more, ends_at, ends_all}
 use Rattle.sheet.proofs.Filling.{filled_ends}
 use Rattle.sheet.proofs.finish.Goals as goal
 
 pub returns-then-n-eq0 : goal.returns-then-n-eq0
-returns-then-n-eq0 c = ap Err c.at.ensures ∙ ends_none _ (bare_length _ ∙ sym c.count-n.ensures ∙ c.if-n-eq0.true)
+returns-then-n-eq0 c = ap Err c.at.ensures ∙ ends_none _ (bare_length _ ∙ c.if-n-eq0.true)
 
 pub returns-then-all_filled : goal.returns-then-all_filled
 returns-then-all_filled c =
-    let ls = c.args.lines.now in
-    let all = length_kepts ls in
-    let n = c.count-n.ensures in
-    ap (λ (m : ℕ). Ok m) (n ∙ sym all) ∙ filled_ends (kepts_of ls) (omega (arith, c.if-n-eq0.false)) (rw (sym all) at (c.all_filled.ensures c.if-all_filled.true))
+    filled_ends c.args.lines.now (omega (arith, c.if-n-eq0.false)) (c.all_filled.ensures c.if-all_filled.true)
 
 pub loop-i-init : goal.loop-i-init
 loop-i-init c = ends_start _ (omega (arith, bare_length c.args.lines.now))
@@ -27,14 +22,14 @@ pub returns-then-left_empty_at : goal.returns-then-left_empty_at
 returns-then-left_empty_at c =
     let ls = c.args.lines.now in
     ap Err c.at-then-left_empty_at.ensures
-    ∙ ends_at _ c.loop-i.i (omega (arith, bare_length ls)) c.loop-i.invariant (sym (bare_empty (kepts_of ls) c.loop-i.i) ∙ sym c.left_empty_at.ensures ∙ c.if-left_empty_at.true)
+    ∙ ends_at _ c.loop-i.i (omega (arith, bare_length ls)) c.loop-i.invariant (sym (bare_empty ls c.loop-i.i) ∙ sym c.left_empty_at.ensures ∙ c.if-left_empty_at.true)
 
 pub loop-i-preserved : goal.loop-i-preserved
 loop-i-preserved c =
     let ls = c.args.lines.now in
-    ends_more _ c.loop-i.i (omega (arith, bare_length ls)) c.loop-i.invariant (sym (bare_empty (kepts_of ls) c.loop-i.i) ∙ sym c.left_empty_at.ensures ∙ c.if-left_empty_at.false)
+    ends_more _ c.loop-i.i (omega (arith, bare_length ls)) c.loop-i.invariant (sym (bare_empty ls c.loop-i.i) ∙ sym c.left_empty_at.ensures ∙ c.if-left_empty_at.false)
 
 pub returns : goal.returns
 returns c =
     let ls = c.args.lines.now in
-    ap (λ (m : ℕ). Ok m) (c.count-n.ensures ∙ sym (bare_length ls)) ∙ ends_all _ c.loop-i.i (omega (arith, bare_length ls)) c.loop-i.invariant
+    ap (λ (m : ℕ). Ok m) (sym (bare_length ls)) ∙ ends_all _ c.loop-i.i (omega (arith, bare_length ls)) c.loop-i.invariant

@@ -2,9 +2,8 @@
 -- Assumes nothing.
 use mathlib.Core.Path.{◌≡◌}
 use Prim.Native.Nat.{◌≤◌}
-use Rattle.records.specs.Kept.{kepts_of}
 use Rattle.sheet.specs.Steps.{FilledTo}
 use Rattle.sheet.proofs.lacking.Given as goal
 
 abbrev pub invariant-loop-i : goal.invariant-loop-i
-invariant-loop-i l = (l.found ≤ l.i) × (l.found ≡ 0 → FilledTo (kepts_of l.lines) l.i)
+invariant-loop-i l = (l.found ≤ l.i) × (l.found ≡ 0 → FilledTo l.lines l.i)

@@ -2,19 +2,17 @@
 -- are to the next one, and the sheet's answer is that of the checks from line n + 1 on, which starts at the place. A faulty line is the answer; a
 -- sound one is kept, and the checks go on after it. After the last line only the checks of `finish` are left. The measure is what is left of the
 -- sheet: a line has at least its line feed. Assumes nothing.
-use mathlib.Core.Path.{◌≡◌, sym, ap, ◌∙◌}
-use mathlib.Core.List.{List}
-use Prim.Native.Nat.{◌*◌, ◌≤◌}
+use mathlib.Core.Path.{◌≡◌, refl, sym, ◌∙◌}
+use Prim.Native.Nat.{◌≤◌}
 use native.Mathlib.Omega.{arith}
+use lib.ListN.{length-set}
 use lib.Seq.{length-take-le}
 use borrow.Author.Rules.{rules}
 use Rattle.std.specs.Prelude.{Ok}
 use Rattle.lists.specs.Limits.{max_depth}
-use Rattle.records.specs.declared.Kept.{Kept}
-use Rattle.records.proofs.Kepts.{kepts_take}
 use Rattle.line.specs.LineAt.{line_at}
 use Rattle.line.specs.declared.Node.{Node}
-use Rattle.sheet.specs.Steps.{judgement_of, BriefOf, line_end, bare}
+use Rattle.sheet.specs.Steps.{judgement_of, BriefOf}
 use Rattle.sheet.proofs.Heading.{refused_reads}
 use Rattle.sheet.proofs.Accepted.{accepted_passed}
 use Rattle.sheet.proofs.Turns.{NextLine, turns_start, turns_refuse, turns_next, turns_more, turns_end, turns_stored}
@@ -26,7 +24,7 @@ use Rattle.sheet.proofs.read_lines.Goals.{In-Ok}
 known : (c : In-Ok) → (node : Node) × (judgement_of c.loop-at.chain c.loop-at.n c.loop-at.previous (line_at c.args.bytes.now c.loop-at.at) ≡ Ok node) × BriefOf node c.in-Ok.b
 known c = c.judge.ensures.kept _ c.in-Ok.is
 
-next-line : (c : In-Ok) → (let b = c.in-Ok.b in NextLine c.args.bytes.now c.loop-at.at c.loop-at.n b.depth b.kind b.next)
+next-line : (c : In-Ok) → (let b = c.in-Ok.b in NextLine c.args.bytes.now c.loop-at.at c.loop-at.n b.line.depth b.next)
 next-line c = turns_next c.loop-at.invariant c.loop-at-test.true _ (known c)
 
 pub loop-at-init : goal.loop-at-init
@@ -36,17 +34,15 @@ pub returns-in-Err : goal.returns-in-Err
 returns-in-Err c =
     rw c.at.ensures (refused_reads (turns_refuse c.loop-at.invariant c.loop-at-test.true _ (c.judge.ensures.refused _ c.in-Err.is)))
 
-pub bounds-chain-here : goal.bounds-chain-here
-bounds-chain-here c =
-    let h : c.in-Ok.b.depth ≤ max_depth = (next-line (goal.at.bounds-chain-here c).In-Ok).deep in
+pub bounds-chain-previous : goal.bounds-chain-previous
+bounds-chain-previous c =
+    let h : c.in-Ok.b.line.depth ≤ max_depth = (next-line (goal.at.bounds-chain-previous c).In-Ok).deep in
     omega arith
 
-pub keep_at-requires : goal.keep_at-requires
-keep_at-requires c =
-    let l = next-line (goal.at.keep_at-requires c).In-Ok in record {
-      i_bound = omega (arith, l.few);
-      depth_le_max_depth = (l.deep, l.known);
-    }
+pub bounds-lines-n : goal.bounds-lines-n
+bounds-lines-n c =
+    let l = next-line (goal.at.bounds-lines-n c).In-Ok in
+    omega (arith, l.few, c.loop-at.invariant.same, c.requires.bytes_bound)
 
 pub overflow_add-n : goal.overflow_add-n
 overflow_add-n c = record { fits = omega (arith, c.loop-at.invariant.few, c.requires.begun.few) }
@@ -58,8 +54,8 @@ loop-at-smaller c =
 
 pub loop-at-preserved : goal.loop-at-preserved
 loop-at-preserved c =
-    turns_more c.loop-at.invariant c.loop-at-test.true _ (known (goal.at.loop-at-preserved c).In-Ok) _ (omega (arith, (next-line (goal.at.loop-at-preserved c).In-Ok).few, c.requires.begun.few, c.requires.bytes_bound)) c.keep_at.auto.lines
-    c.keep_at.ensures
+    turns_more c.loop-at.invariant c.loop-at-test.true _ (known (goal.at.loop-at-preserved c).In-Ok) _ (omega (arith, (next-line (goal.at.loop-at-preserved c).In-Ok).few, c.requires.begun.few, c.requires.bytes_bound)) (length-set _ _ _)
+    refl
 
 pub slice_bounds-finish-end-2 : goal.slice_bounds-finish-end-2
 slice_bounds-finish-end-2 c = sym (length-take-le _ _ (search rules))
@@ -67,11 +63,11 @@ slice_bounds-finish-end-2 c = sym (length-take-le _ _ (search rules))
 pub finish-requires : goal.finish-requires
 finish-requires c =
     let v = c.loop-at in
-    omega (arith, length-take-le (2 * v.n) v.lines (search rules))
+    omega (arith, length-take-le v.n v.lines (search rules))
 
 pub returns : goal.returns
 returns c =
     let v = c.loop-at in
     let h = c.loop-at-test.false in
-    let answer = c.finish.ensures ∙ ap (λ (ks : List Kept). line_end (bare ks)) (kepts_take v.lines v.n (search rules)) ∙ turns_end v.invariant h in
+    let answer = c.finish.ensures ∙ turns_end v.invariant h in
     record { answer = answer; stored = λ m e. turns_stored v.invariant h m (accepted_passed _ m (sym answer ∙ e)).count }

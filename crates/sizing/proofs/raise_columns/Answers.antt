@@ -2,28 +2,23 @@
 -- give. A turn passes an entry without a size, or raises its columns by its two quotients; the parts that are lent lie within the columns,
 -- as the entry ends there. Assumes nothing.
 use mathlib.Core.Path.{◌≡◌, refl}
-use Prim.Native.Nat.{◌+◌, ◌-◌, ◌<◌}
+use Prim.Native.Nat.{◌+◌, ◌-◌}
 use native.Mathlib.Omega.{arith}
-use lib.ListN.{length, replicate}
+use lib.ListN.{length, get_or, replicate}
 use Rattle.std.proofs.Common.{rules}
-use Rattle.records.specs.Kept.{entry_by, entries_of}
-use Rattle.records.proofs.Records.{length_of}
+use Rattle.records.specs.Kept.{no_entry}
 use Rattle.columns.specs.Boxes.{box}
 use Rattle.sizing.specs.inner.Room.{Whole}
 use Rattle.sizing.proofs.Raises.{raise_start, sizes_count, leasts_count, entry_whole, raise_skip, raise_turn, raise_stop}
 use Rattle.sizing.proofs.raise_columns.Goals as goal
-use Rattle.sizing.proofs.raise_columns.Goals.{After-figures_of-f, After-entry_at-e, then-f-ne0, else-f-ne0}
-
--- there is one more entry
-less : (c : After-entry_at-e) → c.loop-i.i < length (entries_of c.args.entries.now)
-less c = omega (arith, c.loop-i-test.true, length_of 3 entry_by c.args.entries.now)
+use Rattle.sizing.proofs.raise_columns.Goals.{After-figures_of-f, then-f-ne0, else-f-ne0}
 
 -- it has a column and ends within the columns
-whole : (c : After-figures_of-f) → let e = c.entry_at-e.result in
+whole : (c : After-figures_of-f) → let e = get_or c.args.entries.now c.loop-i.i no_entry in
     let f = c.figures_of-f.result in
     Whole (length c.args.sizes.now) (box e.first e.span f.size f.least)
 whole c =
-    entry_whole c.requires refl c.loop-i.invariant (omega (arith, c.loop-i-test.true, length_of 3 entry_by c.args.entries.now)) c.entry_at-e.ensures
+    entry_whole c.requires refl c.loop-i.invariant c.loop-i-test.true refl
     c.figures_of-f.ensures
 
 pub loop-i-init : goal.loop-i-init
@@ -31,9 +26,6 @@ loop-i-init c =
     let sizes : c.fill.new.self ≡ replicate (length c.args.sizes.now) 0 = search rules in
     let leasts : c.fill-2.new.self ≡ replicate (length c.args.leasts.now) 0 = search rules in
     raise_start c.requires refl sizes leasts
-
-pub figures_of-f-requires : goal.figures_of-f-requires
-figures_of-f-requires c = rw c.entry_at-e.ensures (c.requires.entered.within c.loop-i.i (less c))
 
 pub overflow_add-to : goal.overflow_add-to
 overflow_add-to c = omega (arith, (whole (goal.at.overflow_add-to c).After-figures_of-f).ends)
@@ -60,17 +52,17 @@ nonzero_div-f-then-f-ne0 c = (whole (goal.at.nonzero_div-f-then-f-ne0 c).After-f
 
 pub loop-i-preserved : goal.loop-i-preserved
 loop-i-preserved c =
-    let more = less (goal.at.loop-i-preserved c).After-entry_at-e in
-    let a = c.entry_at-e.result.first in
-    let k = c.entry_at-e.result.span in
+    let e = get_or c.args.entries.now c.loop-i.i no_entry in
+    let a = e.first in
+    let k = e.span in
     elim c.if-f-ne0.branch [
       | then-f-ne0 w ↦
           rw (w.sizes-is, w.leasts-is)
-          (raise_turn c.requires refl c.loop-i.invariant more c.entry_at-e.ensures c.figures_of-f.ensures a (a + k - a) refl (omega arith) w.raise.ensures w.raise-then-f-ne0.ensures)
+          (raise_turn c.requires refl c.loop-i.invariant c.loop-i-test.true refl c.figures_of-f.ensures a (a + k - a) refl (omega arith) w.raise.ensures w.raise-then-f-ne0.ensures)
       | else-f-ne0 w ↦
           rw (w.sizes-is, w.leasts-is)
-          (raise_skip c.requires refl c.loop-i.invariant more c.entry_at-e.ensures c.figures_of-f.ensures w.if-f-ne0.false)
+          (raise_skip c.requires refl c.loop-i.invariant c.loop-i-test.true refl c.figures_of-f.ensures w.if-f-ne0.false)
     ]
 
 pub returns : goal.returns
-returns c = raise_stop c.requires refl c.loop-i.invariant (omega (arith, c.loop-i-test.false, length_of 3 entry_by c.args.entries.now))
+returns c = raise_stop c.requires refl c.loop-i.invariant (omega (arith, c.loop-i-test.false))

@@ -2,9 +2,8 @@
 -- give. A turn passes an entry without a size, or raises its columns by its two quotients; the parts that are lent lie within the columns,
 -- as the entry ends there. Assumes nothing.
 use lib.ListN.{length}
-use Rattle.records.specs.Kept.{entries_of}
 use Rattle.sizing.proofs.Raises.{Sofar}
 use Rattle.sizing.proofs.raise_columns.Given as goal
 
 abbrev pub invariant-loop-i : goal.invariant-loop-i
-invariant-loop-i l = Sofar (entries_of l.entries) l.figures (length l.fn.sizes) l.sizes l.leasts l.i
+invariant-loop-i l = Sofar l.entries l.figures (length l.fn.sizes) l.sizes l.leasts l.i

@@ -5,8 +5,8 @@ use Rattle.std.proofs.Math.Seq.{slice}
 use Rattle.lists.specs.Limits.{max_entries}
 use Rattle.lists.specs.Refusals.{Check, first_answer, passes}
 use Rattle.text.specs.declared.Estimate.{Estimate}
-use Rattle.records.specs.Kept.{kepts_of, rows_of}
 use Rattle.records.specs.declared.Kept.{Kept}
+use Rattle.records.specs.declared.RowEnd.{RowEnd}
 use Rattle.columns.specs.Boxes.{Box}
 use Rattle.cells.specs.Listed.{table_rows}
 use Rattle.grid.specs.Grid.{GridRow, grid_of, columns_of}
@@ -22,8 +22,8 @@ use Rattle.spots.specs.Rows.{start_in, row_check}
 use Rattle.spots.specs.declared.Span.{Span}
 
 -- the first rows of the records are those of a grid
-abbrev pub HasRows : ℕ → List ℕ → List GridRow → Type 0
-HasRows n rows g = take n (rows_of rows) ≡ ended_rows 0 g
+abbrev pub HasRows : ℕ → List RowEnd → List GridRow → Type 0
+HasRows n rows g = take n rows ≡ ended_rows 0 g
 
 abbrev pub span_with : (first end next : ℕ) → Span
 span_with first end next = record { first = first; end = end; next = next }
@@ -53,9 +53,9 @@ pub record SpotMade (ks : List Kept) (line : ℕ) (figures : List Estimate) (raw
       → SpotTold (columns_of (table_rows ks (line - 1))) (grid_of (table_rows ks (line - 1))) (table.boxes_at wrap ks (line - 1)) raw width row r x wide
 
 -- the refusal handed up, or that of the lines that were read
-pub record SpotRead (read : Result ℕ Refusal) (lines : List ℕ) (line : ℕ) (figures : List Estimate) (raw width row : ℕ) (r : Result Span Refusal) (x wide : List ℕ) : Type 0 where
+pub record SpotRead (read : Result ℕ Refusal) (lines : List Kept) (line : ℕ) (figures : List Estimate) (raw width row : ℕ) (r : Result Span Refusal) (x wide : List ℕ) : Type 0 where
   pub refused : (why : Refusal) → read ≡ Err why → r ≡ Err why
-  pub made : (n : ℕ) → read ≡ Ok n → SpotMade (take n (kepts_of lines)) line figures raw width row r x wide
+  pub made : (n : ℕ) → read ≡ Ok n → SpotMade (take n lines) line figures raw width row r x wide
 
 -- found in the sheet, or the first refusal
 pub record SpotFound (cs : List Check) (s : List ℕ) (line wrap raw width row : ℕ) (r : Result Span Refusal) (x wide : List ℕ) : Type 0 where

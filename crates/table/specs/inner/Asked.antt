@@ -1,7 +1,7 @@
 -- The line that a call asks for, records for the grid of its table, and buffers for its layout. These are definitions; nothing is assumed.
 use Rattle.std.specs.Prelude.{◌≡◌, List, ℕ, ◌-◌, ◌≤◌, ◌<◌, length, get_or}
 use Rattle.lists.specs.Limits.{max_entries, max_lines}
-use Rattle.kinds.specs.Kinds.{table_kind}
+use Rattle.kinds.specs.Kinds.{kind_number, table_kind}
 use Rattle.records.specs.Kept.{no_kept}
 use Rattle.records.specs.declared.Kept.{Kept}
 use Rattle.cells.specs.Listed.{table_rows}
@@ -14,7 +14,7 @@ use Rattle.grid_bounds.specs.Sheets.{Nests}
 pub record Asked (ks : List Kept) (line : ℕ) : Type 0 where
   pub from_one : 1 ≤ line
   pub within : line - 1 < length ks
-  pub kind : (get_or ks (line - 1) no_kept).kind ≡ table_kind
+  pub kind : kind_number (get_or ks (line - 1) no_kept).kind ≡ table_kind
   pub lined : Lined ks
   pub nests : Nests ks
   pub sound : Sound (table_rows ks (line - 1))

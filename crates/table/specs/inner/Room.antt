@@ -4,7 +4,7 @@ use Rattle.lists.specs.Limits.{max_position, max_size}
 use Rattle.text.specs.declared.Estimate.{Estimate}
 use Rattle.records.specs.Kept.{no_entry}
 use Rattle.records.specs.declared.Entry.{Entry}
-use Rattle.records.specs.declared.Row.{Row}
+use Rattle.records.specs.declared.RowEnd.{RowEnd}
 use Rattle.cells.specs.Cells as cells
 use Rattle.grid.specs.Grid.{grid_of, columns_of, entries_of}
 use Rattle.columns.specs.Boxes.{TilesAll}
@@ -12,7 +12,7 @@ use Rattle.placing.specs.inner.Rows.{end_of, Ascends}
 use Rattle.table.specs.Laying.{box_rows_by}
 
 -- a table's records: entries, rows that tile the columns, the estimates of the sheet's lines; and places for the results
-pub record LayableTable (es : List Entry) (rs : List Row) (figures : List Estimate) (width : ℕ) (column xs wides : List ℕ) : Type 0 where
+pub record LayableTable (es : List Entry) (rs : List RowEnd) (figures : List Estimate) (width : ℕ) (column xs wides : List ℕ) : Type 0 where
   pub xs_length : length xs ≡ length es
   pub wides_length : length wides ≡ length es
   pub within : (i : ℕ) → i < length es → (get_or es i no_entry).cell ≤ length figures
@@ -22,7 +22,7 @@ pub record LayableTable (es : List Entry) (rs : List Row) (figures : List Estima
   pub small : width ≤ max_size
 
 -- a table's records in the front of the slices: so many rows, entries and columns
-pub record FrontLayable (r n c : ℕ) (es : List Entry) (rs : List Row) (figures : List Estimate) (width : ℕ) (column x wide : List ℕ) : Type 0 where
+pub record FrontLayable (r n c : ℕ) (es : List Entry) (rs : List RowEnd) (figures : List Estimate) (width : ℕ) (column x wide : List ℕ) : Type 0 where
   pub entries_in_fits : n ≤ length es
   pub rows_in_fits : r ≤ length rs
   pub column_in : c ≤ length column

@@ -1,15 +1,11 @@
--- `call_grid::made::make_read` meets its contract: the first n records stand in the first 2 * n places, and a refusal is handed up. Assumes nothing.
+-- `call_grid::made::make_read` meets its contract: a refusal is handed up, and the grid is made of the first n lines. Assumes nothing.
 use Rattle.std.proofs.Common.{rules, ◌≡◌, Ok, Err, ap}
 use mathlib.Core.Path.{sym}
 use native.Mathlib.Omega.{arith}
 use lib.Seq.{length-take-le}
 use Rattle.table.proofs.Rooms.{table_ready}
-use Rattle.sheet_figures.proofs.Openings.{front_asked, front_most}
 use Rattle.call_grid.proofs.Found.{grid_refused, grid_read, counts_few}
 use Rattle.call_grid.proofs.made.make_read.Goals as goal
-
-pub overflow_mul-end : goal.overflow_mul-end
-overflow_mul-end c = omega (arith, c.requires.asked_in.front _ c.in_ok-n.was)
 
 pub overflow_sub-at : goal.overflow_sub-at
 overflow_sub-at c = omega (arith, (c.requires.asked_in.asked _ c.in_ok-n.was).from_one)
@@ -21,10 +17,10 @@ pub make-counts-requires : goal.make-counts-requires
 make-counts-requires c =
     let p = c.requires in
     let e = c.in_ok-n.was in
-    table_ready (front_asked p.asked_in e) (front_most p.asked_in p.most_in e) _ _ (omega arith) (omega arith)
+    table_ready (p.asked_in.asked _ e) (p.most_in _ e) _ _ (omega arith) (omega arith)
 
 pub answer_of-requires : goal.answer_of-requires
-answer_of-requires c = counts_few (front_asked c.requires.asked_in c.in_ok-n.was) c.make-counts.ensures
+answer_of-requires c = counts_few (c.requires.asked_in.asked _ c.in_ok-n.was) c.make-counts.ensures
 
 pub returns-in_err-n : goal.returns-in_err-n
 returns-in_err-n c =

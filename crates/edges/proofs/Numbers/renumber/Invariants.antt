@@ -4,11 +4,10 @@
 use mathlib.Core.Path.{◌≡◌}
 use Prim.Native.Nat.{◌-◌}
 use lib.ListN.{length}
-use Rattle.records.specs.Kept.{entries_of}
 use Rattle.cells.specs.Held.{entry_cells_of, entry_spans_of}
 use Rattle.edges.specs.Edges.{is_edge, part}
 use Rattle.edges.proofs.RenumberLoop.{Sofar}
 use Rattle.edges.proofs.Numbers.renumber.Given as goal
 
 abbrev pub invariant-loop-k : goal.invariant-loop-k
-invariant-loop-k l = Sofar (is_edge l.self.words) (part l.at l.end (entry_spans_of l.initial.entries)) (entry_cells_of l.initial.entries) l.at (entries_of l.initial.entries) (entries_of l.entries) l.pos l.column l.k (l.k - l.at) × (length l.entries ≡ length l.initial.entries)
+invariant-loop-k l = Sofar (is_edge l.self.words) (part l.at l.end (entry_spans_of l.initial.entries)) (entry_cells_of l.initial.entries) l.at l.initial.entries l.entries l.pos l.column l.k (l.k - l.at) × (length l.entries ≡ length l.initial.entries)

@@ -1,13 +1,13 @@
 -- `estimates::single::holder` meets its contract: a prefix is at most 13, so that the sums fit. Assumes nothing.
 use native.Mathlib.Omega.{arith}
-use borrow.Author.Tests.{eq-eqb, ne_eqb}
+use mathlib.Core.Path.{sym, ◌∙◌}
 use Rattle.estimates.specs.Estimates.{holder_of}
 use Rattle.estimates.proofs.Ranges.{prefix_small}
 use Rattle.estimates.proofs.single.holder.Goals as goal
 
-pub returns-then-line-eq-LINK : goal.returns-then-line-eq-LINK
+pub returns-then-eq : goal.returns-then-eq
 unfolding holder_of
-returns-then-line-eq-LINK c = rw (eq-eqb _ 4 c.if-line-eq-LINK.true, c.max.ensures)
+returns-then-eq c = rw (sym c.eq.ensures ∙ c.if-eq.true, c.max.ensures)
 
 pub overflow_add-result-2 : goal.overflow_add-result-2
 overflow_add-result-2 c =
@@ -21,4 +21,4 @@ overflow_add-result-3 c =
 
 pub returns : goal.returns
 unfolding holder_of
-returns c = rw (ne_eqb _ 4 c.if-line-eq-LINK.false, c.prefix_of-prefix.ensures)
+returns c = rw (sym c.eq.ensures ∙ c.if-eq.false, c.prefix_of-prefix.ensures)

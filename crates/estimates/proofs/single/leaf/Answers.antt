@@ -1,6 +1,5 @@
 -- `estimates::single::leaf` meets its contract: the definition asks the same tests in the same order. Assumes nothing.
 use mathlib.Core.Path.{sym, ◌∙◌}
-use borrow.Author.Tests.{eq-eqb, ne_eqb}
 use Rattle.estimates.specs.Estimates.{leaf_of}
 use Rattle.estimates.proofs.single.leaf.Goals as goal
 
@@ -8,10 +7,10 @@ pub returns-then-has_text : goal.returns-then-has_text
 unfolding leaf_of
 returns-then-has_text c = rw (sym c.has_text.ensures ∙ c.if-has_text.true, c.min.ensures)
 
-pub returns-then-line-eq-BREAK : goal.returns-then-line-eq-BREAK
+pub returns-then-eq : goal.returns-then-eq
 unfolding leaf_of
-returns-then-line-eq-BREAK c = rw (sym c.has_text.ensures ∙ c.if-has_text.false, eq-eqb _ 18 c.if-line-eq-BREAK.true)
+returns-then-eq c = rw (sym c.has_text.ensures ∙ c.if-has_text.false, sym c.eq.ensures ∙ c.if-eq.true)
 
-pub returns-else-line-eq-BREAK : goal.returns-else-line-eq-BREAK
+pub returns-else-eq : goal.returns-else-eq
 unfolding leaf_of
-returns-else-line-eq-BREAK c = rw (sym c.has_text.ensures ∙ c.if-has_text.false, ne_eqb _ 18 c.if-line-eq-BREAK.false)
+returns-else-eq c = rw (sym c.has_text.ensures ∙ c.if-has_text.false, sym c.eq.ensures ∙ c.if-eq.false)

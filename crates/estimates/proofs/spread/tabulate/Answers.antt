@@ -7,14 +7,13 @@ use native.Mathlib.Omega.{arith}
 use lib.ListN.{length, take}
 use lib.Seq.{length-take-le}
 use Rattle.lists.specs.Lists.{sum}
-use Rattle.records.specs.Kept.{entries_of}
 use Rattle.estimates.specs.inner.Spread.{Spreads, entry_boxes}
 use Rattle.estimates.proofs.Tabling.{table_none, lent_length, lent, leasts_fit, table_some}
 use Rattle.estimates.proofs.spread.tabulate.Goals as goal
 use Rattle.estimates.proofs.spread.tabulate.Goals.{After-spread_entries-all}
 
 -- what is spread over the first places of the scratch
-spreads : (c : After-spread_entries-all) → Spreads (entry_boxes c.args.figures.now (take c.args.n (entries_of c.args.entries.now))) c.args.columns c.spread_entries-all.result c.spread_entries-all.new.columns
+spreads : (c : After-spread_entries-all) → Spreads (entry_boxes c.args.figures.now (take c.args.n c.args.entries.now)) c.args.columns c.spread_entries-all.result c.spread_entries-all.new.columns
 spreads c = rw (length-take-le c.args.columns c.args.leasts.now (omega (arith, c.requires.few, c.requires.room))) at c.spread_entries-all.ensures
 
 leasts_le : (c : After-spread_entries-all) → sum c.spread_entries-all.new.columns ≤ c.spread_entries-all.result

@@ -1,9 +1,8 @@
 -- `grid_bounds::whole::sheet_fits` meets its contract. The loop's invariant is `SheetLoop`. Assumes nothing.
+use mathlib.Core.Path.{sym, ◌∙◌}
 use Prim.Native.Nat.{◌<◌}
 use native.Mathlib.Omega.{arith}
 use lib.ListN.{length}
-use Rattle.records.specs.Kept.{kepts_of}
-use Rattle.records.proofs.Kepts.{length_kepts}
 use Rattle.grid_bounds.proofs.SheetLoop.{sheet_stop, sheet_other, sheet_cell}
 use Rattle.grid_bounds.proofs.whole.sheet_fits.Goals as goal
 use Rattle.grid_bounds.proofs.whole.sheet_fits.Goals.{then-is_cell+else-not-has_room, else-is_cell}
@@ -11,12 +10,12 @@ use Rattle.grid_bounds.proofs.whole.sheet_fits.Goals.{then-is_cell+else-not-has_
 pub loop-i-preserved : goal.loop-i-preserved
 loop-i-preserved c =
     let z = c.loop-i.invariant in
-    let here : c.loop-i.i < length (kepts_of c.args.lines.now) = omega (arith, length_kepts c.args.lines.now) in
+    let here : c.loop-i.i < length c.args.lines.now = omega arith in
     elim c.if-is_cell.branch [
       | then-is_cell+else-not-has_room w ↦
-          rw (w.end-is, w.entries-is) (sheet_cell z here _ c.kept_at-line.ensures w.if-is_cell.true (w.has_room.ensures w.if-not-has_room.false))
-      | else-is_cell w ↦ rw (w.end-is, w.entries-is) (sheet_other z here _ c.kept_at-line.ensures w.if-is_cell.false)
+          rw (w.end-is, w.entries-is) (sheet_cell z here (sym c.eq-is_cell.ensures ∙ w.if-is_cell.true) _ _ w.from-cols.ensures w.from-rows.ensures (w.has_room.ensures w.if-not-has_room.false))
+      | else-is_cell w ↦ rw (w.end-is, w.entries-is) (sheet_other z here (sym c.eq-is_cell.ensures ∙ w.if-is_cell.false))
     ]
 
 pub returns : goal.returns
-returns c = λ _. sheet_stop c.loop-i.invariant (omega (arith, length_kepts c.args.lines.now))
+returns c = λ _. sheet_stop c.loop-i.invariant (omega arith)

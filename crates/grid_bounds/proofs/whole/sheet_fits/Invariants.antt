@@ -1,7 +1,6 @@
 -- `grid_bounds::whole::sheet_fits` meets its contract. The loop's invariant is `SheetLoop`. Assumes nothing.
-use Rattle.records.specs.Kept.{kepts_of}
 use Rattle.grid_bounds.proofs.SheetLoop.{SheetLoop}
 use Rattle.grid_bounds.proofs.whole.sheet_fits.Given as goal
 
 abbrev pub invariant-loop-i : goal.invariant-loop-i
-invariant-loop-i l = SheetLoop (kepts_of l.lines) l.most l.end l.entries l.i
+invariant-loop-i l = SheetLoop l.lines l.most l.end l.entries l.i

@@ -1,25 +1,19 @@
--- `missing::sheets::explain_read` meets its contract: the first n records stand in the first 2 * n places, and a refusal is handed up. Assumes nothing.
+-- `missing::sheets::explain_read` meets its contract: the first n lines are the sheet's, and a refusal is handed up. Assumes nothing.
 use Rattle.std.proofs.Common.{rules, ◌≡◌, Err}
 use mathlib.Core.Path.{sym}
-use native.Mathlib.Omega.{arith}
 use lib.Seq.{length-take-le}
-use Rattle.sheet_figures.proofs.Openings.{front_asked}
-use Rattle.sheet_figures.proofs.Tables.{front_measured}
 use Rattle.missing.proofs.Read.{read_refused, read_made}
 use Rattle.missing.proofs.sheets.explain_read.Goals as goal
 
-pub overflow_mul-end : goal.overflow_mul-end
-overflow_mul-end c = omega (arith, c.requires.asked_in.front _ c.in_ok-n.was)
-
 pub slice_bounds-explain-end : goal.slice_bounds-explain-end
-slice_bounds-explain-end c = sym (length-take-le _ _ (omega (arith, c.requires.asked_in.front _ c.in_ok-n.was)))
+slice_bounds-explain-end c = sym (length-take-le _ _ (c.requires.asked_in.front _ c.in_ok-n.was))
 
 pub explain-causes-requires : goal.explain-causes-requires
 explain-causes-requires c =
     let p = c.requires in let e = c.in_ok-n.was in record {
-      asked = front_asked p.asked_in e;
+      asked = p.asked_in.asked _ e;
       max_entries_in_bounds = p.max_entries_in_bounds;
-      table_measured = front_measured p.asked_in p.measured_in e;
+      table_measured = p.measured_in _ e;
       width_le_max_size = p.width_le_max_size;
       explain_room = p.explain_room;
     }
@@ -30,4 +24,4 @@ returns-in_err-n c =
     rw q (read_refused c.in_err-n.was)
 
 pub returns : goal.returns
-returns c = let e = c.in_ok-n.was in read_made e (c.requires.asked_in.front _ e) c.explain-causes.ensures
+returns c = let e = c.in_ok-n.was in read_made e c.explain-causes.ensures

@@ -1,4 +1,4 @@
--- `opening::measuring::enough` meets its contract: the first n records stand in the first 2 * n places, and a refused sheet has none. Assumes nothing.
+-- `opening::measuring::enough` meets its contract: a refused sheet has no lines. Assumes nothing.
 use mathlib.Core.Logic.{inr}
 use mathlib.Core.Path.{sym}
 use native.Mathlib.Omega.{arith}
@@ -8,9 +8,6 @@ use Rattle.opening.proofs.measuring.enough.Goals as goal
 
 pub slice_bounds-suffice-end : goal.slice_bounds-suffice-end
 slice_bounds-suffice-end c = sym (length-take-le _ _ (omega (arith, c.requires _ c.in-Ok.is)))
-
-pub overflow_mul-end : goal.overflow_mul-end
-overflow_mul-end c = omega (arith, c.requires _ c.in-Ok.is)
 
 pub returns-then-rows-ge-MAX_LINES-clause-enough_in : goal.returns-then-rows-ge-MAX_LINES-clause-enough_in
 returns-then-rows-ge-MAX_LINES-clause-enough_in c = λ _ n f. inr (omega arith, omega arith)

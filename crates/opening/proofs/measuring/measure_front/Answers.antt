@@ -1,8 +1,7 @@
--- `opening::measuring::measure_front` meets its contract: the first n records stand in the first 2 * n places. Assumes nothing.
+-- `opening::measuring::measure_front` meets its contract: by the first n lines. Assumes nothing.
 use mathlib.Core.Path.{sym}
 use native.Mathlib.Omega.{arith}
 use lib.Seq.{length-take-le}
-use Rattle.records.proofs.Kepts.{kepts_take}
 use Rattle.opening.proofs.measuring.measure_front.Goals as goal
 
 pub slice_bounds-measure_in-end : goal.slice_bounds-measure_in-end
@@ -10,9 +9,9 @@ slice_bounds-measure_in-end c = sym (length-take-le _ _ (omega (arith, c.require
 
 pub measure_in-requires : goal.measure_in-requires
 measure_in-requires c = record {
-  lent = rw (kepts_take c.args.lines.now c.args.n c.requires.n_bound) c.requires.lent;
-  in_scope = rw (kepts_take c.args.lines.now c.args.n c.requires.n_bound) c.requires.in_scope;
+  lent = c.requires.lent;
+  in_scope = c.requires.in_scope;
 }
 
 pub returns : goal.returns
-returns c = rw (kepts_take c.args.lines.now c.args.n c.requires.n_bound) at c.measure_in.ensures
+returns c = c.measure_in.ensures

@@ -8,10 +8,10 @@ pub returns-then-k-eq0 : goal.returns-then-k-eq0
 returns-then-k-eq0 c = λ g e. before_none c.args.n c.args.rows.now c.requires g e c.args.k (omega arith)
 
 pub returns-then-k-n : goal.returns-then-k-n
-returns-then-k-n c = λ g e. before_row c.args.n c.args.rows.now c.requires g e c.args.k (omega arith) (omega arith) c.row_at-row.ensures
+returns-then-k-n c = λ g e. before_row c.args.n c.args.rows.now c.requires g e c.args.k (omega arith) (omega arith)
 
 pub returns-then-n-eq0 : goal.returns-then-n-eq0
 returns-then-n-eq0 c = λ g e. before_empty c.args.n c.args.rows.now c.requires g e c.args.k (omega arith) (omega arith)
 
 pub returns : goal.returns
-returns c = λ g e. before_past c.args.n c.args.rows.now c.requires g e c.args.k (omega arith) (omega arith) c.row_at-row-2.ensures
+returns c = λ g e. before_past c.args.n c.args.rows.now c.requires g e c.args.k (omega arith) (omega arith)

@@ -2,26 +2,21 @@
 -- Assumes nothing.
 use mathlib.Core.Path.{refl}
 use native.Mathlib.Omega.{arith}
-use Rattle.records.specs.Kept.{entry_by}
-use Rattle.records.proofs.Records.{length_of}
 use Rattle.walking.proofs.CellLoop.{start, stop, turn_cell, turn_filler, cell_place}
 use Rattle.walking.proofs.giving.print_cells.Goals as goal
 
 pub loop-k-init : goal.loop-k-init
 loop-k-init c = start c.requires
 
-pub entry_at-e-requires : goal.entry_at-e-requires
-entry_at-e-requires c = omega (arith, c.loop-k.auto.k, c.loop-k-test.true, c.requires.entries_in_fits, length_of 3 entry_by c.args.entries.now)
-
 pub bounds-walk-at : goal.bounds-walk-at
 bounds-walk-at c =
-    omega (arith, cell_place c.requires c.loop-k.invariant c.loop-k-test.true _ c.entry_at-e.ensures c.if-e-ne0.true, c.loop-k.auto.walk)
+    omega (arith, cell_place c.requires c.loop-k.invariant c.loop-k-test.true _ refl c.if-e-ne0.true, c.loop-k.auto.walk)
 
 pub loop-k-preserved-then-e-ne0 : goal.loop-k-preserved-then-e-ne0
-loop-k-preserved-then-e-ne0 c = turn_cell c.requires c.loop-k.invariant c.loop-k-test.true _ c.entry_at-e.ensures c.if-e-ne0.true _ c.printed.ensures _ refl
+loop-k-preserved-then-e-ne0 c = turn_cell c.requires c.loop-k.invariant c.loop-k-test.true _ refl c.if-e-ne0.true _ c.printed.ensures _ refl
 
 pub loop-k-preserved : goal.loop-k-preserved
-loop-k-preserved c = turn_filler c.requires c.loop-k.invariant c.loop-k-test.true _ c.entry_at-e.ensures c.if-e-ne0.false
+loop-k-preserved c = turn_filler c.requires c.loop-k.invariant c.loop-k-test.true _ refl c.if-e-ne0.false
 
 pub returns : goal.returns
 returns c = stop c.requires c.loop-k.invariant c.loop-k-test.false
