@@ -35,8 +35,8 @@ fn grid_in<const L: usize, const E: usize>(
         return None;
     }
     let found = super::made::make_read(read, line, &lines, &mut entries, &mut rows);
-    let n = super::entry_count(found);
-    let r = super::row_count(found);
+    let n = found.map_or(0, |grid| grid.entries as usize);
+    let r = found.map_or(0, |grid| grid.rows as usize);
     super::made::write_grid(n, r, &entries, &rows, cell, first, span, row, row_end);
     Some(found)
 }

@@ -9,32 +9,10 @@ ghost use Rattle.std.specs.Prelude.{◌≡◌, true, ◌∷◌, Some};
 ghost use Rattle.opening.specs.Opening.{open_checks};
 ghost use Rattle.sheet_figures.specs.inner.Early.{early};
 ghost use Rattle.call_grid.specs.Grid.{GridAnswer};
-ghost use Rattle.call_grid.specs.inner.Found.{entries_in, rows_in, GridRoom, GridFound};
+ghost use Rattle.call_grid.specs.inner.Found.{GridRoom, GridFound};
 
 use answers::Grid;
 use lists::Refusal;
-
-// How many entries the grid has; 0 if the call is refused.
-#[tactic(auto, unfolding(crate::specs::inner::Found::entries_in))]
-fn entry_count(found: Result<Grid, Refusal>) -> usize
-    ensures { result ≡ entries_in found }
-{
-    match found {
-        Ok(grid) => grid.entries as usize,
-        Err(_) => 0,
-    }
-}
-
-// How many rows it has.
-#[tactic(auto, unfolding(crate::specs::inner::Found::rows_in))]
-fn row_count(found: Result<Grid, Refusal>) -> usize
-    ensures { result ≡ rows_in found }
-{
-    match found {
-        Ok(grid) => grid.rows as usize,
-        Err(_) => 0,
-    }
-}
 
 // What is found in the sheet, unless the arguments are refused.
 fn find_grid(
@@ -77,8 +55,8 @@ pub fn grid(
         row_end.len(),
     );
     let found = find_grid(sheet, line, asked, cell, first, span, row, row_end);
-    let n = entry_count(found);
-    let m = row_count(found);
+    let n = found.map_or(0, |grid| grid.entries as usize);
+    let m = found.map_or(0, |grid| grid.rows as usize);
     lists::keep_front(cell, n);
     lists::keep_front(first, n);
     lists::keep_front(span, n);

@@ -3,7 +3,7 @@ use Rattle.answers.specs.declared.Layout.{Layout}
 use Rattle.lists.specs.declared.Refusal.{Refusal}
 use Rattle.std.specs.Prelude.{Err, Ok, Result, Some}
 use mathlib.Core.Path.{◌≡◌, refl, sym, ◌∙◌}
-use mathlib.Core.Bool.{true, false, ◌||◌}
+use mathlib.Core.Bool.{true, false}
 use mathlib.Core.List.{List, [], ◌∷◌}
 use Prim.Native.Nat.{ℕ, ◌≤◌}
 use native.Mathlib.Omega.{arith}
@@ -11,13 +11,12 @@ use lib.Dec.{ltb}
 use lib.ListN.{length, take}
 use borrow.Author.Tests.{ltb-false}
 use Rattle.lists.specs.Lists.{padded}
-use Rattle.lists.specs.Limits.{max_lines, max_entries, max_wrap, max_width}
+use Rattle.lists.specs.Limits.{max_lines, max_entries}
 use Rattle.lists.specs.Refusals.{Check, first_answer, verdict_of, passes, if_passes}
 use Rattle.sheet.proofs.First.{neither}
 use Rattle.opening.specs.Opening.{after_reading, open_checks}
 use Rattle.table.specs.inner.Asked.{OutRoom}
-use Rattle.call_layout.specs.inner.Found.{columns_in, entries_in, InRange, LayoutFound}
-use Rattle.arguments.specs.declared.Settings.{Settings}
+use Rattle.call_layout.specs.inner.Found.{columns_in, entries_in, LayoutFound}
 use Rattle.arguments.specs.Arguments.{any_shorter, layout_arguments}
 use Rattle.call_layout.specs.Layout.{layout_checks, laid_out_of, LayoutAnswer}
 use Rattle.sheet_figures.specs.inner.Early.{early}
@@ -27,10 +26,10 @@ use Rattle.sheet_figures.proofs.Early.{early_nines, none_nines, fits, leaving}
 -- ---- before the sheet is read
 
 -- refused for the arguments
-pub layout_early : (why : Refusal) (cs : List Check) (s : List ℕ) (line : ℕ) (g : Settings) (column x wide : List ℕ)
-    → LayoutFound (early (Err why) ∷ cs) s line g (Err why) column x wide
+pub layout_early : (why : Refusal) (cs : List Check) (s : List ℕ) (line wrap raw width : ℕ) (column x wide : List ℕ)
+    → LayoutFound (early (Err why) ∷ cs) s line wrap raw width (Err why) column x wide
 unfolding first_answer early passes if_passes columns_in entries_in
-layout_early why cs s line g column x wide =
+layout_early why cs s line wrap raw width column x wide =
     record {
       answer = refl;
       few_columns = omega arith;
@@ -42,8 +41,8 @@ layout_early why cs s line g column x wide =
     }
 
 -- not refused for the arguments
-pub layout_late : {v : Result (Unit {0}) Refusal} {cs : List Check} {s : List ℕ} {line : ℕ} {g : Settings} {r : Result Layout Refusal} {column x wide : List ℕ} → v ≡ (Ok tt)
-    → LayoutFound cs s line g r column x wide → LayoutFound (early v ∷ cs) s line g r column x wide
+pub layout_late : {v : Result (Unit {0}) Refusal} {cs : List Check} {s : List ℕ} {line wrap raw width : ℕ} {r : Result Layout Refusal} {column x wide : List ℕ} → v ≡ (Ok tt)
+    → LayoutFound cs s line wrap raw width r column x wide → LayoutFound (early v ∷ cs) s line wrap raw width r column x wide
 unfolding first_answer early passes if_passes
 layout_late z f =
     rw z (record {
@@ -57,10 +56,6 @@ layout_late z f =
     })
 
 -- ---- the call
-
--- its settings
-abbrev pub settings : ℕ → ℕ → ℕ → Settings
-settings wrap raw width = record { wrap = wrap; raw = raw; width = width; overflow = 0 }
 
 -- where the arguments are not refused, each lent buffer has room for a layout
 fit : (wrap raw width : ℕ) (v : Result (Unit {0}) Refusal) (a b c : ℕ) → v ≡ verdict_of (layout_arguments wrap raw width (a ∷ []) (b ∷ c ∷ [])) → v ≡ (Ok tt)
@@ -79,7 +74,7 @@ layout_fit wrap raw width v column x wide judged z =
 
 module _ {s : List ℕ} {line wrap raw width : ℕ} {v : Result (Unit {0}) Refusal} {a b c : ℕ} {r : Result Layout Refusal} {column x wide : List ℕ}
     (judged : v ≡ verdict_of (layout_arguments wrap raw width (a ∷ []) (b ∷ c ∷ [])))
-    (found : LayoutFound (early v ∷ open_checks (Some line) s) s line (settings wrap raw width) r column x wide) where
+    (found : LayoutFound (early v ∷ open_checks (Some line) s) s line wrap raw width r column x wide) where
   -- and so for the figures
   pub layout_rooms : (columns_in r ≤ a) × (entries_in r ≤ b) × (entries_in r ≤ c)
   unfolding columns_in entries_in
@@ -92,17 +87,9 @@ module _ {s : List ℕ} {line wrap raw width : ℕ} {v : Result (Unit {0}) Refus
         g c (λ z. (f z).2),
       )
 
--- settings that are not refused are in their ranges
-pub in_range : (wrap raw width : ℕ) (v : Result (Unit {0}) Refusal) (columns entries : List ℕ) → v ≡ verdict_of (layout_arguments wrap raw width columns entries) → v ≡ (Ok tt)
-    → InRange (settings wrap raw width)
-in_range wrap raw width v columns entries judged z =
-    let (p, q) = neither (ltb max_wrap wrap || ltb 1 raw) (ltb max_width width) (none_nines _ _ (sym judged ∙ z)).0 in
-    let (o, l) = neither (ltb max_wrap wrap) (ltb 1 raw) p in
-    record { raw = ltb-false 1 raw l; width = omega (arith, ltb-false max_width width q) }
-
 module _ {s : List ℕ} {line wrap raw width : ℕ} {v : Result (Unit {0}) Refusal} {column₀ x₀ wide₀ : List ℕ} {r : Result Layout Refusal} {column x wide : List ℕ}
     (judged : v ≡ verdict_of (layout_arguments wrap raw width (length column₀ ∷ []) (length x₀ ∷ length wide₀ ∷ [])))
-    (found : LayoutFound (early v ∷ open_checks (Some line) s) s line (settings wrap raw width) r column x wide) where
+    (found : LayoutFound (early v ∷ open_checks (Some line) s) s line wrap raw width r column x wide) where
   pub layout_answered : {n m : ℕ} {a b c : List ℕ} → n ≡ columns_in r → m ≡ entries_in r
       → length column ≡ length column₀ → length x ≡ length x₀ → length wide ≡ length wide₀
       → a ≡ padded (length column) (take n column) → b ≡ padded (length x) (take m x) → c ≡ padded (length wide) (take m wide)

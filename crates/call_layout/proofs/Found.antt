@@ -19,7 +19,6 @@ use Rattle.cells.specs.Cells as cells
 use Rattle.cells.specs.Listed.{table_rows}
 use Rattle.grid.specs.Grid.{entries_of}
 use Rattle.grid.proofs.GridFacts.{grid_entries, grid_columns}
-use Rattle.arguments.specs.declared.Settings.{Settings}
 use Rattle.opening.specs.Opening.{open_checks}
 use Rattle.table.specs.Arranging.{ArrangedAt}
 use Rattle.table.specs.declared.Arrangement.{Arrangement}
@@ -81,22 +80,22 @@ module _ {read : Result ℕ Refusal} {lines : List Kept} {line : ℕ} {figures :
 
 -- ---- the layout asked for
 
-module _ {s : List ℕ} {line : ℕ} (g : Settings) {read : Result ℕ Refusal} {lines : List Kept} {figures : List Estimate} (w : LinesOf s line g.wrap read lines figures)
-    (low : g.raw ≤ 1) {r : Result Layout Refusal} {column x wide : List ℕ} (f : LayoutRead read lines line figures g.raw g.width r column x wide) where
+module _ {s : List ℕ} {line wrap raw width : ℕ} {read : Result ℕ Refusal} {lines : List Kept} {figures : List Estimate} (w : LinesOf s line wrap read lines figures)
+    (low : raw ≤ 1) {r : Result Layout Refusal} {column x wide : List ℕ} (f : LayoutRead read lines line figures raw width r column x wide) where
   abbrev cs : List Check
   cs = open_checks (Some line) s
 
-  pub layout_found : LayoutFound cs s line g r column x wide
+  pub layout_found : LayoutFound cs s line wrap raw width r column x wide
   unfolding columns_in entries_in
   layout_found = at read refl
     where
-      at : (q : Result ℕ Refusal) → read ≡ q → LayoutFound cs s line g r column x wide
+      at : (q : Result ℕ Refusal) → read ≡ q → LayoutFound cs s line wrap raw width r column x wide
       at (Ok n) e =
           let p = (opened_passed w.opened n e).all in
           let m = rw (w.opened.holds n e) at (f.made n e) in
           let b = (opened_apt w.opened n e).from_one in
           let k : line - 1 + 1 ≡ line = omega arith in
-          let l = rw k at (m.laid g.wrap (record { cells = (w.measured n e).cells })) in
+          let l = rw k at (m.laid wrap (record { cells = (w.measured n e).cells })) in
           let z = f.answer n e ∙ (λ i. Ok (layout_with (l.way_is i) (m.entries_are i) (m.columns_are i) (l.width_is i))) in
           let i : entries_in r ≡ length (entries_of (rows_at s line)) = ap entries_in z in
           let j : columns_in r ≡ columns_at s line = ap columns_in z in
@@ -123,9 +122,9 @@ module _ {s : List ℕ} {line : ℕ} (g : Settings) {read : Result ℕ Refusal} 
             promised = λ q. let z : ◌≡◌ {A = ℕ} 0 1 = cc in absurd (omega arith);
           })
 
-pub layout_tried : {cs : List Check} {s : List ℕ} {line : ℕ} {g : Settings} {r : Result Layout Refusal} {column x wide : List ℕ} → LayoutFound cs s line g r column x wide
-    → LayoutTried cs s line g (Some r) column x wide
-layout_tried {cs} {s} {line} {g} {r} {column} {x} {wide} f = record { found = λ q e. let z : r ≡ q = cc in rw (← z) f }
+pub layout_tried : {cs : List Check} {s : List ℕ} {line wrap raw width : ℕ} {r : Result Layout Refusal} {column x wide : List ℕ} → LayoutFound cs s line wrap raw width r column x wide
+    → LayoutTried cs s line wrap raw width (Some r) column x wide
+layout_tried {cs} {s} {line} {wrap} {raw} {width} {r} {column} {x} {wide} f = record { found = λ q e. let z : r ≡ q = cc in rw (← z) f }
 
-pub layout_larger : {cs : List Check} {s : List ℕ} {line : ℕ} {g : Settings} {column x wide : List ℕ} → LayoutTried cs s line g None column x wide
+pub layout_larger : {cs : List Check} {s : List ℕ} {line wrap raw width : ℕ} {column x wide : List ℕ} → LayoutTried cs s line wrap raw width None column x wide
 layout_larger = record { found = λ q e. let z : ◌≡◌ {A = ℕ} 0 1 = cc in absurd (omega arith) }

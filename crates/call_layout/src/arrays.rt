@@ -4,7 +4,7 @@ ghost use Rattle.lists.specs.Limits.{max_entries, max_lines};
 ghost use Rattle.sheet.specs.Steps.{room_for};
 ghost use Rattle.opening.specs.Opening.{open_checks};
 ghost use Rattle.table.specs.inner.Asked.{OutRoom};
-ghost use Rattle.call_layout.specs.inner.Found.{InRange, LayoutFound, LayoutTried};
+ghost use Rattle.call_layout.specs.inner.Found.{LayoutFound, LayoutTried};
 
 use answers::Layout;
 use arguments::Settings;
@@ -24,8 +24,8 @@ fn layout_in<const L: usize, const E: usize>(
 ) -> Option<Result<Layout, Refusal>>
     requires lines_room { room_for sheet.now ≤ L }
     requires sizes { (L ≤ max_lines) × (E ≤ max_entries) }
-    requires in_range { InRange settings × OutRoom column.old x.old wide.old }
-    ensures tried { LayoutTried (open_checks (Some line) sheet.now) sheet.now line settings result
+    requires out_room { OutRoom column.old x.old wide.old }
+    ensures tried { LayoutTried (open_checks (Some line) sheet.now) sheet.now line settings.wrap settings.raw settings.width result
         column.new x.new wide.new }
     ensures any { max_entries ≤ E → max_lines ≤ L → IsSome result }
 {
@@ -72,8 +72,8 @@ pub fn layout_within(
     x: &mut [u32],
     wide: &mut [u32],
 ) -> Result<Layout, Refusal>
-    requires { InRange settings × OutRoom column.old x.old wide.old }
-    ensures { LayoutFound (open_checks (Some line) sheet.now) sheet.now line settings result
+    requires { OutRoom column.old x.old wide.old }
+    ensures { LayoutFound (open_checks (Some line) sheet.now) sheet.now line settings.wrap settings.raw settings.width result
         column.new x.new wide.new }
 {
     if opening::is_small(sheet) {

@@ -5,54 +5,33 @@
 mod arrays; // the arrays to work in, by the size of the sheet
 pub mod read; // the table in a line of a sheet that was read
 
-ghost use Rattle.std.specs.Prelude.{◌≡◌, true, ◌∷◌, Some};
+ghost use Rattle.std.specs.Prelude.{◌≡◌, ℕ, ◌∷◌, Some};
 ghost use Rattle.table.specs.inner.Asked.{OutRoom};
 ghost use Rattle.opening.specs.Opening.{open_checks};
 ghost use Rattle.sheet_figures.specs.inner.Early.{early};
+ghost use Rattle.arguments.specs.Asked.{Asks, verdict_in};
 ghost use Rattle.call_layout.specs.Layout.{LayoutAnswer};
-ghost use Rattle.call_layout.specs.inner.Found.{columns_in, entries_in, InRange, LayoutFound};
+ghost use Rattle.call_layout.specs.inner.Found.{LayoutFound};
 
 use answers::Layout;
 use arguments::Settings;
 use lists::Refusal;
 
-// How many columns the table has; 0 if the call is refused.
-#[tactic(auto, unfolding(crate::specs::inner::Found::columns_in))]
-fn column_count(found: Result<Layout, Refusal>) -> usize
-    ensures { result ≡ columns_in found }
-{
-    match found {
-        Ok(layout) => layout.columns as usize,
-        Err(_) => 0,
-    }
-}
-
-// How many entries it has.
-#[tactic(auto, unfolding(crate::specs::inner::Found::entries_in))]
-fn entry_count(found: Result<Layout, Refusal>) -> usize
-    ensures { result ≡ entries_in found }
-{
-    match found {
-        Ok(layout) => layout.entries as usize,
-        Err(_) => 0,
-    }
-}
-
 // What is found in the sheet, unless the arguments are refused.
 fn find_layout(
     sheet: &[u8],
     line: u32,
-    settings: Settings,
-    asked: Result<(), Refusal>,
+    asked: Result<Settings, Refusal>,
     column: &mut [u32],
     x: &mut [u32],
     wide: &mut [u32],
 ) -> Result<Layout, Refusal>
-    requires { asked ≡ Ok tt → InRange settings × OutRoom column.old x.old wide.old }
-    ensures { LayoutFound (early asked ∷ open_checks (Some line) sheet.now) sheet.now line settings result
+    requires { verdict_in asked ≡ Ok tt → OutRoom column.old x.old wide.old }
+    ensures { (wrap raw width : ℕ) → Asks asked wrap raw width 0
+        → LayoutFound (early (verdict_in asked) ∷ open_checks (Some line) sheet.now) sheet.now line wrap raw width result
         column.new x.new wide.new }
 {
-    asked?;
+    let settings = asked?;
     arrays::layout_within(sheet, line, settings, column, x, wide)
 }
 
@@ -70,16 +49,10 @@ pub fn layout(
     ensures { LayoutAnswer sheet.now line wrap raw width
         column.old x.old wide.old result column.new x.new wide.new }
 {
-    let settings = Settings {
-        wrap,
-        raw,
-        width,
-        overflow: 0,
-    };
-    let asked = arguments::of_layout(settings, column.len(), x.len(), wide.len());
-    let found = find_layout(sheet, line, settings, asked, column, x, wide);
-    let n = column_count(found);
-    let m = entry_count(found);
+    let asked = Settings::of_layout(wrap, raw, width, column.len(), x.len(), wide.len());
+    let found = find_layout(sheet, line, asked, column, x, wide);
+    let n = found.map_or(0, |layout| layout.columns as usize);
+    let m = found.map_or(0, |layout| layout.entries as usize);
     lists::keep_front(column, n);
     lists::keep_front(x, m);
     lists::keep_front(wide, m);

@@ -18,7 +18,8 @@ pub struct Listed {
     pub rows: usize,
 }
 
-// A cell of a table: its line, the columns that it spans, and the rows that it takes.
+// A cell of a table: its line, the columns that it spans, and the rows that it takes. Cells stand as three numbers each in one slice: the rules of the
+// project ask for number slices here by name.
 #[derive(Clone, Copy)]
 pub struct Cell {
     pub line: u32,

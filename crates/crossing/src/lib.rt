@@ -10,14 +10,14 @@ use lists::Refusal;
 use text::Estimate;
 
 #[repr(C)]
-#[derive(Clone, Copy, Debug, PartialEq, Eq)]
+#[derive(Clone, Copy, Debug, Default, PartialEq, Eq)]
 pub struct CheckResult {
     pub number: u32,
     pub line: u32,
 }
 
 #[repr(C)]
-#[derive(Clone, Copy, Debug, PartialEq, Eq)]
+#[derive(Clone, Copy, Debug, Default, PartialEq, Eq)]
 pub struct MeasureResult {
     pub number: u32,
     pub line: u32,
@@ -27,7 +27,7 @@ pub struct MeasureResult {
 }
 
 #[repr(C)]
-#[derive(Clone, Copy, Debug, PartialEq, Eq)]
+#[derive(Clone, Copy, Debug, Default, PartialEq, Eq)]
 pub struct EstimatesResult {
     pub number: u32,
     pub line: u32,
@@ -35,7 +35,7 @@ pub struct EstimatesResult {
 }
 
 #[repr(C)]
-#[derive(Clone, Copy, Debug, PartialEq, Eq)]
+#[derive(Clone, Copy, Debug, Default, PartialEq, Eq)]
 pub struct GridResult {
     pub number: u32,
     pub line: u32,
@@ -46,7 +46,7 @@ pub struct GridResult {
 
 // way: 0 sideways, 1 down.
 #[repr(C)]
-#[derive(Clone, Copy, Debug, PartialEq, Eq)]
+#[derive(Clone, Copy, Debug, Default, PartialEq, Eq)]
 pub struct LayoutResult {
     pub number: u32,
     pub line: u32,
@@ -56,7 +56,7 @@ pub struct LayoutResult {
 }
 
 #[repr(C)]
-#[derive(Clone, Copy, Debug, PartialEq, Eq)]
+#[derive(Clone, Copy, Debug, Default, PartialEq, Eq)]
 pub struct MissingResult {
     pub number: u32,
     pub line: u32,
@@ -66,7 +66,7 @@ pub struct MissingResult {
 
 // what: 0 nothing, 1 gap, 2 cell; entry is 0 unless it is a cell.
 #[repr(C)]
-#[derive(Clone, Copy, Debug, PartialEq, Eq)]
+#[derive(Clone, Copy, Debug, Default, PartialEq, Eq)]
 pub struct AtResult {
     pub number: u32,
     pub line: u32,
@@ -75,7 +75,7 @@ pub struct AtResult {
 }
 
 #[repr(C)]
-#[derive(Clone, Copy, Debug, PartialEq, Eq)]
+#[derive(Clone, Copy, Debug, Default, PartialEq, Eq)]
 pub struct WithinResult {
     pub number: u32,
     pub line: u32,
@@ -84,7 +84,7 @@ pub struct WithinResult {
 
 // joint: 0 plain, 1 up, 2 down, 3 both.
 #[repr(C)]
-#[derive(Clone, Copy, Debug, PartialEq, Eq)]
+#[derive(Clone, Copy, Debug, Default, PartialEq, Eq)]
 pub struct JoiningResult {
     pub number: u32,
     pub line: u32,
@@ -92,7 +92,7 @@ pub struct JoiningResult {
 }
 
 #[repr(C)]
-#[derive(Clone, Copy, Debug, PartialEq, Eq)]
+#[derive(Clone, Copy, Debug, Default, PartialEq, Eq)]
 pub struct WalkResult {
     pub number: u32,
     pub line: u32,
@@ -101,7 +101,7 @@ pub struct WalkResult {
 
 // given: 1 if the walk gives the table a width, and at which it is laid out; else all are 0.
 #[repr(C)]
-#[derive(Clone, Copy, Debug, PartialEq, Eq)]
+#[derive(Clone, Copy, Debug, Default, PartialEq, Eq)]
 pub struct NestedResult {
     pub number: u32,
     pub line: u32,
@@ -125,7 +125,7 @@ impl From<Result<(), Refusal>> for CheckResult {
 
     fn from(told: Result<(), Refusal>) -> CheckResult {
         match told {
-            Ok(()) => CheckResult { number: 0, line: 0 },
+            Ok(()) => CheckResult::default(),
             Err(why) => CheckResult {
                 number: why.reason.number(),
                 line: why.line,
@@ -141,18 +141,15 @@ impl From<Result<Estimate, Refusal>> for MeasureResult {
     fn from(told: Result<Estimate, Refusal>) -> MeasureResult {
         match told {
             Ok(e) => MeasureResult {
-                number: 0,
-                line: 0,
                 size: e.size,
                 least: e.least,
                 prefix: e.prefix,
+                ..Default::default()
             },
             Err(why) => MeasureResult {
                 number: why.reason.number(),
                 line: why.line,
-                size: 0,
-                least: 0,
-                prefix: 0,
+                ..Default::default()
             },
         }
     }
@@ -165,14 +162,13 @@ impl From<Result<u32, Refusal>> for EstimatesResult {
     fn from(told: Result<u32, Refusal>) -> EstimatesResult {
         match told {
             Ok(lines) => EstimatesResult {
-                number: 0,
-                line: 0,
                 lines,
+                ..Default::default()
             },
             Err(why) => EstimatesResult {
                 number: why.reason.number(),
                 line: why.line,
-                lines: 0,
+                ..Default::default()
             },
         }
     }
@@ -185,18 +181,15 @@ impl From<Result<Grid, Refusal>> for GridResult {
     fn from(told: Result<Grid, Refusal>) -> GridResult {
         match told {
             Ok(grid) => GridResult {
-                number: 0,
-                line: 0,
                 rows: grid.rows,
                 entries: grid.entries,
                 columns: grid.columns,
+                ..Default::default()
             },
             Err(why) => GridResult {
                 number: why.reason.number(),
                 line: why.line,
-                rows: 0,
-                entries: 0,
-                columns: 0,
+                ..Default::default()
             },
         }
     }
@@ -209,18 +202,15 @@ impl From<Result<Layout, Refusal>> for LayoutResult {
     fn from(told: Result<Layout, Refusal>) -> LayoutResult {
         match told {
             Ok(layout) => LayoutResult {
-                number: 0,
-                line: 0,
                 way: layout.way.number(),
                 columns: layout.columns,
                 width: layout.width,
+                ..Default::default()
             },
             Err(why) => LayoutResult {
                 number: why.reason.number(),
                 line: why.line,
-                way: 0,
-                columns: 0,
-                width: 0,
+                ..Default::default()
             },
         }
     }
@@ -233,16 +223,14 @@ impl From<Result<Causes, Refusal>> for MissingResult {
     fn from(told: Result<Causes, Refusal>) -> MissingResult {
         match told {
             Ok(causes) => MissingResult {
-                number: 0,
-                line: 0,
                 count: causes.count,
                 columns: causes.columns,
+                ..Default::default()
             },
             Err(why) => MissingResult {
                 number: why.reason.number(),
                 line: why.line,
-                count: 0,
-                columns: 0,
+                ..Default::default()
             },
         }
     }
@@ -255,28 +243,19 @@ impl From<Result<Under<u32>, Refusal>> for AtResult {
     fn from(told: Result<Under<u32>, Refusal>) -> AtResult {
         match told {
             Ok(Under::Cell(entry)) => AtResult {
-                number: 0,
-                line: 0,
                 what: 2,
                 entry,
+                ..Default::default()
             },
             Ok(Under::Gap) => AtResult {
-                number: 0,
-                line: 0,
                 what: 1,
-                entry: 0,
+                ..Default::default()
             },
-            Ok(Under::Nothing) => AtResult {
-                number: 0,
-                line: 0,
-                what: 0,
-                entry: 0,
-            },
+            Ok(Under::Nothing) => AtResult::default(),
             Err(why) => AtResult {
                 number: why.reason.number(),
                 line: why.line,
-                what: 0,
-                entry: 0,
+                ..Default::default()
             },
         }
     }
@@ -289,14 +268,13 @@ impl From<Result<u32, Refusal>> for WithinResult {
     fn from(told: Result<u32, Refusal>) -> WithinResult {
         match told {
             Ok(count) => WithinResult {
-                number: 0,
-                line: 0,
                 count,
+                ..Default::default()
             },
             Err(why) => WithinResult {
                 number: why.reason.number(),
                 line: why.line,
-                count: 0,
+                ..Default::default()
             },
         }
     }
@@ -309,14 +287,13 @@ impl From<Result<Joint, Refusal>> for JoiningResult {
     fn from(told: Result<Joint, Refusal>) -> JoiningResult {
         match told {
             Ok(joint) => JoiningResult {
-                number: 0,
-                line: 0,
                 joint: joint.number(),
+                ..Default::default()
             },
             Err(why) => JoiningResult {
                 number: why.reason.number(),
                 line: why.line,
-                joint: 0,
+                ..Default::default()
             },
         }
     }
@@ -329,14 +306,13 @@ impl From<Result<u32, Refusal>> for WalkResult {
     fn from(told: Result<u32, Refusal>) -> WalkResult {
         match told {
             Ok(lines) => WalkResult {
-                number: 0,
-                line: 0,
                 lines,
+                ..Default::default()
             },
             Err(why) => WalkResult {
                 number: why.reason.number(),
                 line: why.line,
-                lines: 0,
+                ..Default::default()
             },
         }
     }
@@ -349,31 +325,18 @@ impl From<Result<Option<Nested>, Refusal>> for NestedResult {
     fn from(told: Result<Option<Nested>, Refusal>) -> NestedResult {
         match told {
             Ok(Some(nested)) => NestedResult {
-                number: 0,
-                line: 0,
                 given: 1,
                 at: nested.at,
                 way: nested.layout.way.number(),
                 columns: nested.layout.columns,
                 width: nested.layout.width,
+                ..Default::default()
             },
-            Ok(None) => NestedResult {
-                number: 0,
-                line: 0,
-                given: 0,
-                at: 0,
-                way: 0,
-                columns: 0,
-                width: 0,
-            },
+            Ok(None) => NestedResult::default(),
             Err(why) => NestedResult {
                 number: why.reason.number(),
                 line: why.line,
-                given: 0,
-                at: 0,
-                way: 0,
-                columns: 0,
-                width: 0,
+                ..Default::default()
             },
         }
     }

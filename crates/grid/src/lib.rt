@@ -15,6 +15,7 @@ ghost use Rattle.grid.specs.inner.Placing.{edge_of_rows, RowsReady, PlacedNumber
 use edges::Numbers;
 use positions::Positions;
 use records::{Entry, Kept, RowEnd};
+use rows::Overhang;
 
 // All rows' entries in columns, in the place of the same entries in positions; a row's record says how many entries there are up to and including
 // it. The columns of the longest row, or that an entry ends at no edge.
@@ -66,7 +67,7 @@ pub fn place_table(
     at: usize,
     cells: &mut [u32],
     overhang: &mut [u32],
-    next: &mut [u32],
+    next: &mut [Overhang],
     entries: &mut [Entry],
     rows: &mut [RowEnd],
 ) -> Positions

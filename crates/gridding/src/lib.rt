@@ -2,7 +2,7 @@
 // the table alone: it is cleared for each table, and for a small table a short one does.
 #![tactic(auto)]
 
-ghost use Rattle.std.specs.Prelude.{◌-◌, ◌*◌, ◌≤◌, ◌<◌, length};
+ghost use Rattle.std.specs.Prelude.{◌≡◌, ◌-◌, ◌*◌, ◌≤◌, ◌<◌, length};
 ghost use Rattle.lists.specs.Limits.{max_lines};
 ghost use Rattle.cells.specs.Listed.{table_rows};
 ghost use Rattle.gridding.specs.Packed.{TableReady, TableMade};
@@ -10,6 +10,7 @@ ghost use Rattle.gridding.specs.inner.Making.{Ended, Roomy};
 
 use lists::MAX_LINES;
 use records::{Entry, Kept, RowEnd};
+use rows::Overhang;
 
 // Lines of a table for which short arrays do, and the numbers of a record for each of them. The sizes are for speed alone.
 const FEW_LINES: usize = 16;
@@ -52,7 +53,7 @@ fn make_in(
     at: usize,
     cells: &mut [u32],
     overhang: &mut [u32],
-    next: &mut [u32],
+    next: &mut [Overhang],
     entries: &mut [Entry],
     rows: &mut [RowEnd],
 ) -> Counts
@@ -69,10 +70,10 @@ fn make_in(
     }
 }
 
-// The grid of a table in arrays of N numbers, three for each of its lines. It is never taken into its caller's frame: so a small table does not pay
-// for the room of a large one.
+// The grid of a table in arrays of N numbers, three for each of its lines, and in one of L records, one for each. It is never taken into its
+// caller's frame: so a small table does not pay for the room of a large one.
 #[inline(never)]
-fn make_sized<const N: usize>(
+fn make_sized<const N: usize, const L: usize>(
     lines: &[Kept],
     at: usize,
     entries: &mut [Entry],
@@ -81,11 +82,12 @@ fn make_sized<const N: usize>(
     requires table_ready { TableReady lines.now at entries.old rows.old }
     requires roomy { 3 * (length lines.now - at) ≤ N }
     requires small { N ≤ 3 * max_lines }
+    requires three_each { N ≡ 3 * L }
     ensures { TableMade (table_rows lines.now at) result entries.new rows.new }
 {
     let mut cells = [0u32; N];
     let mut overhang = [0u32; N];
-    let mut next = [0u32; N];
+    let mut next = [rows::NO_OVERHANG; L];
     make_in(
         lines,
         at,
@@ -104,11 +106,11 @@ fn make_within(lines: &[Kept], at: usize, entries: &mut [Entry], rows: &mut [Row
 {
     let n = lines.len() - at;
     if n <= FEW_LINES {
-        make_sized::<FEW>(lines, at, entries, rows)
+        make_sized::<FEW, FEW_LINES>(lines, at, entries, rows)
     } else if n <= SOME_LINES {
-        make_sized::<SOME>(lines, at, entries, rows)
+        make_sized::<SOME, SOME_LINES>(lines, at, entries, rows)
     } else {
-        make_sized::<MANY>(lines, at, entries, rows)
+        make_sized::<MANY, MAX_LINES>(lines, at, entries, rows)
     }
 }
 

@@ -4,7 +4,6 @@ use Rattle.answers.specs.declared.Causes.{Causes}
 use Rattle.lists.specs.declared.Refusal.{Refusal}
 use Rattle.std.specs.Prelude.{Err, Ok, Result, Some}
 use mathlib.Core.Path.{◌≡◌, refl, sym, ◌∙◌}
-use mathlib.Core.Bool.{◌||◌}
 use mathlib.Core.List.{List, [], ◌∷◌}
 use Prim.Native.Nat.{ℕ, ◌≤◌}
 use native.Mathlib.Omega.{arith}
@@ -12,7 +11,7 @@ use lib.Dec.{ltb}
 use lib.ListN.{length, take}
 use borrow.Author.Tests.{ltb-false}
 use Rattle.lists.specs.Lists.{padded}
-use Rattle.lists.specs.Limits.{max_lines, max_entries, max_wrap, max_width, max_size}
+use Rattle.lists.specs.Limits.{max_lines, max_entries}
 use Rattle.lists.specs.Refusals.{Check, first_answer, verdict_of, if_passes}
 use Rattle.sheet.proofs.First.{neither}
 use Rattle.opening.specs.Opening.{after_reading, open_checks}
@@ -59,13 +58,6 @@ missing_fit wrap raw width v entry cause judged z =
     let (a, b) = fit wrap raw width v (length entry) (length cause) judged z in
     record { entry_room = a; cause_room = b }
 
--- and the width is in its range
-pub in_range : (wrap raw width : ℕ) (v : Result (Unit {0}) Refusal) (entries columns : List ℕ) → v ≡ verdict_of (missing_arguments wrap raw width entries columns) → v ≡ (Ok tt)
-    → width ≤ max_size
-in_range wrap raw width v entries columns judged z =
-    let (p, q) = neither (ltb max_wrap wrap || ltb 1 raw) (ltb max_width width) (none_nines _ _ (sym judged ∙ z)).0 in
-    omega (arith, ltb-false max_width width q)
-
 -- there is room for what is told
 pub missing_rooms : {s : List ℕ} {line wrap raw width : ℕ} {v : Result (Unit {0}) Refusal} {a b : ℕ} {r : Result Causes Refusal} {entry cause : List ℕ}
     → v ≡ verdict_of (missing_arguments wrap raw width (a ∷ []) (b ∷ [])) → MissingFound (early v ∷ open_checks (Some line) s) s line wrap raw width r entry cause
@@ -76,10 +68,6 @@ missing_rooms {s} {line} {wrap} {raw} {width} {v} {a} {b} {r} judged found =
       fits Err _ missed_total (λ why. refl) v (open_checks (Some line) s) r max_entries a found.answer found.few_entries (λ z. (f z).0),
       fits Err _ column_total (λ why. refl) v (open_checks (Some line) s) r max_lines b found.answer found.few_columns (λ z. (f z).1),
     )
-
--- so many places can be kept
-pub keep_fits : {n t a l : ℕ} → n ≡ t → t ≤ a → l ≡ a → n ≤ l
-keep_fits e h k = omega arith
 
 module _ {s : List ℕ} {line wrap raw width : ℕ} {v : Result (Unit {0}) Refusal} {entry₀ cause₀ : List ℕ} {r : Result Causes Refusal} {entry cause : List ℕ}
     (judged : v ≡ verdict_of (missing_arguments wrap raw width (for_one entry₀) (for_one cause₀)))

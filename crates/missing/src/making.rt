@@ -1,6 +1,6 @@
 // The missing entries and the causes of one table of a measured sheet: its grid is made first.
 ghost use Rattle.std.specs.Prelude.{◌-◌, ◌≤◌, length, Ok};
-ghost use Rattle.lists.specs.Limits.{max_entries, max_lines, max_size};
+ghost use Rattle.lists.specs.Limits.{max_entries, max_lines};
 ghost use Rattle.table.specs.Arranging.{TableMeasured};
 ghost use Rattle.table.specs.inner.Asked.{Asked};
 ghost use Rattle.missing.specs.inner.Found.{ExplainRoom, MissingMade};
@@ -24,7 +24,6 @@ pub fn explain(
     requires asked { Asked lines.now line }
     requires max_entries_in_bounds { (max_entries ≤ length entries.old) × (max_lines ≤ length rows.old) }
     requires table_measured { TableMeasured lines.now (line - 1) figures.now }
-    requires width_le_max_size { settings.width ≤ max_size }
     requires explain_room { ExplainRoom entry.old cause.old }
     ensures { MissingMade lines.now line figures.now settings.raw settings.width (Ok result) entry.new cause.new }
 {

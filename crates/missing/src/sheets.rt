@@ -1,6 +1,6 @@
 // The missing entries and the causes of the table in a line of a sheet, written to the lent buffers.
 ghost use Rattle.std.specs.Prelude.{true, ◌≤◌, length, Some};
-ghost use Rattle.lists.specs.Limits.{max_entries, max_lines, max_size};
+ghost use Rattle.lists.specs.Limits.{max_entries, max_lines};
 ghost use Rattle.opening.specs.Opening.{open_checks};
 ghost use Rattle.sheet_figures.specs.inner.Opened.{AskedIn, MeasuredIn};
 ghost use Rattle.missing.specs.inner.Found.{ExplainRoom, MissingRead, MissingFound};
@@ -26,7 +26,6 @@ fn explain_read(
     requires asked_in { AskedIn read lines.now line }
     requires max_entries_in_bounds { (max_entries ≤ length entries.old) × (max_lines ≤ length rows.old) }
     requires measured_in { MeasuredIn read lines.now line figures.now }
-    requires width_le_max_size { settings.width ≤ max_size }
     requires explain_room { ExplainRoom entry.old cause.old }
     ensures { MissingRead read lines.now line figures.now settings.raw settings.width result entry.new cause.new }
 {
@@ -52,8 +51,7 @@ pub fn explain_sheet(
     entry: &mut [u32],
     cause: &mut [u32],
 ) -> Result<Causes, Refusal>
-    requires width_le_max_size { settings.width ≤ max_size }
-    requires explain_room { ExplainRoom entry.old cause.old }
+    requires { ExplainRoom entry.old cause.old }
     ensures { MissingFound (open_checks (Some line) sheet.now) sheet.now line settings.wrap settings.raw settings.width result entry.new cause.new }
 {
     let mut lines = [records::NO_LINE; MAX_LINES];

@@ -5,7 +5,7 @@ use Rattle.answers.specs.declared.Nested.{Nested}
 use Rattle.lists.specs.declared.Refusal.{Refusal}
 use Rattle.std.specs.Prelude.{Err, Ok, Option, Result, None, Some}
 use mathlib.Core.Path.{◌≡◌, refl, sym, ap, ◌∙◌}
-use mathlib.Core.Bool.{Bool, true, false, ◌||◌}
+use mathlib.Core.Bool.{Bool, true, false}
 use mathlib.Core.List.{List, [], ◌∷◌, append-nil}
 use Prim.Native.Nat.{ℕ, ◌-◌, ◌≤◌}
 use native.Mathlib.Omega.{arith}
@@ -14,7 +14,7 @@ use lib.ListN.{length, get_or, take}
 use lib.Seq.{get_or-take}
 use borrow.Author.Tests.{ltb-false}
 use Rattle.lists.specs.Lists.{padded}
-use Rattle.lists.specs.Limits.{max_lines, max_entries, max_wrap, max_width, max_size}
+use Rattle.lists.specs.Limits.{max_lines, max_entries, max_size}
 use Rattle.lists.specs.Refusals.{Check, first_answer, verdict_of, passes, if_passes}
 use Rattle.text.specs.declared.Estimate.{Estimate}
 use Rattle.sheet.specs.Sheet.{sheet_lines}
@@ -33,7 +33,6 @@ use Rattle.sheet_figures.proofs.Openings.{asked_in}
 use Rattle.sheet_figures.proofs.Tables.{measured_in}
 use Rattle.call_layout.specs.inner.Found as layouts
 use Rattle.call_layout.specs.inner.Read.{LayoutRead}
-use Rattle.call_layout.proofs.Answers.{settings}
 use Rattle.call_layout.proofs.Found.{layout_found}
 use Rattle.call_layout.specs.Layout.{for_columns, for_places}
 use Rattle.sheet_figures.specs.inner.Early.{early}
@@ -118,7 +117,7 @@ module _ {s : List ℕ} {line wrap raw width overflow : ℕ} {r : Result ℕ Ref
     unfolding nest_in told_at columns_in entries_in columns_for xs_for wides_for layouts.columns_in layouts.entries_in
     laid_found n k e d =
         let u : W ≡ Some k = sym (width_is n e) ∙ sym f ∙ d in
-        let l = layout_found (settings wrap raw k) (lines_of n e) low (rw e at (g.laid k d)) in
+        let l = layout_found (lines_of n e) low (rw e at (g.laid k d)) in
         let p = (opened_passed (w.opened n e) n refl).all in
         let q = all_pass n e in
         let a = l.answer ∙ first_passes Err _ (open_checks (Some line) s) p in
@@ -249,13 +248,10 @@ fit wrap raw width overflow v a b c judged z =
     (ltb-false a max_lines (sym (or_false (ltb a max_lines)) ∙ p), f, g)
 
 pub nest_fit : (wrap raw width overflow : ℕ) (v : Result (Unit {0}) Refusal) (column x wide : List ℕ)
-    → v ≡ verdict_of (nested_arguments wrap raw width overflow (for_columns column) (for_places x wide)) → v ≡ (Ok tt) → ((raw ≤ 1) × (width ≤ max_size)) × OutRoom column x wide
+    → v ≡ verdict_of (nested_arguments wrap raw width overflow (for_columns column) (for_places x wide)) → v ≡ (Ok tt) → OutRoom column x wide
 nest_fit wrap raw width overflow v column x wide judged z =
     let (a, b, c) = fit wrap raw width overflow v (length column) (length x) (length wide) judged z in
-    let (n, m) = neither (ltb max_wrap wrap || ltb 1 raw || ltb max_width width) (ltb 1 overflow) (none_nines _ _ (sym judged ∙ z)).0 in
-    let (o, q) = neither (ltb max_wrap wrap || ltb 1 raw) (ltb max_width width) n in
-    let (l, t) = neither (ltb max_wrap wrap) (ltb 1 raw) o in
-    ((ltb-false 1 raw t, omega (arith, ltb-false max_width width q)), record { column_room = a; x_room = b; wide_room = c })
+    record { column_room = a; x_room = b; wide_room = c }
 
 pub nest_rooms : {s : List ℕ} {line : ℕ} (wrap raw width overflow : ℕ) {v : Result (Unit {0}) Refusal} (a b c : ℕ) {r : Result (Option Nested) Refusal} {column x wide : List ℕ} (ds : List Check)
     → v ≡ verdict_of (nested_arguments wrap raw width overflow (a ∷ []) (b ∷ c ∷ [])) → NestFound (early v ∷ ds) s line wrap raw width r column x wide

@@ -25,16 +25,18 @@ pub fn nested(
     ensures { NestedAnswer sheet.now line wrap raw width overflow
         column.old x.old wide.old result column.new x.new wide.new }
 {
-    let settings = Settings {
+    let asked = Settings::of_nested(
         wrap,
         raw,
         width,
         overflow,
-    };
-    let asked = arguments::of_nested(settings, column.len(), x.len(), wide.len());
-    let found = nesting::find_nested(sheet, line, settings, asked, column, x, wide);
-    let n = nesting::column_count(found);
-    let m = nesting::entry_count(found);
+        column.len(),
+        x.len(),
+        wide.len(),
+    );
+    let found = nesting::find_nested(sheet, line, asked, column, x, wide);
+    let n = found.map_or(0, |nested| nested.map_or(0, |t| t.layout.columns as usize));
+    let m = found.map_or(0, |nested| nested.map_or(0, |t| t.layout.entries as usize));
     lists::keep_front(column, n);
     lists::keep_front(x, m);
     lists::keep_front(wide, m);

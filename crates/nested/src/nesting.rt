@@ -1,12 +1,13 @@
 // One table of a sheet, laid out at the width that the walk gives it, written to the lent buffers.
-ghost use Rattle.std.specs.Prelude.{◌≡◌, ◌∷◌, ◌≤◌, Some};
+ghost use Rattle.std.specs.Prelude.{◌≡◌, ℕ, ◌∷◌, ◌≤◌, Some};
 ghost use Rattle.lists.specs.Limits.{max_size};
 ghost use Rattle.table.specs.inner.Asked.{OutRoom};
 ghost use Rattle.sheet_figures.specs.inner.Opened.{AskedIn, MeasuredIn};
 ghost use Rattle.sheet_figures.specs.inner.Early.{early};
 ghost use Rattle.walking.specs.inner.Steps.{AtMost};
+ghost use Rattle.arguments.specs.Asked.{Asks, verdict_in};
 ghost use Rattle.pacing.specs.inner.Found.{walked_checks};
-ghost use Rattle.nested.specs.inner.Found.{width_for, PlaceIn, NestRead, columns_in, entries_in, NestFound};
+ghost use Rattle.nested.specs.inner.Found.{width_for, PlaceIn, NestRead, NestFound};
 
 use answers::Nested;
 use arguments::Settings;
@@ -75,8 +76,7 @@ fn nest_sheet(
     x: &mut [u32],
     wide: &mut [u32],
 ) -> Result<Option<Nested>, Refusal>
-    requires raw_bound { (settings.raw ≤ 1) × (settings.width ≤ max_size) }
-    requires out_room { OutRoom column.old x.old wide.old }
+    requires { OutRoom column.old x.old wide.old }
     ensures { NestFound (walked_checks (Some line) sheet.now settings.wrap settings.raw settings.width settings.overflow) sheet.now line settings.wrap settings.raw settings.width result
         column.new x.new wide.new }
 {
@@ -110,38 +110,16 @@ fn nest_sheet(
 pub fn find_nested(
     sheet: &[u8],
     line: u32,
-    settings: Settings,
-    asked: Result<(), Refusal>,
+    asked: Result<Settings, Refusal>,
     column: &mut [u32],
     x: &mut [u32],
     wide: &mut [u32],
 ) -> Result<Option<Nested>, Refusal>
-    requires { asked ≡ Ok tt → ((settings.raw ≤ 1) × (settings.width ≤ max_size)) × OutRoom column.old x.old wide.old }
-    ensures { NestFound (early asked ∷ walked_checks (Some line) sheet.now settings.wrap settings.raw settings.width settings.overflow) sheet.now line settings.wrap settings.raw settings.width result
+    requires { verdict_in asked ≡ Ok tt → OutRoom column.old x.old wide.old }
+    ensures { (wrap raw width overflow : ℕ) → Asks asked wrap raw width overflow
+        → NestFound (early (verdict_in asked) ∷ walked_checks (Some line) sheet.now wrap raw width overflow) sheet.now line wrap raw width result
         column.new x.new wide.new }
 {
-    asked?;
+    let settings = asked?;
     nest_sheet(sheet, line, settings, column, x, wide)
-}
-
-// How many columns the table has.
-#[tactic(auto, unfolding(crate::specs::inner::Found::columns_in))]
-pub fn column_count(found: Result<Option<Nested>, Refusal>) -> usize
-    ensures { result ≡ columns_in found }
-{
-    match found {
-        Ok(Some(nested)) => nested.layout.columns as usize,
-        Ok(None) | Err(_) => 0,
-    }
-}
-
-// How many entries it has.
-#[tactic(auto, unfolding(crate::specs::inner::Found::entries_in))]
-pub fn entry_count(found: Result<Option<Nested>, Refusal>) -> usize
-    ensures { result ≡ entries_in found }
-{
-    match found {
-        Ok(Some(nested)) => nested.layout.entries as usize,
-        Ok(None) | Err(_) => 0,
-    }
 }

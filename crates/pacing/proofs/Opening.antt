@@ -3,7 +3,7 @@ use Rattle.lists.specs.declared.Refusal.{Refusal}
 use Rattle.std.specs.Prelude.{Err, Ok, Result, Option}
 use mathlib.Core.Path.{◌≡◌, refl, sym, ap, ◌∙◌}
 use mathlib.Core.List.{List, [], ◌++◌, append-nil}
-use Prim.Native.Nat.{ℕ, ◌*◌, ◌≤◌}
+use Prim.Native.Nat.{ℕ, ◌≤◌}
 use native.Mathlib.Omega.{arith}
 use lib.ListN.{length, get_or, take}
 use lib.Seq.{get_or-take, length-take-le}
@@ -74,13 +74,10 @@ module _ {asked : Option ℕ} {s : List ℕ} {wrap : ℕ} {r : Result ℕ Refusa
       room = λ n e. omega (arith, (opened_passed n e).room);
     }
 
--- the first n records stand in the first 2 * n places
-pub front_walkable : {read : Result ℕ Refusal} {lines : List Kept} {figures : List Estimate} {ps : List (Option ℕ)} (n : ℕ) → ReadWalkable read lines figures ps → read ≡ Ok n
-    → Walkable (take n lines) figures × (length (take n lines) ≤ length ps)
-front_walkable {lines = lines} n w e = (
-  (w.walkable n e),
-  (omega (arith, length-take-le n lines (omega (arith, w.front n e)), w.room n e)),
-)
+-- the first n records have places
+pub front_room : {read : Result ℕ Refusal} {lines : List Kept} {figures : List Estimate} {ps : List (Option ℕ)} (n : ℕ) → ReadWalkable read lines figures ps → read ≡ Ok n
+    → length (take n lines) ≤ length ps
+front_room {lines = lines} n w e = omega (arith, length-take-le n lines (omega (arith, w.front n e)), w.room n e)
 
 -- ---- what is told of its lines
 

@@ -2,16 +2,16 @@
 #![tactic(auto)]
 
 ghost use Rattle.std.specs.Prelude.{◌≤◌, length};
-ghost use Rattle.lists.specs.Limits.{max_position, max_size};
+ghost use Rattle.lists.specs.Limits.{max_position};
 ghost use Rattle.sheet.specs.Steps.{room_for};
 ghost use Rattle.walking.specs.inner.Steps as steps;
-ghost use Rattle.walking.specs.inner.Steps.{Walkable};
 ghost use Rattle.pacing.specs.inner.Found.{SheetOpened, ReadWalkable, WalkRead, SheetWalked};
 
 use arguments::Settings;
 use lists::{MAX_ENTRIES, MAX_LINES, MAX_POSITION, Refusal};
 use records::Kept;
 use text::Estimate;
+use walking::{Measured, Scratch};
 
 // Opens and measures a sheet. The last slice is scratch.
 fn open_measured(
@@ -42,34 +42,29 @@ fn open_measured(
 }
 
 // Walks the lines of a measured sheet. All tables are laid out in the same arrays.
-fn walk_lines(
-    lines: &[Kept],
-    figures: &[Estimate],
-    settings: Settings,
-    walk: &mut [Option<u32>],
-) -> Result<(), Refusal>
-    requires walkable { Walkable lines.now figures.now }
-    requires raw_bound { (settings.raw ≤ 1) × (settings.width ≤ max_size) }
-    requires lines_in_bounds { length lines.now ≤ length walk.old }
-    ensures { steps.Walked lines.now figures.now settings.raw settings.width settings.overflow result walk.new }
+fn walk_lines(m: Measured<'_>, settings: Settings, walk: &mut [Option<u32>]) -> Result<(), Refusal>
+    requires { length m.lines.now ≤ length walk.old }
+    ensures { steps.Walked m.entry.lines.now m.entry.figures.now settings.raw settings.width settings.overflow result walk.new }
 {
     let mut entries = [records::NO_ENTRY; MAX_ENTRIES];
     let mut rows = [records::NO_ROW; MAX_LINES];
     let mut column = [0u32; MAX_POSITION];
     let mut x = [0u32; MAX_ENTRIES];
     let mut wide = [0u32; MAX_ENTRIES];
+    let mut s = Scratch {
+        entries: &mut entries,
+        rows: &mut rows,
+        column: &mut column,
+        x: &mut x,
+        wide: &mut wide,
+    };
     walking::walk(
-        lines,
-        figures,
+        m,
         settings.raw,
         settings.width,
         settings.overflow,
         walk,
-        &mut entries,
-        &mut rows,
-        &mut column,
-        &mut x,
-        &mut wide,
+        &mut s,
     )
 }
 
@@ -81,12 +76,15 @@ fn walk_read(
     settings: Settings,
     walk: &mut [Option<u32>],
 ) -> Result<usize, Refusal>
-    requires read_walkable { ReadWalkable read lines.now figures.now walk.old }
-    requires raw_bound { (settings.raw ≤ 1) × (settings.width ≤ max_size) }
+    requires { ReadWalkable read lines.now figures.now walk.old }
     ensures { WalkRead read lines.now figures.now settings.raw settings.width settings.overflow result walk.new }
 {
     let n = read?;
-    walk_lines(&lines[..n], figures, settings, walk)?;
+    let m = Measured {
+        lines: &lines[..n],
+        figures,
+    };
+    walk_lines(m, settings, walk)?;
     Ok(n)
 }
 
@@ -104,7 +102,6 @@ pub fn walk_sheet(
     requires figures_in_bounds { room_for sheet.now ≤ length figures.old }
     requires places_in_bounds { room_for sheet.now ≤ length walk.old }
     requires max_position_in_bounds { max_position ≤ length leasts.old }
-    requires raw_bound { (settings.raw ≤ 1) × (settings.width ≤ max_size) }
     ensures { SheetWalked asked sheet.now settings.wrap settings.raw settings.width settings.overflow result lines.new figures.new walk.new }
 {
     let read = open_measured(sheet, asked, settings.wrap, lines, figures, leasts);

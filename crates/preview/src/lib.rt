@@ -53,16 +53,10 @@ pub fn at(
 ) -> Result<Under<u32>, Refusal>
     ensures { result ≡ pointed_of sheet.now line wrap raw width row x }
 {
-    let settings = Settings {
-        wrap,
-        raw,
-        width,
-        overflow: 0,
-    };
-    let asked = arguments::of_pointing(settings);
+    let asked = Settings::of_pointing(wrap, raw, width);
     let mut starts = [0u32; MAX_ENTRIES];
     let mut widths = [0u32; MAX_ENTRIES];
-    let spot = spots::find(sheet, line, settings, row, asked, &mut starts, &mut widths);
+    let spot = spots::find(sheet, line, asked, row, &mut starts, &mut widths);
     point_in(spot, &starts, &widths, x)
 }
 
@@ -93,16 +87,10 @@ pub fn joining(
 ) -> Result<Joint, Refusal>
     ensures { result ≡ joined_of sheet.now line wrap raw width row x }
 {
-    let settings = Settings {
-        wrap,
-        raw,
-        width,
-        overflow: 0,
-    };
-    let asked = arguments::of_pointing(settings);
+    let asked = Settings::of_pointing(wrap, raw, width);
     let mut starts = [0u32; MAX_ENTRIES];
     let mut widths = [0u32; MAX_ENTRIES];
-    let spot = spots::find(sheet, line, settings, row, asked, &mut starts, &mut widths);
+    let spot = spots::find(sheet, line, asked, row, &mut starts, &mut widths);
     join_in(spot, &starts, &widths, x)
 }
 
@@ -150,16 +138,10 @@ pub fn within(
 ) -> Result<u32, Refusal>
     ensures { WithinAnswer sheet.now line wrap raw width row from to entry.old result entry.new }
 {
-    let settings = Settings {
-        wrap,
-        raw,
-        width,
-        overflow: 0,
-    };
-    let asked = arguments::of_within(settings, entry.len());
+    let asked = Settings::of_within(wrap, raw, width, entry.len());
     let mut starts = [0u32; MAX_ENTRIES];
     let mut widths = [0u32; MAX_ENTRIES];
-    let spot = spots::find(sheet, line, settings, row, asked, &mut starts, &mut widths);
+    let spot = spots::find(sheet, line, asked, row, &mut starts, &mut widths);
     let n = list_in(spot, &starts, &widths, from, to, entry);
     lists::keep_front(entry, n);
     counted(spot, n)

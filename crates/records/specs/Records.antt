@@ -1,5 +1,5 @@
 -- Records of w numbers each, one after the other in a list. These are definitions; nothing is assumed.
-use Rattle.std.specs.Prelude.{List, [], ◌∷◌, map, ℕ, zero, suc, ◌/◌, length, get_or, take, drop}
+use Rattle.std.specs.Prelude.{List, [], ◌∷◌, map, ℕ, zero, suc, ◌/◌, length, take, drop}
 
 -- the first n records
 unfoldable pub records : ℕ → ℕ → List ℕ → List (List ℕ)
@@ -9,7 +9,3 @@ records w (suc n) xs = take w xs ∷ records w n (drop w xs)
 -- all that the list has room for, each made of its w numbers
 unfoldable pub records_of : {A : Type 0} → ℕ → (List ℕ → A) → List ℕ → List A
 records_of w make xs = map make (records w (length xs / w) xs)
-
--- number f of each of the first n records
-unfoldable pub numbers_of : ℕ → ℕ → ℕ → List ℕ → List ℕ
-numbers_of w f n xs = map (λ (r : List ℕ). get_or r f 0) (records w n xs)

@@ -1,17 +1,17 @@
 // Each table of a walked sheet, laid out and printed.
 ghost use Rattle.std.specs.Prelude.{◌≡◌, ◌≤◌, length};
 ghost use Rattle.lists.specs.Limits.{max_lines};
-ghost use Rattle.walking.specs.inner.Steps.{Rooms};
 ghost use Rattle.causes.specs.inner.Fronts.{FrontReady};
-ghost use Rattle.report.specs.inner.Read.{Listable, TableAt, WalkNarrow};
+ghost use Rattle.report.specs.inner.Read.{TableAt};
 
-use super::{Asked, Form};
+use super::{Asked, Form, Walked};
 use answers::Way;
 use gridding::Counts;
 use kinds::Kind;
 use printing::Output;
-use records::{Entry, Kept, RowEnd};
+use records::{Entry, RowEnd};
 use text::Estimate;
+use walking::{Measured, Scratch};
 use writing::entries::Entries;
 
 // Puts what is asked for of a table that is laid out, whose grid stands in the front of its slices. An explanation prints no places of entries: it takes
@@ -59,102 +59,51 @@ fn shown(
 }
 
 // Puts the table at a place. The sheet is accepted, so none of its tables is refused.
-fn table(
-    out: &mut Output,
-    place: usize,
-    asked: Asked,
-    lines: &[Kept],
-    figures: &[Estimate],
-    grid: &mut [Entry],
-    rows: &mut [RowEnd],
-    column: &mut [u32],
-    x: &mut [u32],
-    wide: &mut [u32],
-)
-    requires table_at { TableAt lines.now place }
-    requires listable { Listable lines.now figures.now asked.width }
-    requires rooms { Rooms grid.old rows.old column.old x.old wide.old }
+fn table(out: &mut Output, place: usize, asked: Asked, m: Measured<'_>, s: &mut Scratch<'_>)
+    requires { TableAt m.lines.now place }
 {
     let arranged = table::arrange(
-        lines,
-        figures,
+        m.lines,
+        m.figures,
         place,
         asked.raw,
         asked.width,
-        grid,
-        rows,
-        column,
-        x,
-        wide,
+        s.entries,
+        s.rows,
+        s.column,
+        s.x,
+        s.wide,
     );
     let counts = arranged.counts;
     let laid = arranged.laid;
     let line = (place + 1) as u32;
     writing::tables::heading(out, line, laid.way, counts.columns as u32, laid.width);
     shown(
-        out, asked, laid.way, counts, figures, grid, rows, column, x, wide,
+        out, asked, laid.way, counts, m.figures, s.entries, s.rows, s.column, s.x, s.wide,
     );
 }
 
 // Puts the table at a place, at the width that the walk gives it; if it gives none, nothing.
-fn walked_table(
-    out: &mut Output,
-    place: usize,
-    asked: Asked,
-    lines: &[Kept],
-    figures: &[Estimate],
-    walk: &[Option<u32>],
-    grid: &mut [Entry],
-    rows: &mut [RowEnd],
-    column: &mut [u32],
-    x: &mut [u32],
-    wide: &mut [u32],
-)
-    requires table_at { TableAt lines.now place }
-    requires listable { Listable lines.now figures.now asked.width }
-    requires walk_narrow { WalkNarrow (length lines.now) walk.now }
-    requires rooms { Rooms grid.old rows.old column.old x.old wide.old }
+fn walked_table(out: &mut Output, place: usize, asked: Asked, w: Walked<'_>, s: &mut Scratch<'_>)
+    requires { TableAt w.measured.lines.now place }
 {
-    let Some(width) = walk[place] else {
+    let Some(width) = w.widths[place] else {
         return;
     };
-    table(
-        out,
-        place,
-        Asked { width, ..asked },
-        lines,
-        figures,
-        grid,
-        rows,
-        column,
-        x,
-        wide,
-    );
+    let asked = Asked {
+        form: asked.form,
+        raw: asked.raw,
+        width,
+    };
+    table(out, place, asked, w.measured, s);
 }
 
 // Puts every table of a sheet that has a width, in the order of their lines. Every table is laid out in the same room, of which nothing is cleared in
 // between.
-pub fn all_tables(
-    out: &mut Output,
-    asked: Asked,
-    lines: &[Kept],
-    figures: &[Estimate],
-    walk: &[Option<u32>],
-    grid: &mut [Entry],
-    rows: &mut [RowEnd],
-    column: &mut [u32],
-    x: &mut [u32],
-    wide: &mut [u32],
-)
-    requires listable { Listable lines.now figures.now asked.width }
-    requires walk_narrow { WalkNarrow (length lines.now) walk.now }
-    requires rooms { Rooms grid.old rows.old column.old x.old wide.old }
-{
-    for i in 0..lines.len() {
-        if lines[i].kind == Kind::Table {
-            walked_table(
-                out, i, asked, lines, figures, walk, grid, rows, column, x, wide,
-            );
+pub fn all_tables(out: &mut Output, asked: Asked, w: Walked<'_>, s: &mut Scratch<'_>) {
+    for i in 0..w.measured.lines.len() {
+        if w.measured.lines[i].kind == Kind::Table {
+            walked_table(out, i, asked, w, s);
         }
     }
 }

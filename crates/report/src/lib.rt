@@ -6,13 +6,14 @@ mod each; // each.rt: each table of a walked sheet
 
 ghost use Rattle.std.specs.Prelude.{◌≡◌, ◌≤◌, length};
 ghost use Rattle.lists.specs.Limits.{max_size};
-ghost use Rattle.report.specs.inner.Read.{Listable, WalkNarrow, ReadListable};
+ghost use Rattle.report.specs.inner.Read.{WalkNarrow, ReadListable};
 
 use arguments::Settings;
 use lists::{MAX_ENTRIES, MAX_LINES, MAX_POSITION, Refusal};
 use printing::Output;
 use records::Kept;
 use text::Estimate;
+use walking::{Measured, Scratch};
 
 // What is printed of a table: its layout, or what explains it. A switch and no type parameter: seven functions would carry it for one `match`.
 #[derive(Clone, Copy)]
@@ -21,60 +22,71 @@ pub enum Form {
     Explain,
 }
 
-// What is asked for: the form, and the settings of a layout.
+// What is asked for: the form, and the settings of a layout, which are in their ranges.
 #[derive(Clone, Copy)]
 pub struct Asked {
     pub form: Form,
     pub raw: u32,
     pub width: u32,
+    pub ghost raw_bound: { raw ≤ 1 },
+    pub ghost width_bound: { width ≤ max_size },
+}
+
+// A measured sheet and the width of each of its lines, if it has one: tables can be laid out at these.
+#[derive(Clone, Copy)]
+pub struct Walked<'a> {
+    pub measured: Measured<'a>,
+    pub widths: &'a [Option<u32>],
+    pub ghost narrow: { WalkNarrow (length measured.lines.now) widths.now },
 }
 
 // Puts every table of a walked sheet. All tables are laid out in the same arrays.
-fn laid(out: &mut Output, asked: Asked, kept: &[Kept], figures: &[Estimate], walk: &[Option<u32>])
-    requires listable { Listable kept.now figures.now asked.width }
-    requires walk_narrow { WalkNarrow (length kept.now) walk.now }
-{
-    let mut grid = [records::NO_ENTRY; MAX_ENTRIES];
+fn laid(out: &mut Output, asked: Asked, w: Walked<'_>) {
+    let mut entries = [records::NO_ENTRY; MAX_ENTRIES];
     let mut rows = [records::NO_ROW; MAX_LINES];
     let mut column = [0u32; MAX_POSITION];
     let mut x = [0u32; MAX_ENTRIES];
     let mut wide = [0u32; MAX_ENTRIES];
-    each::all_tables(
-        out,
-        asked,
-        kept,
-        figures,
-        walk,
-        &mut grid,
-        &mut rows,
-        &mut column,
-        &mut x,
-        &mut wide,
-    );
+    let mut s = Scratch {
+        entries: &mut entries,
+        rows: &mut rows,
+        column: &mut column,
+        x: &mut x,
+        wide: &mut wide,
+    };
+    each::all_tables(out, asked, w, &mut s);
 }
 
 // Puts the tables of a sheet that was walked, whose lines are the first records, or why it is refused.
-fn told(
+fn told<'a>(
     out: &mut Output,
     asked: Asked,
     read: Result<usize, Refusal>,
-    kept: &[Kept],
-    figures: &[Estimate],
-    walk: &[Option<u32>],
+    kept: &'a [Kept],
+    figures: &'a [Estimate],
+    walk: &'a [Option<u32>],
 )
-    requires { ReadListable read kept.now figures.now asked.width walk.now }
+    requires { ReadListable read kept.now figures.now walk.now }
 {
     match read {
-        Ok(n) => laid(out, asked, &kept[..n], figures, walk),
+        Ok(n) => {
+            let measured = Measured {
+                lines: &kept[..n],
+                figures,
+            };
+            let w = Walked {
+                measured,
+                widths: walk,
+            };
+            laid(out, asked, w);
+        }
         Err(why) => writing::refusal(out, why),
     }
 }
 
 // Puts every table of a sheet at the width that the walk gives it, or why the sheet is refused. The sheet is read, measured and walked once, however many
 // tables it has; no width overflows.
-fn opened(out: &mut Output, sheet: &[u8], wrap: u32, asked: Asked)
-    requires { (asked.raw ≤ 1) × (asked.width ≤ max_size) }
-{
+fn opened(out: &mut Output, sheet: &[u8], wrap: u32, asked: Asked) {
     let mut kept = [records::NO_LINE; MAX_LINES];
     let mut figures = [estimates::NONE; MAX_LINES];
     let mut walk = [None; MAX_LINES];

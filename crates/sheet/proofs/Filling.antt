@@ -2,36 +2,32 @@
 use mathlib.Core.Path.{◌≡◌, sym, ◌∙◌}
 use mathlib.Core.Bool.{false, ◌||◌}
 use mathlib.Core.List.{List}
-use Prim.Native.Nat.{ℕ, zero, suc, ◌+◌, ◌≤◌, ◌<◌}
+use Prim.Native.Nat.{ℕ, zero, suc, ◌+◌, ◌-◌, ◌≤◌, ◌<◌}
 use native.Mathlib.Numerals.{add-one}
 use native.Mathlib.Omega.{arith}
 use native.Mathlib.Decide.{ℕ_discrete}
 use lib.Dec.{eqb}
-use lib.ListN.{length, get_or, length-map}
+use lib.ListN.{length, get_or, set, take, length-map}
+use lib.Seq.{get_or-take, length-take-le, get_or-set_same, get_or-set_other}
 use borrow.Author.Tests.{lt-leb}
 use Rattle.std.specs.Prelude.{Ok}
 use Rattle.records.specs.Kept.{no_kept}
 use Rattle.records.specs.declared.Kept.{Kept}
 use Rattle.kinds.specs.Kinds.{kind_number, table_kind, body_kind}
-use Rattle.sheet.specs.Steps.{empty_at, FilledTo, Lacks, line_end, bare, bare_line}
+use Rattle.sheet.specs.Steps.{empty_at, FilledTo, lacks_child, NoneLacking, line_end, bare, bare_line}
 use Rattle.sheet.proofs.Ending.{EndsFrom, bare_empty, ends_start, ends_more, ends_all}
 
 module _ (ks : List Kept) where
-  -- one line more
-  filled_on : (i : ℕ) → FilledTo ks i → empty_at ks i ≡ false → FilledTo ks (i + 1)
-  filled_on i f e k h = go (ℕ_discrete k i)
+  -- none is, where none lacks a child and the last is no table and no body
+  pub none_empty : NoneLacking ks (length ks) → 0 < length ks
+      → (eqb (kind_number (get_or ks (length ks - 1) no_kept).kind) table_kind || eqb (kind_number (get_or ks (length ks - 1) no_kept).kind) body_kind) ≡ false
+      → FilledTo ks (length ks)
+  unfolding empty_at
+  none_empty f some e i h = go (ℕ_discrete i (length ks - 1))
     where
-      go : Dec (k ≡ i) → empty_at ks k ≡ false
-      go (yes q) = rw q e
-      go (no q) = f k (omega arith)
-
-  pub filled_more : (i r : ℕ) → FilledTo ks i → i + 1 < length ks → Lacks (get_or ks i no_kept) (get_or ks (i + 1) no_kept) r → r ≡ 0 → FilledTo ks (i + 1)
-  unfolding empty_at
-  filled_more i r f h l e = filled_on i f (rw (lt-leb (length ks) (i + 1) h) (l.filled e))
-
-  pub filled_last : (i : ℕ) → FilledTo ks i → (eqb (kind_number (get_or ks i no_kept).kind) table_kind || eqb (kind_number (get_or ks i no_kept).kind) body_kind) ≡ false → FilledTo ks (i + 1)
-  unfolding empty_at
-  filled_last i f e = filled_on i f (rw e)
+      go : Dec (i ≡ length ks - 1) → empty_at ks i ≡ false
+      go (yes q) = rw (q, e)
+      go (no q) = let more : i + 1 < length ks = omega arith in rw (lt-leb (length ks) (i + 1) more) (f i more)
 
   -- the answer
   ends_to : 0 < length ks → (i : ℕ) → i ≤ length ks → FilledTo ks i → EndsFrom (bare ks) i
@@ -44,3 +40,21 @@ module _ (ks : List Kept) where
   filled_ends some f =
       rw (← length-map ks bare_line)
       (ends_all (bare ks) (length ks) (omega (arith, length-map ks bare_line)) (ends_to some (length ks) (omega arith) f))
+
+-- one line more, which is stored behind them
+pub none_more : (b : List Kept) {c : List Kept} {n : ℕ} (k : Kept) → NoneLacking b n → (0 < n → lacks_child (get_or b (n - 1) no_kept) k ≡ false) → n < length b → c ≡ set b n k
+    → NoneLacking c (n + 1)
+none_more b {c} {n} k f e h p i g = rw p (go (ℕ_discrete (i + 1) n))
+  where
+    go : Dec (i + 1 ≡ n) → lacks_child (get_or (set b n k) i no_kept) (get_or (set b n k) (i + 1) no_kept) ≡ false
+    go (yes q) =
+        let last : n - 1 ≡ i = omega arith in
+        rw (q, get_or-set_same b n k no_kept h, get_or-set_other b n i k no_kept (λ z. omega arith), ← last) (e (omega arith))
+    go (no q) =
+        rw (get_or-set_other b n i k no_kept (λ z. omega arith), get_or-set_other b n (i + 1) k no_kept (λ z. omega arith)) (f i (omega arith))
+
+-- of the front of a list
+pub none_front : (b : List Kept) {n : ℕ} → n ≤ length b → NoneLacking b n → NoneLacking (take n b) (length (take n b))
+none_front b {n} h f i g =
+    let k : i + 1 < n = omega (arith, length-take-le n b h) in
+    rw (get_or-take n b i no_kept (omega arith), get_or-take n b (i + 1) no_kept k) (f i k)

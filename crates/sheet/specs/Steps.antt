@@ -69,10 +69,13 @@ empty_at ks i =
 abbrev pub FilledTo : List Kept → ℕ → Type 0
 FilledTo ks end = (i : ℕ) → i < end → empty_at ks i ≡ false
 
--- by a line and the next one: 0 only where it is no table and no body, or the next one is deeper
-pub record Lacks (here next : Kept) (r : ℕ) : Type 0 where
-  pub one : r ≤ 1
-  pub filled : r ≡ 0 → ((eqb (kind_number here.kind) table_kind || eqb (kind_number here.kind) body_kind) && leb next.depth here.depth) ≡ false
+-- a line is a table or a body, and the next one is no deeper
+abbrev pub lacks_child : Kept → Kept → Bool
+lacks_child here next = (eqb (kind_number here.kind) table_kind || eqb (kind_number here.kind) body_kind) && leb next.depth here.depth
+
+-- of the first n lines none but the last may be so
+abbrev pub NoneLacking : List Kept → ℕ → Type 0
+NoneLacking ks n = (i : ℕ) → i + 1 < n → lacks_child (get_or ks i no_kept) (get_or ks (i + 1) no_kept) ≡ false
 
 -- the sheet is neither too long nor without its first line
 pub record Begun (s : List ℕ) : Type 0 where

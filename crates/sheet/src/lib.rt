@@ -5,14 +5,14 @@ pub mod front; // front.rt: what is asked of a sheet before its lines
 pub mod nesting; // nesting.rt: what may stand below what
 pub mod cursor; // cursor.rt: a record that holds the sheet and the current place
 
-ghost use Rattle.std.specs.Prelude.{◌≡◌, true, ◌≤◌, ◌<◌, length};
+ghost use Rattle.std.specs.Prelude.{◌≡◌, true, false, ◌-◌, ◌≤◌, ◌<◌, length, get_or};
 ghost use Rattle.lists.specs.Limits.{max_lines, max_depth};
 ghost use Rattle.kinds.specs.Kinds.{kind_number};
-ghost use Rattle.records.specs.Kept.{OfItsKind};
+ghost use Rattle.records.specs.Kept.{OfItsKind, no_kept};
 ghost use Rattle.line.specs.LineAt.{line_at};
 ghost use Rattle.eights.specs.inner.Briefs.{figures_of};
 ghost use Rattle.sheet.specs.Reading.{Reads};
-ghost use Rattle.sheet.specs.Steps.{AtLine, BriefOf, judgement_of, Answers, empty_at, Lacks, FilledTo, line_end, bare, Begun, room_for};
+ghost use Rattle.sheet.specs.Steps.{AtLine, BriefOf, judgement_of, Answers, empty_at, lacks_child, NoneLacking, line_end, bare, Begun, room_for};
 
 use eights::Brief;
 use kinds::Kind;
@@ -21,7 +21,7 @@ use lists::{DEPTHS, Reason, Refusal};
 use records::Kept;
 use text::bytes::Classes;
 
-// What is kept of a line. No `From`: neither type is this crate's.
+// What is kept of a line. No `From`: it asks that the line has the figures of its kind alone, each in its range.
 fn brief(node: Node) -> Brief
     requires { OfItsKind (figures_of node) }
     ensures { BriefOf node result }
@@ -85,44 +85,32 @@ fn left_empty_at(lines: &[Kept], i: usize) -> bool
     next >= lines.len() || lines[next].depth <= here.depth
 }
 
-// 1 if a line is a table or a body and the next line is no deeper, else 0.
-fn lacks(here: Kept, next: Kept) -> u32
-    ensures { Lacks here next result }
+// Whether a line is a table or a body and the next line is no deeper.
+fn lacks_child(here: Kept, next: Kept) -> bool
+    ensures { result ≡ lacks_child here next }
 {
-    u32::from(nesting::needs_child(here.kind) && next.depth <= here.depth)
+    nesting::needs_child(here.kind) && next.depth <= here.depth
 }
 
-// How many of the lines up to a place are so.
-fn lacking(lines: &[Kept], end: usize) -> u32
-    requires { (end < length lines.now) × (end ≤ max_lines) }
-    ensures { result ≡ 0 → FilledTo lines.now end }
+// Whether no table and no body is seen to be left empty, where none was before the last of the first n lines, and one more line follows.
+fn still_filled(filled: bool, lines: &[Kept], n: usize, next: Kept) -> bool
+    requires { n ≤ length lines.now }
+    ensures { result ≡ true → (filled ≡ true) × (0 < n → lacks_child (get_or lines.now (n - 1) no_kept) next ≡ false) }
 {
-    let mut found: u32 = 0;
-    for i in 0..end {
-        found += lacks(lines[i], lines[i + 1]);
-    }
-    found
-}
-
-// Whether no table and no body is seen to be left empty.
-fn all_filled(lines: &[Kept]) -> bool
-    requires { (1 ≤ length lines.now) × (length lines.now ≤ max_lines) }
-    ensures { result ≡ true → FilledTo lines.now (length lines.now) }
-{
-    let last = lines.len() - 1;
-    !nesting::needs_child(lines[last].kind) && lacking(lines, last) == 0
+    filled && (n == 0 || !lacks_child(lines[n - 1], next))
 }
 
 // What is asked after the lines: 4 for no line, or for the first table or body left empty. In most sheets there is none, which is seen at once.
-fn finish(lines: &[Kept]) -> Result<usize, Refusal>
-    requires { length lines.now ≤ max_lines }
+fn finish(lines: &[Kept], filled: bool) -> Result<usize, Refusal>
+    requires lines_len_bound { length lines.now ≤ max_lines }
+    requires none_lacking { filled ≡ true → NoneLacking lines.now (length lines.now) }
     ensures { result ≡ line_end (bare lines.now) }
 {
     let n = lines.len();
     if n == 0 {
         return Err(Reason::Nesting.at(0));
     }
-    if all_filled(lines) {
+    if filled && !nesting::needs_child(lines[n - 1].kind) {
         return Ok(n);
     }
     for i in 0..n {
@@ -144,6 +132,7 @@ fn read_lines(classes: &Classes, bytes: &[u8], lines: &mut [Kept]) -> Result<usi
     let mut previous: u32 = 0;
     let mut at: usize = front::HEADING_BYTES;
     let mut n: usize = 0;
+    let mut filled = true;
     // A while: a turn moves on by the line that it reads.
     while at < bytes.len() {
         let b = match judge(classes, bytes, at, &chain, n, previous) {
@@ -153,10 +142,11 @@ fn read_lines(classes: &Classes, bytes: &[u8], lines: &mut [Kept]) -> Result<usi
         previous = b.line.depth as u32;
         chain[previous as usize] = b.line.kind;
         at = b.next;
+        filled = still_filled(filled, lines, n, b.line);
         lines[n] = b.line;
         n += 1;
     }
-    finish(&lines[..n])
+    finish(&lines[..n], filled)
 }
 
 // Reads a sheet: what each of its lines says, a record for each, and how many there are, or the first refusal that applies. Record k is of line k + 1.

@@ -4,11 +4,12 @@
 mod making; // the row of one table of a measured sheet
 mod starts; // where the rows of a grid start
 
-ghost use Rattle.std.specs.Prelude.{◌≡◌, true, ◌∷◌, ◌≤◌, length, Some};
-ghost use Rattle.lists.specs.Limits.{max_entries, max_lines, max_size};
+ghost use Rattle.std.specs.Prelude.{ℕ, ◌∷◌, ◌≤◌, length, Some};
+ghost use Rattle.lists.specs.Limits.{max_entries, max_lines};
 ghost use Rattle.opening.specs.Opening.{open_checks};
 ghost use Rattle.sheet_figures.specs.inner.Opened.{AskedIn, MeasuredIn};
 ghost use Rattle.sheet_figures.specs.inner.Early.{early};
+ghost use Rattle.arguments.specs.Asked.{Asks, verdict_in};
 ghost use Rattle.spots.specs.inner.Spots.{PlacesRoom, SpotRead, SpotFound};
 
 use arguments::Settings;
@@ -42,7 +43,6 @@ fn find_read(
     requires max_entries_in_bounds { (max_entries ≤ length entries.old) × (max_lines ≤ length rows.old) }
     requires max_lines_in_bounds { max_lines ≤ length column.old }
     requires measured_in { MeasuredIn read lines.now line figures.now }
-    requires width_le_max_size { settings.width ≤ max_size }
     requires places_room { PlacesRoom x.old wide.old }
     ensures { SpotRead read lines.now line figures.now settings.raw settings.width row result x.new wide.new }
 {
@@ -70,8 +70,7 @@ fn find_sheet(
     x: &mut [u32],
     wide: &mut [u32],
 ) -> Result<Span, Refusal>
-    requires width_le_max_size { settings.width ≤ max_size }
-    requires places_room { PlacesRoom x.old wide.old }
+    requires { PlacesRoom x.old wide.old }
     ensures { SpotFound (open_checks (Some line) sheet.now) sheet.now line settings.wrap settings.raw settings.width row result x.new wide.new }
 {
     let mut lines = [records::NO_LINE; MAX_LINES];
@@ -108,17 +107,16 @@ fn find_sheet(
 pub fn find(
     sheet: &[u8],
     line: u32,
-    settings: Settings,
+    asked: Result<Settings, Refusal>,
     row: u32,
-    asked: Result<(), Refusal>,
     x: &mut [u32],
     wide: &mut [u32],
 ) -> Result<Span, Refusal>
-    requires width_le_max_size { asked ≡ Ok tt → settings.width ≤ max_size }
-    requires places_room { PlacesRoom x.old wide.old }
-    ensures { SpotFound (early asked ∷ open_checks (Some line) sheet.now) sheet.now line settings.wrap settings.raw settings.width row result
+    requires { PlacesRoom x.old wide.old }
+    ensures { (wrap raw width : ℕ) → Asks asked wrap raw width 0
+        → SpotFound (early (verdict_in asked) ∷ open_checks (Some line) sheet.now) sheet.now line wrap raw width row result
         x.new wide.new }
 {
-    asked?;
+    let settings = asked?;
     find_sheet(sheet, line, settings, row, x, wide)
 }

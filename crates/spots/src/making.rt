@@ -1,6 +1,6 @@
 // The row of one table of a measured sheet: the table is laid out first.
 ghost use Rattle.std.specs.Prelude.{◌-◌, ◌≤◌, length};
-ghost use Rattle.lists.specs.Limits.{max_entries, max_lines, max_size};
+ghost use Rattle.lists.specs.Limits.{max_entries, max_lines};
 ghost use Rattle.table.specs.Arranging.{TableMeasured};
 ghost use Rattle.table.specs.inner.Asked.{Asked};
 ghost use Rattle.spots.specs.inner.Spots.{PlacesRoom, SpotMade};
@@ -28,7 +28,6 @@ pub fn find_row(
     requires max_entries_in_bounds { (max_entries ≤ length entries.old) × (max_lines ≤ length rows.old) }
     requires max_lines_in_bounds { max_lines ≤ length column.old }
     requires table_measured { TableMeasured lines.now (line - 1) figures.now }
-    requires width_le_max_size { settings.width ≤ max_size }
     requires places_room { PlacesRoom x.old wide.old }
     ensures { SpotMade lines.now line figures.now settings.raw settings.width row result x.new wide.new }
 {

@@ -5,3 +5,4 @@ pub mod Smaller
 pub mod WalkLoop
 pub mod Rooms
 pub mod Clear
+pub mod Merely

@@ -1,8 +1,8 @@
--- The loop over the lines with its slices: what each call asks for is there, the slices keep their lengths, and the answers. Assumes nothing.
+-- The loop over the lines with its slices: what each call asks for is there, and the answers. Assumes nothing.
 use Rattle.lists.specs.Refusals.{refusal}
 use Rattle.lists.specs.declared.Reason.TheVariants.{TooNarrow}
 use Rattle.std.specs.Prelude.{Err, Ok, Option, None}
-use mathlib.Core.Path.{◌≡◌, refl, ◌∙◌}
+use mathlib.Core.Path.{◌≡◌}
 use mathlib.Core.Bool.{Bool, true, false, ◌&&◌}
 use mathlib.Core.List.{List}
 use Prim.Native.Nat.{ℕ, ◌+◌, ◌≤◌, ◌<◌}
@@ -14,11 +14,9 @@ use Rattle.text.specs.declared.Estimate.{Estimate}
 use Rattle.kinds.specs.Kinds.{kind_number}
 use Rattle.records.specs.Kept.{no_kept}
 use Rattle.records.specs.declared.Kept.{Kept}
-use Rattle.records.specs.declared.Entry.{Entry}
-use Rattle.records.specs.declared.RowEnd.{RowEnd}
 use Rattle.estimates.specs.Estimates.{none, estimates}
 use Rattle.passing.specs.Walk.{too_narrow}
-use Rattle.walking.specs.inner.Steps.{Walkable, Rooms, Kepts, HandReady, HandedOut, LineHere, Stepped, Cleared, Walked}
+use Rattle.walking.specs.inner.Steps.{Walkable, HandReady, HandedOut, LineHere, Stepped, Cleared, Walked}
 use Rattle.walking.proofs.Clear.{none_at}
 use Rattle.walking.proofs.WalkLoop.{Sofar, start, stop, step_small, turn_refused, turn}
 
@@ -74,24 +72,3 @@ module _ (lines : List Kept) (figures : List Estimate) (walk₀ : List (Option �
           pub walked_on : b ≡ false → (last : List (Option ℕ)) → HandedOut lines i figures raw w ps last
               → SofarAny lines figures raw root overflow last qs (i + 1)
           walked_on t last g q wrap same = turn q wrap same small (z q wrap same) h s g (walk_room walk e) (passed_room passed f) b o t
-
--- ---- slices that keep their lengths
-
-pub same_start : {entries : List Entry} {rows : List RowEnd} {column x wide : List ℕ} → Kepts entries rows column x wide entries rows column x wide
-same_start = record { entry_same = refl; row_same = refl; column_same = refl; x_same = refl; wide_same = refl }
-
-module _ {entries₀ : List Entry} {rows₀ : List RowEnd} {column₀ x₀ wide₀ : List ℕ} {entries : List Entry} {rows : List RowEnd} {column x wide : List ℕ}
-    (s : Kepts entries₀ rows₀ column₀ x₀ wide₀ entries rows column x wide) where
-  pub same_turn : {entries' : List Entry} {rows' : List RowEnd} {column' x' wide' : List ℕ}
-      → length entries' ≡ length entries → length rows' ≡ length rows → length column' ≡ length column → length x' ≡ length x → length wide' ≡ length wide
-      → Kepts entries₀ rows₀ column₀ x₀ wide₀ entries' rows' column' x' wide'
-  same_turn a b c d e = record { entry_same = a ∙ s.entry_same; row_same = b ∙ s.row_same; column_same = c ∙ s.column_same; x_same = d ∙ s.x_same; wide_same = e ∙ s.wide_same }
-
-  pub same_rooms : Rooms entries₀ rows₀ column₀ x₀ wide₀ → Rooms entries rows column x wide
-  same_rooms r = record {
-    entry_room = rw s.entry_same r.entry_room;
-    row_room = rw s.row_same r.row_room;
-    column_room = rw s.column_same r.column_room;
-    x_room = rw s.x_same r.x_room;
-    wide_room = rw s.wide_same r.wide_room;
-  }

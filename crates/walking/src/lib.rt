@@ -12,29 +12,39 @@ use lists::Refusal;
 use records::{Entry, Kept, RowEnd};
 use text::Estimate;
 
+// A measured sheet whose lines can be walked: none of its tables is refused.
+#[derive(Clone, Copy)]
+pub struct Measured<'a> {
+    pub lines: &'a [Kept],
+    pub figures: &'a [Estimate],
+    pub ghost walkable: { ∥ Walkable lines.now figures.now ∥₁ },
+}
+
+// The slices that every table is laid out in, which have the room for any: its entries and rows, its columns, and two figures of each entry.
+#[derive(Drop)]
+pub struct Scratch<'a> {
+    pub entries: &'a mut [Entry],
+    pub rows: &'a mut [RowEnd],
+    pub column: &'a mut [u32],
+    pub x: &'a mut [u32],
+    pub wide: &'a mut [u32],
+    pub ghost rooms: { Rooms entries.now rows.now column.now x.now wide.now },
+}
+
 // Walks a measured sheet from its first line, which has the width `width`. `walk` gets the width of each line, if it has
-// one; the other slices are the room in which each table is laid out.
+// one; each table is laid out in `s`.
 pub fn walk(
-    lines: &[Kept],
-    figures: &[Estimate],
+    m: Measured<'_>,
     raw: u32,
     width: u32,
     overflow: u32,
     walk: &mut [Option<u32>],
-    entries: &mut [Entry],
-    rows: &mut [RowEnd],
-    column: &mut [u32],
-    x: &mut [u32],
-    wide: &mut [u32],
+    s: &mut Scratch<'_>,
 ) -> Result<(), Refusal>
-    requires walkable { Walkable lines.now figures.now }
     requires raw_bound { (raw ≤ 1) × (width ≤ max_size) }
-    requires lines_in_bounds { length lines.now ≤ length walk.old }
-    requires rooms { Rooms entries.old rows.old column.old x.old wide.old }
-    ensures { Walked lines.now figures.now raw width overflow result walk.new }
+    requires lines_in_bounds { length m.lines.now ≤ length walk.old }
+    ensures { Walked m.entry.lines.now m.entry.figures.now raw width overflow result walk.new }
 {
     walk.fill(None);
-    steps::walk_lines(
-        lines, figures, raw, width, overflow, walk, entries, rows, column, x, wide,
-    )
+    steps::walk_lines(m, raw, width, overflow, walk, s)
 }

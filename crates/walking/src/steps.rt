@@ -5,11 +5,12 @@ ghost use Rattle.kinds.specs.Kinds.{kind_number};
 ghost use Rattle.records.specs.Kept.{no_kept};
 ghost use Rattle.estimates.specs.Estimates.{none};
 ghost use Rattle.passing.specs.Walk.{too_narrow};
-ghost use Rattle.walking.specs.inner.Steps.{Walkable, Rooms, own_width, LineHere, Stepped, Cleared, Walked};
+ghost use Rattle.walking.specs.inner.Steps.{own_width, LineHere, Stepped, Cleared, Walked};
 
+use super::{Measured, Scratch};
 use kinds::Kind;
 use lists::{DEPTHS, Reason, Refusal};
-use records::{Entry, Kept, RowEnd};
+use records::Kept;
 use text::Estimate;
 
 // The width of the line at the place i: the first line has the page's; what a cell has, its table wrote there; any other line has what its parent
@@ -36,68 +37,58 @@ fn own_width(
 
 // Line i: its width, which is written to its place, and what it passes on, which is written to the place of its depth.
 fn step(
-    lines: &[Kept],
-    figures: &[Estimate],
+    m: Measured<'_>,
     i: usize,
     width: u32,
     walk: &mut [Option<u32>],
     passed: &mut [Option<u32>],
 ) -> Option<u32>
-    requires { LineHere lines.now figures.now walk.old passed.old i }
-    ensures { Stepped lines.now figures.now width i result
+    requires { LineHere m.lines.now m.figures.now walk.old passed.old i }
+    ensures { Stepped m.entry.lines.now m.entry.figures.now width i result
         walk.old passed.old walk.new passed.new }
 {
-    let here = lines[i];
+    let here = m.lines[i];
     let own = own_width(here, i, width, walk, passed);
-    let e = figures[i];
+    let e = m.figures[i];
     walk[i] = own;
     passed[here.depth as usize] = passing::passed_on(here.kind, e, own);
     own
 }
 
 // Whether line i ends the walk: it is too narrow, and overflow is off.
-fn ends(lines: &[Kept], figures: &[Estimate], i: usize, own: Option<u32>, overflow: u32) -> bool
-    requires { (i < length lines.now) × (i < length figures.now) }
-    ensures { result ≡ (eqb overflow 0 && too_narrow (kind_number (get_or lines.now i no_kept).kind) (get_or figures.now i none) own) }
+fn ends(m: Measured<'_>, i: usize, own: Option<u32>, overflow: u32) -> bool
+    requires { (i < length m.lines.now) × (i < length m.figures.now) }
+    ensures { result ≡ (eqb overflow 0 && too_narrow (kind_number (get_or m.entry.lines.now i no_kept).kind) (get_or m.entry.figures.now i none) own) }
 {
     if overflow != 0 {
         return false;
     }
-    let here = lines[i];
-    let e = figures[i];
+    let here = m.lines[i];
+    let e = m.figures[i];
     passing::too_narrow(here.kind, e, own)
 }
 
 // Walks the lines from the first on, where none has a width yet. A place of `passed` for each depth holds what the nearest line of that depth passes on.
 pub fn walk_lines(
-    lines: &[Kept],
-    figures: &[Estimate],
+    m: Measured<'_>,
     raw: u32,
     width: u32,
     overflow: u32,
     walk: &mut [Option<u32>],
-    entries: &mut [Entry],
-    rows: &mut [RowEnd],
-    column: &mut [u32],
-    x: &mut [u32],
-    wide: &mut [u32],
+    s: &mut Scratch<'_>,
 ) -> Result<(), Refusal>
-    requires walkable { Walkable lines.now figures.now }
     requires raw_bound { (raw ≤ 1) × (width ≤ max_size) }
-    requires cleared { Cleared (length lines.now) walk.old }
-    requires rooms { Rooms entries.old rows.old column.old x.old wide.old }
-    ensures { Walked lines.now figures.now raw width overflow result walk.new }
+    requires cleared { Cleared (length m.lines.now) walk.old }
+    ensures { Walked m.entry.lines.now m.entry.figures.now raw width overflow result walk.new }
 {
     let mut passed = [None; DEPTHS];
-    let n = lines.len();
+    let n = m.lines.len();
     for i in 0..n {
-        let own = step(lines, figures, i, width, walk, &mut passed);
-        if ends(lines, figures, i, own, overflow) {
+        let own = step(m, i, width, walk, &mut passed);
+        if ends(m, i, own, overflow) {
             return Err(Reason::TooNarrow.at((i + 1) as u32));
         }
-        crate::giving::hand_out(
-            lines, figures, i, raw, own, walk, entries, rows, column, x, wide,
-        );
+        crate::giving::hand_out(m, i, raw, own, walk, s);
     }
     Ok(())
 }

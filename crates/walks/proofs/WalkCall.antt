@@ -5,20 +5,18 @@ use Rattle.std.specs.Prelude.{Err, Ok, Result, Option, None, Some}
 use Rattle.std.specs.Option.{is_some, unwrap_or}
 use mir.Val.{bool_byte}
 use mathlib.Core.Path.{◌≡◌, refl, sym, ap, ◌∙◌}
-use mathlib.Core.Bool.{Bool, true, false, ◌||◌}
+use mathlib.Core.Bool.{Bool, true, false}
 use mathlib.Core.List.{List, [], ◌∷◌, map}
 use Prim.Native.Nat.{ℕ, ◌≤◌}
 use native.Mathlib.Omega.{arith}
-use lib.Dec.{ltb}
 use lib.ListN.{length, take}
-use borrow.Author.Tests.{ltb-false}
 use Rattle.lists.specs.Lists.{padded}
-use Rattle.lists.specs.Limits.{max_lines, max_wrap, max_width, max_size}
+use Rattle.lists.specs.Limits.{max_lines}
 use Rattle.lists.specs.Refusals.{Check, first_answer, verdict_of, passes, if_passes}
 use Rattle.text.specs.declared.Estimate.{Estimate}
 use Rattle.sheet.specs.Sheet.{sheet_lines}
 use Rattle.sheet.specs.Steps.{room_for}
-use Rattle.sheet.proofs.First.{neither, first_passes, first_accepts, figures_fail, front_pass}
+use Rattle.sheet.proofs.First.{first_passes, first_accepts, figures_fail, front_pass}
 use Rattle.opening.specs.Opening.{after_reading}
 use Rattle.arguments.specs.Arguments.{walk_arguments}
 use Rattle.arguments.proofs.Shorter.{two_fit}
@@ -101,18 +99,15 @@ pub walk_late : {v : Result (Unit {0}) Refusal} {cs : List Check} {s : List ℕ}
 unfolding first_answer early if_passes
 walk_late z f = rw z (record { answer = f.answer; few = f.few; givens = f.givens; wides = f.wides })
 
--- where the arguments are not refused, each lent buffer has room, and the settings are in their ranges
+-- where the arguments are not refused, each lent buffer has room
 fit : (wrap raw width overflow : ℕ) (v : Result (Unit {0}) Refusal) (a b : ℕ) → v ≡ verdict_of (walk_arguments wrap raw width overflow (a ∷ b ∷ [])) → v ≡ (Ok tt) → (max_lines ≤ a) × (max_lines ≤ b)
 fit wrap raw width overflow v a b judged z = two_fit max_lines a b (none_nines _ _ (sym judged ∙ z)).1
 
 pub walk_fit : (wrap raw width overflow : ℕ) (v : Result (Unit {0}) Refusal) (given wide : List ℕ) → v ≡ verdict_of (walk_arguments wrap raw width overflow (for_walk given wide)) → v ≡ (Ok tt)
-    → ((raw ≤ 1) × (width ≤ max_size)) × WalkRoom given wide
+    → WalkRoom given wide
 walk_fit wrap raw width overflow v given wide judged z =
     let (a, b) = fit wrap raw width overflow v (length given) (length wide) judged z in
-    let (n, m) = neither (ltb max_wrap wrap || ltb 1 raw || ltb max_width width) (ltb 1 overflow) (none_nines _ _ (sym judged ∙ z)).0 in
-    let (o, q) = neither (ltb max_wrap wrap || ltb 1 raw) (ltb max_width width) n in
-    let (l, t) = neither (ltb max_wrap wrap) (ltb 1 raw) o in
-    ((ltb-false 1 raw t, omega (arith, ltb-false max_width width q)), record { given_room = a; wide_room = b })
+    record { given_room = a; wide_room = b }
 
 pub walk_rooms : {s : List ℕ} (wrap raw width overflow : ℕ) {v : Result (Unit {0}) Refusal} (a b : ℕ) {r : Result ℕ Refusal} {given wide : List ℕ} (ds : List Check)
     → v ≡ verdict_of (walk_arguments wrap raw width overflow (a ∷ b ∷ [])) → WalkFound (early v ∷ ds) s wrap raw width r given wide → (lines_in r ≤ a) × (lines_in r ≤ b)

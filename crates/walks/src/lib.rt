@@ -21,14 +21,8 @@ pub fn walk(
 ) -> Result<u32, Refusal>
     ensures { WalkAnswer sheet.now wrap raw width overflow given.old wide.old result given.new wide.new }
 {
-    let settings = Settings {
-        wrap,
-        raw,
-        width,
-        overflow,
-    };
-    let asked = arguments::of_walk(settings, given.len(), wide.len());
-    let read = walking_out::find_walk(sheet, settings, asked, given, wide);
+    let asked = Settings::of_walk(wrap, raw, width, overflow, given.len(), wide.len());
+    let read = walking_out::find_walk(sheet, asked, given, wide);
     let n = sheet_figures::line_count(read);
     lists::keep_front(given, n);
     lists::keep_front(wide, n);

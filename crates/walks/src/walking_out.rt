@@ -1,7 +1,7 @@
 // The walk of a sheet, written to the lent buffers.
-ghost use Rattle.std.specs.Prelude.{◌≡◌, ◌∷◌, ◌≤◌, None};
-ghost use Rattle.lists.specs.Limits.{max_size};
+ghost use Rattle.std.specs.Prelude.{◌≡◌, ℕ, ◌∷◌, None};
 ghost use Rattle.sheet_figures.specs.inner.Early.{early};
+ghost use Rattle.arguments.specs.Asked.{Asks, verdict_in};
 ghost use Rattle.pacing.specs.inner.Found.{walked_checks};
 ghost use Rattle.walks.specs.inner.Found.{TellRoom, WalkTold, WalkRoom, WalkFound};
 
@@ -26,8 +26,7 @@ fn walk_out(
     given: &mut [u32],
     wide: &mut [u32],
 ) -> Result<usize, Refusal>
-    requires raw_bound { (settings.raw ≤ 1) × (settings.width ≤ max_size) }
-    requires walk_room { WalkRoom given.old wide.old }
+    requires { WalkRoom given.old wide.old }
     ensures { WalkFound (walked_checks None sheet.now settings.wrap settings.raw settings.width settings.overflow) sheet.now settings.wrap settings.raw settings.width result given.new wide.new }
 {
     let mut lines = [records::NO_LINE; MAX_LINES];
@@ -49,14 +48,14 @@ fn walk_out(
 // The same, unless the arguments are refused.
 pub fn find_walk(
     sheet: &[u8],
-    settings: Settings,
-    asked: Result<(), Refusal>,
+    asked: Result<Settings, Refusal>,
     given: &mut [u32],
     wide: &mut [u32],
 ) -> Result<usize, Refusal>
-    requires { asked ≡ Ok tt → ((settings.raw ≤ 1) × (settings.width ≤ max_size)) × WalkRoom given.old wide.old }
-    ensures { WalkFound (early asked ∷ walked_checks None sheet.now settings.wrap settings.raw settings.width settings.overflow) sheet.now settings.wrap settings.raw settings.width result given.new wide.new }
+    requires { verdict_in asked ≡ Ok tt → WalkRoom given.old wide.old }
+    ensures { (wrap raw width overflow : ℕ) → Asks asked wrap raw width overflow
+        → WalkFound (early (verdict_in asked) ∷ walked_checks None sheet.now wrap raw width overflow) sheet.now wrap raw width result given.new wide.new }
 {
-    asked?;
+    let settings = asked?;
     walk_out(sheet, settings, given, wide)
 }

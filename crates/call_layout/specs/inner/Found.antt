@@ -3,9 +3,8 @@ use Rattle.answers.specs.Answers.{layout_with}
 use Rattle.answers.specs.declared.Layout.{Layout}
 use Rattle.lists.specs.declared.Refusal.{Refusal}
 use Rattle.std.specs.Prelude.{◌≡◌, true, List, map, ℕ, ◌≤◌, length, take, Err, Result, Option, Some, Ok}
-use Rattle.lists.specs.Limits.{max_lines, max_entries, max_size}
+use Rattle.lists.specs.Limits.{max_lines, max_entries}
 use Rattle.lists.specs.Refusals.{Check, first_answer, passes, if_passes}
-use Rattle.arguments.specs.declared.Settings.{Settings}
 use Rattle.grid.specs.Grid.{entries_of}
 use Rattle.placing.specs.Promise.{Promised}
 use Rattle.sheet_figures.specs.Figures.{x_of, width_of, rows_at, columns_at, boxes_at, way_at, widths_at, width_at, places_at}
@@ -19,23 +18,18 @@ unfoldable pub entries_in : Result Layout Refusal → ℕ
 entries_in (Ok t) = t.entries
 entries_in (Err why) = 0
 
--- settings that the arguments' checks let pass
-pub record InRange (g : Settings) : Type 0 where
-  pub raw : g.raw ≤ 1
-  pub width : g.width ≤ max_size
-
 -- the layout found, or the first refusal; its figures stand in the first places
-pub record LayoutFound (cs : List Check) (s : List ℕ) (line : ℕ) (g : Settings) (r : Result Layout Refusal) (column x wide : List ℕ) : Type 0 where
+pub record LayoutFound (cs : List Check) (s : List ℕ) (line wrap raw width : ℕ) (r : Result Layout Refusal) (column x wide : List ℕ) : Type 0 where
   pub answer :
-      r ≡ first_answer Err (Ok (layout_with (way_at s line g.wrap g.raw g.width) (length (entries_of (rows_at s line))) (columns_at s line) (width_at s line g.wrap g.raw g.width))) cs
+      r ≡ first_answer Err (Ok (layout_with (way_at s line wrap raw width) (length (entries_of (rows_at s line))) (columns_at s line) (width_at s line wrap raw width))) cs
   pub few_columns : columns_in r ≤ max_lines
   pub few_entries : entries_in r ≤ max_entries
-  pub widths : take (columns_in r) column ≡ if_passes cs (widths_at s line g.wrap g.raw g.width)
-  pub xs : take (entries_in r) x ≡ if_passes cs (map x_of (places_at s line g.wrap g.raw g.width))
-  pub wides : take (entries_in r) wide ≡ if_passes cs (map width_of (places_at s line g.wrap g.raw g.width))
+  pub widths : take (columns_in r) column ≡ if_passes cs (widths_at s line wrap raw width)
+  pub xs : take (entries_in r) x ≡ if_passes cs (map x_of (places_at s line wrap raw width))
+  pub wides : take (entries_in r) wide ≡ if_passes cs (map width_of (places_at s line wrap raw width))
   pub promised : passes cs ≡ true →
-      Promised (columns_at s line) (boxes_at s line g.wrap) g.raw g.width (way_at s line g.wrap g.raw g.width) (widths_at s line g.wrap g.raw g.width)
+      Promised (columns_at s line) (boxes_at s line wrap) raw width (way_at s line wrap raw width) (widths_at s line wrap raw width)
 
 -- the same if short arrays did
-pub record LayoutTried (cs : List Check) (s : List ℕ) (line : ℕ) (g : Settings) (t : Option (Result Layout Refusal)) (column x wide : List ℕ) : Type 0 where
-  pub found : (r : Result Layout Refusal) → t ≡ Some r → LayoutFound cs s line g r column x wide
+pub record LayoutTried (cs : List Check) (s : List ℕ) (line wrap raw width : ℕ) (t : Option (Result Layout Refusal)) (column x wide : List ℕ) : Type 0 where
+  pub found : (r : Result Layout Refusal) → t ≡ Some r → LayoutFound cs s line wrap raw width r column x wide

@@ -13,7 +13,7 @@ use Rattle.cells.specs.declared.Cell.{Cell}
 use Rattle.cells.specs.Held.{figures, cell_by, held_line, held_span, held_rows, row_line, row_end, row_lines_of, entry_cell, entry_span}
 use Rattle.cells.specs.Listed.{all_cells, table_rows}
 use Rattle.cells.proofs.Figures.{length_figures, figures_take}
-use Rattle.rows.specs.inner.Overhangs.{overhang_by, hung_left, hung_at, hung_span}
+use Rattle.rows.specs.inner.Overhangs.{hung_left, hung_at, hung_span}
 use Rattle.positions.proofs.Thirds.{lefts_long, ats_long, wides_long}
 use Rattle.grid.proofs.Rebuilt.{map_front, held_few, listed_in, listed_ready, lined_ready}
 use Rattle.grid.proofs.Judging.{placed_stands}
@@ -72,7 +72,7 @@ position_rows-requires c =
     c.requires.sound
     (omega (arith, r.entry_room, length-map c.args.entries.now entry_cell)) (omega (arith, r.entry_room, length-map c.args.entries.now entry_span))
     (omega (arith, r.overhang_room, lefts_long c.args.overhang.now)) (omega (arith, r.overhang_room, ats_long c.args.overhang.now)) (omega (arith, r.overhang_room, wides_long c.args.overhang.now))
-    (omega (arith, r.next_room, length_figures 3 overhang_by hung_left c.args.next.now)) (omega (arith, r.next_room, length_figures 3 overhang_by hung_at c.args.next.now)) (omega (arith, r.next_room, length_figures 3 overhang_by hung_span c.args.next.now)))
+    (omega (arith, r.next_room, length-map c.args.next.now hung_left)) (omega (arith, r.next_room, length-map c.args.next.now hung_at)) (omega (arith, r.next_room, length-map c.args.next.now hung_span)))
 
 pub returns : goal.returns
 returns c =

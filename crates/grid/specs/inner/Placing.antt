@@ -5,6 +5,7 @@ use Rattle.records.specs.declared.Entry as packed
 use Rattle.records.specs.declared.RowEnd.{RowEnd}
 use Rattle.edges.specs.Edges.{rows_from, rows_ends, RowsFit}
 use Rattle.cells.specs.Cells as cells
+use Rattle.rows.specs.declared.Overhang.{Overhang}
 use Rattle.rows.specs.Row.{item_line, item_span}
 use Rattle.positions.specs.declared.Positions.{Positions}
 use Rattle.positions.specs.Positions.{all_rows, entry_count}
@@ -54,9 +55,9 @@ pub record GridStands (table : List cells.Row) (rows n columns : ℕ) (es : List
   pub row_ends_fits : take (length (grid_of table)) end ≡ row_ends 0 (grid_of table)
 
 -- the lent slices have a record for each entry, and for each of n lines
-pub record Room (n entries : ℕ) (cells overhang next : List ℕ) (es : List packed.Entry) (rows : List RowEnd) : Type 0 where
+pub record Room (n entries : ℕ) (cells overhang : List ℕ) (next : List Overhang) (es : List packed.Entry) (rows : List RowEnd) : Type 0 where
   pub cell_room : n ≤ length cells / 3
   pub overhang_room : n ≤ length overhang / 3
-  pub next_room : n ≤ length next / 3
+  pub next_room : n ≤ length next
   pub entry_room : entries ≤ length es
   pub row_room : n ≤ length rows

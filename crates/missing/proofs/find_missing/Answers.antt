@@ -1,15 +1,22 @@
 -- `missing::find_missing` meets its contract: refused for the arguments, it has no figures; else what is found in the sheet. Assumes nothing.
-use Rattle.std.proofs.Common.{rules, ◌≡◌, Err}
+use Rattle.std.proofs.Common.{rules, ◌≡◌, Err, ap}
+use Rattle.arguments.specs.Asked.{verdict_in}
 use Rattle.missing.proofs.Calls.{missing_early, missing_late}
 use Rattle.missing.proofs.find_missing.Goals as goal
 
 pub explain_sheet-requires : goal.explain_sheet-requires
-explain_sheet-requires c = let clauses = c.requires c.in_ok-asked.was in record { width_le_max_size = clauses.0; explain_room = clauses.1 }
+unfolding verdict_in
+explain_sheet-requires c = c.requires (ap verdict_in c.in_ok-settings.was)
 
-pub returns-in_err-asked : goal.returns-in_err-asked
-returns-in_err-asked c =
-    let q : c.from_residual.result ≡ Err c.in_err-asked.field-0.0 = search rules in
-    rw (q, c.in_err-asked.was) (missing_early _ _ _ _ _ _ _ _ _)
+pub returns-in_err-settings : goal.returns-in_err-settings
+unfolding verdict_in
+returns-in_err-settings c =
+    let q : c.from_residual.result ≡ Err c.in_err-settings.field-0.0 = search rules in
+    λ wrap raw width asks. rw (q, c.in_err-settings.was) (missing_early _ _ _ _ _ _ _ _ _)
 
 pub returns : goal.returns
-returns c = missing_late c.in_ok-asked.was c.explain_sheet.ensures
+unfolding verdict_in
+returns c =
+    λ wrap raw width asks.
+    let g = asks _ c.in_ok-settings.was in
+    rw (← g.wrap_is, ← g.raw_is, ← g.width_is) (missing_late (ap verdict_in c.in_ok-settings.was) c.explain_sheet.ensures)

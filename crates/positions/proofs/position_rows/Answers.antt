@@ -8,8 +8,8 @@ use native.Mathlib.Omega.{arith}
 use lib.ListN.{length, get_or, length-map, get_or-map}
 use Rattle.records.specs.Kept.{no_row}
 use Rattle.cells.specs.Held.{row_end, row_ends_of, entry_cell, entry_span}
-use Rattle.cells.proofs.Figures.{length_figures, figures_still, maps_still}
-use Rattle.rows.specs.inner.Overhangs.{overhang_by, hung_left, hung_at, hung_span}
+use Rattle.cells.proofs.Figures.{maps_still}
+use Rattle.rows.specs.inner.Overhangs.{hung_left, hung_at, hung_span}
 use Rattle.positions.proofs.RowsLoop.{end_kept, start_bounds, start, stop, cells_in_lem, few_entries, ready, small, turn, turn_bounds}
 use Rattle.positions.proofs.Thirds.{lefts_long, lefts_still, ats_still, wides_still}
 use Rattle.positions.proofs.position_rows.Goals as goal
@@ -36,7 +36,7 @@ carry-requires c =
     let o = c.one_row-hangs in
     let w = small c.requires c.loop-r.invariant.0 (more (goal.at.carry-requires c).In-loop-r) _ (end_is (goal.at.carry-requires c).In-loop-r) [] (c.loop-r.invariant.1 []) c.one_row-hangs.ensures in
     let e = cells_in_lem c.requires c.loop-r.invariant.0 (more (goal.at.carry-requires c).In-loop-r) _ (end_is (goal.at.carry-requires c).In-loop-r) in
-    (omega (arith, w, e.1, q.next_left_room, length_figures 3 overhang_by hung_left c.args.next.now, v.next_long, c.one_row-hangs.auto.next), omega (arith, w, e.1, q.left_room, lefts_long c.args.overhang.now, v.overhang_long))
+    (omega (arith, w, e.1, q.next_left_room, length-map c.args.next.now hung_left, v.next_long, c.one_row-hangs.auto.next), omega (arith, w, e.1, q.left_room, lefts_long c.args.overhang.now, v.overhang_long))
 
 pub overflow_sub-n : goal.overflow_sub-n
 overflow_sub-n c = (cells_in_lem c.requires c.loop-r.invariant.0 (more (goal.at.overflow_sub-n c).In-loop-r) _ (end_is (goal.at.overflow_sub-n c).In-loop-r)).0
@@ -59,7 +59,7 @@ loop-r-preserved c =
     let vo = c.carry.auto.overhang in (
       turn_bounds c.requires c.loop-r.invariant.0 (more (goal.at.loop-r-preserved c).In-loop-r) _ (end_is (goal.at.loop-r-preserved c).In-loop-r) [] (z []) c.one_row-hangs.ensures c.end_row.ensures.ended (maps_still entry_cell _ _ oe) (maps_still entry_span _ _ oe)
           (lefts_still c.carry.new.overhang c.loop-r.overhang vo) (ats_still c.carry.new.overhang c.loop-r.overhang vo) (wides_still c.carry.new.overhang c.loop-r.overhang vo)
-          (figures_still 3 overhang_by hung_left _ _ on) (figures_still 3 overhang_by hung_at _ _ on) (figures_still 3 overhang_by hung_span _ _ on),
+          (maps_still hung_left _ _ on) (maps_still hung_at _ _ on) (maps_still hung_span _ _ on),
       (λ row_lines. turn c.requires c.loop-r.invariant.0 (more (goal.at.loop-r-preserved c).In-loop-r) _ (end_is (goal.at.loop-r-preserved c).In-loop-r) row_lines (z row_lines) c.one_row-hangs.ensures c.carry.ensures c.end_row.ensures.ended),
       record {
         rows_long = c.end_row.auto.rows ∙ h.rows_long;

@@ -1,20 +1,15 @@
 -- `preview::at` meets its contract: the arrays have a place for each entry, and what lies at the column of the row that was found is the answer.
 -- Assumes nothing.
 use mathlib.Core.Path.{◌∙◌}
-use mathlib.Core.List.{[]}
 use native.Mathlib.Omega.{arith}
-use Rattle.preview.proofs.Calls.{in_range, spot_fits, pointed_said}
+use Rattle.preview.proofs.Calls.{spot_fits, pointed_said}
 use Rattle.preview.proofs.at.Goals as goal
 
 pub find-spot-requires : goal.find-spot-requires
-find-spot-requires c =
-    record {
-      width_le_max_size = in_range c.args.wrap c.args.raw c.args.width [] c.of_pointing-asked.ensures;
-      places_room = (record { x_room = omega arith; wide_room = omega arith });
-    }
+find-spot-requires c = record { x_room = omega arith; wide_room = omega arith }
 
 pub point_in-requires : goal.point_in-requires
-point_in-requires c = spot_fits _ c.find-spot.ensures
+point_in-requires c = spot_fits _ (c.find-spot.ensures _ _ _ c.of_pointing-asked.ensures.asks)
 
 pub returns : goal.returns
-returns c = c.point_in.ensures ∙ pointed_said _ c.find-spot.ensures c.args.x c.of_pointing-asked.ensures
+returns c = c.point_in.ensures ∙ pointed_said _ (c.find-spot.ensures _ _ _ c.of_pointing-asked.ensures.asks) c.args.x c.of_pointing-asked.ensures.verdict

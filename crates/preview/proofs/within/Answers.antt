@@ -1,21 +1,17 @@
 -- `preview::within` meets its contract: the cells of the row that was found stand in the front of the lent buffer, which is long enough where a row is
 -- found, and the rest of it is cleared. Assumes nothing.
 use native.Mathlib.Omega.{arith}
-use Rattle.preview.proofs.Calls.{in_range, spot_fits, spot_room, listed_said}
+use Rattle.preview.proofs.Calls.{spot_fits, spot_room, listed_said}
 use Rattle.preview.proofs.within.Goals as goal
 
 pub find-spot-requires : goal.find-spot-requires
-find-spot-requires c =
-    record {
-      width_le_max_size = in_range c.args.wrap c.args.raw c.args.width _ c.of_within-asked.ensures;
-      places_room = (record { x_room = omega arith; wide_room = omega arith });
-    }
+find-spot-requires c = record { x_room = omega arith; wide_room = omega arith }
 
 pub list_in-n-requires : goal.list_in-n-requires
 list_in-n-requires c =
     record {
-      spot_fits = spot_fits _ c.find-spot.ensures;
-      spot_room = spot_room _ c.find-spot.ensures c.args.entry.now c.of_within-asked.ensures;
+      spot_fits = spot_fits _ (c.find-spot.ensures _ _ _ c.of_within-asked.ensures.asks);
+      spot_room = spot_room _ (c.find-spot.ensures _ _ _ c.of_within-asked.ensures.asks) c.args.entry.now c.of_within-asked.ensures.verdict;
     }
 
 pub keep_front-requires : goal.keep_front-requires
@@ -25,4 +21,4 @@ pub counted-requires : goal.counted-requires
 counted-requires c = c.list_in-n.ensures.few
 
 pub returns : goal.returns
-returns c = rw c.counted.ensures (listed_said _ c.find-spot.ensures c.of_within-asked.ensures c.list_in-n.ensures c.list_in-n.auto.entry c.keep_front.ensures)
+returns c = rw c.counted.ensures (listed_said _ (c.find-spot.ensures _ _ _ c.of_within-asked.ensures.asks) c.of_within-asked.ensures.verdict c.list_in-n.ensures c.list_in-n.auto.entry c.keep_front.ensures)

@@ -11,7 +11,7 @@ slice_bounds-opened-count c = (settings_in_range _ _ (sym c.settings.ensures ∙
 pub slice_bounds-opened-start : goal.slice_bounds-opened-start
 slice_bounds-opened-start c = omega (arith, (settings_in_range _ _ (sym c.settings.ensures ∙ c.in-Ok.is)).sheet)
 
-pub opened-requires : goal.opened-requires
-opened-requires c =
+pub invariant_of-asked : goal.invariant_of-asked
+invariant_of-asked c =
     let r = settings_in_range _ _ (sym c.settings.ensures ∙ c.in-Ok.is) in
-    (omega (arith, r.raw), omega (arith, r.width))
+    record { raw_bound = omega (arith, r.raw); width_bound = omega (arith, r.width) }

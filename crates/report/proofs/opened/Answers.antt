@@ -11,8 +11,7 @@ walk_sheet-read-requires c =
       figures_in_bounds = omega arith;
       places_in_bounds = omega arith;
       max_position_in_bounds = omega arith;
-      raw_bound = c.requires;
     }
 
 pub told-requires : goal.told-requires
-told-requires c = read_listable _ c.walk_sheet-read.ensures (omega arith) (omega arith) (omega arith) c.requires.1
+told-requires c = read_listable _ c.walk_sheet-read.ensures (omega arith) (omega arith) (omega arith)

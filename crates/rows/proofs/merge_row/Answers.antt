@@ -10,18 +10,18 @@ use lib.ListN.{length, length-map}
 use Rattle.cells.specs.Held.{cell_by, held_line, entry_cell}
 use Rattle.cells.proofs.Figures.{length_figures}
 use Rattle.rows.specs.Row.{Item, hanging, row_from, row_of, nexts}
-use Rattle.rows.specs.inner.Overhangs.{overhang_by, hung_left}
+use Rattle.rows.specs.inner.Overhangs.{hung_left}
 use Rattle.rows.proofs.Steps.{hanging_length, put_rows, put_filler}
 use Rattle.rows.proofs.MergeLoop.{start, turn, within, stop, cells_in, cells_count, roomy, held, hung, hung_there, hung_next, held_there, held_next}
 use Rattle.rows.proofs.merge_row.Goals as goal
 use Rattle.rows.proofs.merge_row.Goals.{In-loop-n, then-due, else-due}
 
-room-here : (c : In-loop-n) → (c.loop-n.n < length c.loop-n.entries) × (c.loop-n.k < length c.loop-n.next / 3)
+room-here : (c : In-loop-n) → (c.loop-n.n < length c.loop-n.entries) × (c.loop-n.k < length c.loop-n.next)
 room-here c =
     let r = c.requires.row_room in
     let z = c.loop-n.invariant in
     let n = length_figures 3 cell_by held_line c.args.cells.now in
-    (omega (arith, n, r.lines, length-map c.args.entries.now entry_cell, c.loop-n.auto.entries), omega (arith, n, r.lefts, z.few, length_figures 3 overhang_by hung_left c.args.next.now, c.loop-n.auto.next))
+    (omega (arith, n, r.lines, length-map c.args.entries.now entry_cell, c.loop-n.auto.entries), omega (arith, n, r.lefts, z.few, length-map c.args.next.now hung_left, c.loop-n.auto.next))
 
 pub loop-n-init : goal.loop-n-init
 loop-n-init c =

@@ -1,8 +1,8 @@
 -- `put` meets its contract: an entry that takes more than one row leaves one hanging, any other none. Assumes nothing.
 use native.Mathlib.Omega.{arith}
 use Rattle.cells.specs.Held.{entry_cell, entry_span}
-use Rattle.cells.proofs.Figures.{map_set, figure_set}
-use Rattle.rows.specs.inner.Overhangs.{overhang_by, hung_left, hung_at, hung_span}
+use Rattle.cells.proofs.Figures.{map_set}
+use Rattle.rows.specs.inner.Overhangs.{hung_left, hung_at, hung_span}
 use Rattle.rows.proofs.Steps.{put_more, put_none}
 use Rattle.rows.proofs.put.Goals as goal
 
@@ -14,6 +14,5 @@ returns-then-rows-le1 c =
 pub returns : goal.returns
 returns c =
     let a = c.args in
-    let o = c.put_overhang.ensures in
-    rw (map_set entry_cell a.entries.now a.n _, map_set entry_span a.entries.now a.n _, figure_set 3 overhang_by hung_left _ _ _ _ o, figure_set 3 overhang_by hung_at _ _ _ _ o, figure_set 3 overhang_by hung_span _ _ _ _ o)
+    rw (map_set entry_cell a.entries.now a.n _, map_set entry_span a.entries.now a.n _, map_set hung_left a.next.now a.k _, map_set hung_at a.next.now a.k _, map_set hung_span a.next.now a.k _)
     (put_more _ _ _ _ _ _ _ _ (omega (arith, c.if-rows-le1.false)))

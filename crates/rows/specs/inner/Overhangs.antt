@@ -1,37 +1,30 @@
--- What hangs into a row, in three number slices, which are the thirds of one; and what hangs on, collected as records of three numbers, and one figure
--- of each. These are definitions; nothing is assumed.
-use Rattle.std.specs.Prelude.{List, [], ℕ, ◌*◌, ◌/◌, length, get_or, take, drop}
-use Rattle.records.specs.Records.{records_of}
-use Rattle.cells.specs.Held.{figures}
+-- What hangs into a row, in three number slices, which are the thirds of one; and what hangs on, collected as records, and one figure of each.
+-- These are definitions; nothing is assumed.
+use Rattle.std.specs.Prelude.{List, map, ℕ, ◌*◌, ◌/◌, length, get_or, take, drop}
 use Rattle.rows.specs.declared.Overhang.{Overhang}
 
-abbrev pub overhang_by : List ℕ → Overhang
-overhang_by r = record { left = get_or r 0 0; at = get_or r 1 0; span = get_or r 2 0 }
-
+-- what stands in a list past its end
 abbrev pub no_overhang : Overhang
-no_overhang = overhang_by []
-
-abbrev pub overhangs_of : List ℕ → List Overhang
-overhangs_of xs = records_of 3 overhang_by xs
+no_overhang = record { left = 0; at = 0; span = 0 }
 
 -- the rows that they take, their positions and their spans
 abbrev pub hung_left : Overhang → ℕ
 hung_left o = o.left
 
-abbrev pub lefts_of : List ℕ → List ℕ
-lefts_of xs = figures 3 overhang_by hung_left xs
+abbrev pub lefts_of : List Overhang → List ℕ
+lefts_of os = map hung_left os
 
 abbrev pub hung_at : Overhang → ℕ
 hung_at o = o.at
 
-abbrev pub ats_of : List ℕ → List ℕ
-ats_of xs = figures 3 overhang_by hung_at xs
+abbrev pub ats_of : List Overhang → List ℕ
+ats_of os = map hung_at os
 
 abbrev pub hung_span : Overhang → ℕ
 hung_span o = o.span
 
-abbrev pub wides_of : List ℕ → List ℕ
-wides_of xs = figures 3 overhang_by hung_span xs
+abbrev pub wides_of : List Overhang → List ℕ
+wides_of os = map hung_span os
 
 -- ---- into a row
 

@@ -1,19 +1,22 @@
 -- `sheet::finish` meets its contract. Where every table and body is seen to be filled the lines are the answer. The loop's invariant: the answer is that of the checks from the place on. A turn passes one line that is
 -- not left empty. Assumes nothing.
 use mathlib.Core.Path.{sym, ap, ◌∙◌}
-use Prim.Native.Nat.{ℕ}
+use Prim.Native.Nat.{ℕ, ◌<◌}
+use lib.ListN.{length}
 use native.Mathlib.Omega.{arith}
 use Rattle.std.specs.Prelude.{Ok, Err}
 use Rattle.sheet.proofs.Ending.{bare_length, bare_empty, ends_none, ends_start, ends_more, ends_at, ends_all}
-use Rattle.sheet.proofs.Filling.{filled_ends}
+use Rattle.sheet.proofs.Filling.{none_empty, filled_ends}
 use Rattle.sheet.proofs.finish.Goals as goal
 
 pub returns-then-n-eq0 : goal.returns-then-n-eq0
 returns-then-n-eq0 c = ap Err c.at.ensures ∙ ends_none _ (bare_length _ ∙ c.if-n-eq0.true)
 
-pub returns-then-all_filled : goal.returns-then-all_filled
-returns-then-all_filled c =
-    filled_ends c.args.lines.now (omega (arith, c.if-n-eq0.false)) (c.all_filled.ensures c.if-all_filled.true)
+pub returns-then-not-needs_child : goal.returns-then-not-needs_child
+returns-then-not-needs_child c =
+    let ls = c.args.lines.now in
+    let some : 0 < length ls = omega (arith, c.if-n-eq0.false) in
+    filled_ends ls some (none_empty ls (c.requires.none_lacking c.if-filled.true) some (sym c.needs_child.ensures ∙ c.if-not-needs_child.true))
 
 pub loop-i-init : goal.loop-i-init
 loop-i-init c = ends_start _ (omega (arith, bare_length c.args.lines.now))

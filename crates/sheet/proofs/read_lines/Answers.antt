@@ -3,9 +3,9 @@
 -- sound one is kept, and the checks go on after it. After the last line only the checks of `finish` are left. The measure is what is left of the
 -- sheet: a line has at least its line feed. Assumes nothing.
 use mathlib.Core.Path.{◌≡◌, refl, sym, ◌∙◌}
-use Prim.Native.Nat.{◌≤◌}
+use Prim.Native.Nat.{◌≤◌, ◌<◌}
 use native.Mathlib.Omega.{arith}
-use lib.ListN.{length-set}
+use lib.ListN.{length, length-set}
 use lib.Seq.{length-take-le}
 use borrow.Author.Rules.{rules}
 use Rattle.std.specs.Prelude.{Ok}
@@ -14,6 +14,7 @@ use Rattle.line.specs.LineAt.{line_at}
 use Rattle.line.specs.declared.Node.{Node}
 use Rattle.sheet.specs.Steps.{judgement_of, BriefOf}
 use Rattle.sheet.proofs.Heading.{refused_reads}
+use Rattle.sheet.proofs.Filling.{none_more, none_front}
 use Rattle.sheet.proofs.Accepted.{accepted_passed}
 use Rattle.sheet.proofs.Turns.{NextLine, turns_start, turns_refuse, turns_next, turns_more, turns_end, turns_stored}
 use Rattle.sheet.proofs.read_lines.Goals as goal
@@ -25,14 +26,14 @@ known : (c : In-Ok) → (node : Node) × (judgement_of c.loop-at.chain c.loop-at
 known c = c.judge.ensures.kept _ c.in-Ok.is
 
 next-line : (c : In-Ok) → (let b = c.in-Ok.b in NextLine c.args.bytes.now c.loop-at.at c.loop-at.n b.line.depth b.next)
-next-line c = turns_next c.loop-at.invariant c.loop-at-test.true _ (known c)
+next-line c = turns_next c.loop-at.invariant.0 c.loop-at-test.true _ (known c)
 
 pub loop-at-init : goal.loop-at-init
-loop-at-init c = turns_start _ _ c.requires.begun
+loop-at-init c = (turns_start _ _ c.requires.begun, λ e i h. absurd (omega arith))
 
 pub returns-in-Err : goal.returns-in-Err
 returns-in-Err c =
-    rw c.at.ensures (refused_reads (turns_refuse c.loop-at.invariant c.loop-at-test.true _ (c.judge.ensures.refused _ c.in-Err.is)))
+    rw c.at.ensures (refused_reads (turns_refuse c.loop-at.invariant.0 c.loop-at-test.true _ (c.judge.ensures.refused _ c.in-Err.is)))
 
 pub bounds-chain-previous : goal.bounds-chain-previous
 bounds-chain-previous c =
@@ -42,10 +43,10 @@ bounds-chain-previous c =
 pub bounds-lines-n : goal.bounds-lines-n
 bounds-lines-n c =
     let l = next-line (goal.at.bounds-lines-n c).In-Ok in
-    omega (arith, l.few, c.loop-at.invariant.same, c.requires.bytes_bound)
+    omega (arith, l.few, c.loop-at.invariant.0.same, c.requires.bytes_bound)
 
 pub overflow_add-n : goal.overflow_add-n
-overflow_add-n c = record { fits = omega (arith, c.loop-at.invariant.few, c.requires.begun.few) }
+overflow_add-n c = record { fits = omega (arith, c.loop-at.invariant.0.few, c.requires.begun.few) }
 
 pub loop-at-smaller : goal.loop-at-smaller
 loop-at-smaller c =
@@ -54,8 +55,13 @@ loop-at-smaller c =
 
 pub loop-at-preserved : goal.loop-at-preserved
 loop-at-preserved c =
-    turns_more c.loop-at.invariant c.loop-at-test.true _ (known (goal.at.loop-at-preserved c).In-Ok) _ (omega (arith, (next-line (goal.at.loop-at-preserved c).In-Ok).few, c.requires.begun.few, c.requires.bytes_bound)) (length-set _ _ _)
-    refl
+    let l = next-line (goal.at.loop-at-preserved c).In-Ok in
+    let room : c.loop-at.n < length c.args.lines.now = omega (arith, l.few, c.requires.begun.few, c.requires.bytes_bound) in (
+      turns_more c.loop-at.invariant.0 c.loop-at-test.true _ (known (goal.at.loop-at-preserved c).In-Ok) _ room (length-set _ _ _) refl,
+      λ e.
+          let s = c.still_filled-filled.ensures e in
+          none_more c.loop-at.lines c.in-Ok.b.line (c.loop-at.invariant.1 s.0) s.1 (omega (arith, room, c.loop-at.invariant.0.same)) refl,
+    )
 
 pub slice_bounds-finish-end-2 : goal.slice_bounds-finish-end-2
 slice_bounds-finish-end-2 c = sym (length-take-le _ _ (search rules))
@@ -63,11 +69,14 @@ slice_bounds-finish-end-2 c = sym (length-take-le _ _ (search rules))
 pub finish-requires : goal.finish-requires
 finish-requires c =
     let v = c.loop-at in
-    omega (arith, length-take-le v.n v.lines (search rules))
+    let h : v.n ≤ length v.lines = search rules in record {
+      lines_len_bound = omega (arith, length-take-le v.n v.lines h);
+      none_lacking = λ e. none_front v.lines h (v.invariant.1 e);
+    }
 
 pub returns : goal.returns
 returns c =
     let v = c.loop-at in
     let h = c.loop-at-test.false in
-    let answer = c.finish.ensures ∙ turns_end v.invariant h in
-    record { answer = answer; stored = λ m e. turns_stored v.invariant h m (accepted_passed _ m (sym answer ∙ e)).count }
+    let answer = c.finish.ensures ∙ turns_end v.invariant.0 h in
+    record { answer = answer; stored = λ m e. turns_stored v.invariant.0 h m (accepted_passed _ m (sym answer ∙ e)).count }

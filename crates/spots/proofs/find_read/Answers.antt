@@ -15,7 +15,6 @@ find_row-requires c =
       max_entries_in_bounds = p.max_entries_in_bounds;
       max_lines_in_bounds = p.max_lines_in_bounds;
       table_measured = p.measured_in _ e;
-      width_le_max_size = p.width_le_max_size;
       places_room = p.places_room;
     }
 

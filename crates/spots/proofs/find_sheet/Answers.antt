@@ -15,14 +15,12 @@ measure_table-read-requires c =
 
 pub find_read-requires : goal.find_read-requires
 find_read-requires c =
-    let p = c.requires in
     let w = lines_of c.measure_table-read.ensures in record {
       asked_in = asked_in w.opened (omega arith);
       max_entries_in_bounds = (omega arith, omega arith);
       max_lines_in_bounds = omega arith;
       measured_in = measured_in w (omega arith);
-      width_le_max_size = p.width_le_max_size;
-      places_room = p.places_room;
+      places_room = c.requires;
     }
 
 pub returns : goal.returns

@@ -3,11 +3,5 @@ use native.Mathlib.Omega.{arith}
 use Rattle.walking.proofs.Clear.{cleared}
 use Rattle.walking.proofs.walk.Goals as goal
 
-pub walk_lines-requires : goal.walk_lines-requires
-walk_lines-requires c =
-    record {
-      walkable = c.requires.walkable;
-      raw_bound = c.requires.raw_bound;
-      cleared = cleared _ c.args.walk.now c.fill.new.self c.requires.lines_in_bounds (c.fill.ensures.after (λ y h. grind (arith, h)));
-      rooms = c.requires.rooms;
-    }
+pub walk_lines-requires-clause-cleared : goal.walk_lines-requires-clause-cleared
+walk_lines-requires-clause-cleared c = cleared _ c.args.walk.now c.fill.new.self c.requires.lines_in_bounds (c.fill.ensures.after (λ y h. grind (arith, h)))

@@ -38,14 +38,6 @@ pub record Rooms (entries : List Entry) (rows : List RowEnd) (column x wide : Li
   pub x_room : max_entries ≤ length x
   pub wide_room : max_entries ≤ length wide
 
--- the same slices later: they keep their lengths
-pub record Kepts (entries₀ : List Entry) (rows₀ : List RowEnd) (column₀ x₀ wide₀ : List ℕ) (entries : List Entry) (rows : List RowEnd) (column x wide : List ℕ) : Type 0 where
-  pub entry_same : length entries ≡ length entries₀
-  pub row_same : length rows ≡ length rows₀
-  pub column_same : length column ≡ length column₀
-  pub x_same : length x ≡ length x₀
-  pub wide_same : length wide ≡ length wide₀
-
 -- ---- a table's cells
 
 abbrev pub cell_in : Entry → ℕ

@@ -22,7 +22,7 @@ pub measure_read-requires : goal.measure_read-requires
 measure_read-requires g c =
     let p = c.requires in
     lent_few c.open_sheet-read.ensures (omega (arith, p.lines_room)) (omega (arith, p.lines_room)) (front_table c.open_sheet-read.ensures refl) _ _ _
-    (omega (arith, p.in_range.1.column_room, c.open_sheet-read.auto.scratch)) (rw (length-replicate {A = Entry} g.row.E no_entry, length-replicate {A = RowEnd} g.row.L no_row) (c.enough.ensures.enough_in c.if-not-enough.false))
+    (omega (arith, p.out_room.column_room, c.open_sheet-read.auto.scratch)) (rw (length-replicate {A = Entry} g.row.E no_entry, length-replicate {A = RowEnd} g.row.L no_row) (c.enough.ensures.enough_in c.if-not-enough.false))
 
 pub layout_read-found-requires : goal.layout_read-found-requires
 layout_read-found-requires g c =
@@ -32,9 +32,9 @@ layout_read-found-requires g c =
       asked_in = a;
       most_in = most_room a (most_few a (c.enough.ensures.enough_in c.if-not-enough.false)) (omega arith) (omega arith);
       measured_in = measured_in w (omega (arith, p.lines_room));
-      width_le_max_size = p.in_range.0.width;
-      out_room = out_still (c.measure_read.auto.leasts ∙ c.open_sheet-read.auto.scratch) refl refl p.in_range.1;
+      width_le_max_size = c.args.settings.in_range.1;
+      out_room = out_still (c.measure_read.auto.leasts ∙ c.open_sheet-read.auto.scratch) refl refl p.out_room;
     }
 
 pub returns-clause-tried : goal.returns-clause-tried
-returns-clause-tried g c = layout_tried (layout_found _ (lines_of (table_measured c.open_sheet-read.ensures c.measure_read.ensures)) c.requires.in_range.0.raw c.layout_read-found.ensures)
+returns-clause-tried g c = layout_tried (layout_found (lines_of (table_measured c.open_sheet-read.ensures c.measure_read.ensures)) c.args.settings.in_range.0 c.layout_read-found.ensures)

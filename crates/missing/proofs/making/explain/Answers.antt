@@ -13,22 +13,22 @@ pub explain_front-count-requires : goal.explain_front-count-requires
 explain_front-count-requires c =
     let p = c.requires in
     let m = c.make-counts in
-    made_ready p.asked p.table_measured _ _ c.make-counts.ensures (omega (arith, p.max_entries_in_bounds.0, c.make-counts.auto.entries)) (omega (arith, p.max_entries_in_bounds.1, c.make-counts.auto.rows)) p.width_le_max_size p.explain_room
+    made_ready p.asked p.table_measured _ _ c.make-counts.ensures (omega (arith, p.max_entries_in_bounds.0, c.make-counts.auto.entries)) (omega (arith, p.max_entries_in_bounds.1, c.make-counts.auto.rows)) c.args.settings.in_range.1 p.explain_room
 
 pub overflow_cast-result : goal.overflow_cast-result
 overflow_cast-result c =
     let p = c.requires in
     let m = c.make-counts in
-    omega (arith, (made_few p.asked p.table_measured _ _ c.make-counts.ensures (omega (arith, p.max_entries_in_bounds.0, c.make-counts.auto.entries)) (omega (arith, p.max_entries_in_bounds.1, c.make-counts.auto.rows)) p.width_le_max_size p.explain_room c.explain_front-count.ensures).0)
+    omega (arith, (made_few p.asked p.table_measured _ _ c.make-counts.ensures (omega (arith, p.max_entries_in_bounds.0, c.make-counts.auto.entries)) (omega (arith, p.max_entries_in_bounds.1, c.make-counts.auto.rows)) c.args.settings.in_range.1 p.explain_room c.explain_front-count.ensures).0)
 
 pub overflow_cast-result-2 : goal.overflow_cast-result-2
 overflow_cast-result-2 c =
     let p = c.requires in
     let m = c.make-counts in
-    omega (arith, (made_few p.asked p.table_measured _ _ c.make-counts.ensures (omega (arith, p.max_entries_in_bounds.0, c.make-counts.auto.entries)) (omega (arith, p.max_entries_in_bounds.1, c.make-counts.auto.rows)) p.width_le_max_size p.explain_room c.explain_front-count.ensures).1)
+    omega (arith, (made_few p.asked p.table_measured _ _ c.make-counts.ensures (omega (arith, p.max_entries_in_bounds.0, c.make-counts.auto.entries)) (omega (arith, p.max_entries_in_bounds.1, c.make-counts.auto.rows)) c.args.settings.in_range.1 p.explain_room c.explain_front-count.ensures).1)
 
 pub returns : goal.returns
 returns c =
     let p = c.requires in
     let m = c.make-counts in
-    made_told p.asked p.table_measured _ _ c.make-counts.ensures (omega (arith, p.max_entries_in_bounds.0, c.make-counts.auto.entries)) (omega (arith, p.max_entries_in_bounds.1, c.make-counts.auto.rows)) p.width_le_max_size p.explain_room c.explain_front-count.ensures refl
+    made_told p.asked p.table_measured _ _ c.make-counts.ensures (omega (arith, p.max_entries_in_bounds.0, c.make-counts.auto.entries)) (omega (arith, p.max_entries_in_bounds.1, c.make-counts.auto.rows)) c.args.settings.in_range.1 p.explain_room c.explain_front-count.ensures refl

@@ -14,7 +14,6 @@ explain-causes-requires c =
       asked = p.asked_in.asked _ e;
       max_entries_in_bounds = p.max_entries_in_bounds;
       table_measured = p.measured_in _ e;
-      width_le_max_size = p.width_le_max_size;
       explain_room = p.explain_room;
     }
 

@@ -11,19 +11,17 @@ measure_table-read-requires c =
     record {
       bytes_bound = omega arith;
       bytes_in_bounds = omega arith;
-      scratch_for_any = record { leasts_room = c.requires.explain_room.cause_room; entries_room = omega arith; rows_room = omega arith };
+      scratch_for_any = record { leasts_room = c.requires.cause_room; entries_room = omega arith; rows_room = omega arith };
     }
 
 pub explain_read-requires : goal.explain_read-requires
 explain_read-requires c =
     let m = c.measure_table-read in
-    let p = c.requires in
     let w = lines_of c.measure_table-read.ensures in record {
       asked_in = asked_in w.opened (omega arith);
       max_entries_in_bounds = (omega arith, omega arith);
       measured_in = measured_in w (omega arith);
-      width_le_max_size = p.width_le_max_size;
-      explain_room = room_still refl c.measure_table-read.auto.leasts p.explain_room;
+      explain_room = room_still refl c.measure_table-read.auto.leasts c.requires;
     }
 
 pub returns : goal.returns

@@ -12,8 +12,7 @@ walk_sheet-read-requires c =
       sheet_bound = omega arith;
       figures_in_bounds = omega arith;
       places_in_bounds = omega arith;
-      max_position_in_bounds = c.requires.out_room.column_room;
-      raw_bound = c.requires.raw_bound;
+      max_position_in_bounds = c.requires.column_room;
     }
 
 pub width_for-at-requires : goal.width_for-at-requires
@@ -24,9 +23,9 @@ nest_read-requires c =
     record {
       asked_in = nest_asked c.walk_sheet-read.ensures (omega arith);
       measured_in = nest_measured c.walk_sheet-read.ensures (omega arith);
-      raw_bound = (c.requires.raw_bound.0, width_small c.walk_sheet-read.ensures _ c.width_for-at.ensures);
-      out_room = out_still c.walk_sheet-read.auto.leasts refl refl c.requires.out_room;
+      raw_bound = (c.args.settings.in_range.0, width_small c.walk_sheet-read.ensures _ c.width_for-at.ensures);
+      out_room = out_still c.walk_sheet-read.auto.leasts refl refl c.requires;
     }
 
 pub returns : goal.returns
-returns c = nest_found c.walk_sheet-read.ensures c.requires.raw_bound.0 _ c.width_for-at.ensures c.nest_read.ensures
+returns c = nest_found c.walk_sheet-read.ensures c.args.settings.in_range.0 _ c.width_for-at.ensures c.nest_read.ensures

@@ -11,7 +11,7 @@ arrange-a-requires c =
     let p = c.requires in record {
       table_ready = table_ready p.asked (any_most p.asked) _ _ p.max_entries_in_bounds.0 p.max_entries_in_bounds.1;
       table_measured = p.table_measured;
-      layout_room = arrange_room p.asked p.width_le_max_size p.max_lines_in_bounds p.places_room;
+      layout_room = arrange_room p.asked c.args.settings.in_range.1 p.max_lines_in_bounds p.places_room;
     }
 
 pub row_in-requires : goal.row_in-requires

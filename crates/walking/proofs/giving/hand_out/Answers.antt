@@ -5,13 +5,14 @@ use lib.ListN.{get_or}
 use borrow.Author.Tests.{eqb-true, eqb-false, not-true, not-false}
 use Rattle.kinds.specs.Kinds.{kind_number, table_kind}
 use Rattle.records.specs.Kept.{no_kept}
+use Rattle.walking.proofs.Merely.{walkable}
 use Rattle.walking.proofs.HandOut.{table_ready, layout_room, small_here, cells_fit, cells_room, wides_room, handed, handed_at, handed_other, handed_none}
 use Rattle.table.proofs.Grids.{all_table}
 use Rattle.walking.proofs.giving.hand_out.Goals as goal
 use Rattle.walking.proofs.giving.hand_out.Goals.{Else-ne}
 
 -- the line is a table
-is_table : (c : Else-ne) → kind_number (get_or c.args.lines.now c.args.at no_kept).kind ≡ table_kind
+is_table : (c : Else-ne) → kind_number (get_or c.args.m.lines.now c.args.at no_kept).kind ≡ table_kind
 is_table c = eqb-true _ _ (not-false _ (sym c.ne.ensures ∙ c.if-ne.false))
 
 pub returns-then-ne : goal.returns-then-ne
@@ -22,23 +23,26 @@ returns-in_default c = handed_none c.in_default.is
 
 pub arrange-arranged-requires : goal.arrange-arranged-requires
 arrange-arranged-requires c =
+    let p = walkable c.args.m.walkable in
     let kind = is_table (goal.at.arrange-arranged-requires c).Else-ne in
     let within = c.requires.hand_ready.within in
-    let rooms = c.requires.rooms in record {
-      table_ready = table_ready c.requires.walkable within kind rooms;
-      table_measured = all_table _ c.requires.walkable.measured;
-      layout_room = layout_room c.requires.walkable within kind rooms (small_here c.in-Some.is c.requires.hand_ready);
+    let rooms = c.args.s.now.rooms in record {
+      table_ready = table_ready p within kind rooms;
+      table_measured = all_table _ p.measured;
+      layout_room = layout_room p within kind rooms (small_here c.in-Some.is c.requires.hand_ready);
     }
 
 pub print_cells-requires : goal.print_cells-requires
 print_cells-requires c =
+    let p = walkable c.args.m.walkable in
     let kind = is_table (goal.at.print_cells-requires c).Else-ne in
-    cells_fit c.requires.walkable c.requires.hand_ready.within c.arrange-arranged.ensures _ _ refl (cells_room c.requires.walkable c.requires.hand_ready.within kind _ _ c.requires.rooms c.arrange-arranged.auto.entries)
-    (wides_room c.requires.walkable c.requires.hand_ready.within kind _ c.arrange-arranged.new.wide c.requires.rooms c.arrange-arranged.auto.wide) c.requires.lines_in_bounds
+    cells_fit p c.requires.hand_ready.within c.arrange-arranged.ensures _ _ refl (cells_room p c.requires.hand_ready.within kind _ _ c.args.s.now.rooms c.arrange-arranged.auto.entries)
+    (wides_room p c.requires.hand_ready.within kind _ _ c.args.s.now.rooms c.arrange-arranged.auto.wide) c.requires.lines_in_bounds
 
 pub returns : goal.returns
 returns c =
+    let p = walkable c.args.m.walkable in
     let kind = is_table (goal.at.returns c).Else-ne in
     handed_at c.in-Some.is
-    (handed c.requires.walkable c.requires.hand_ready.within c.arrange-arranged.ensures kind _ refl (wides_room c.requires.walkable c.requires.hand_ready.within kind _ c.arrange-arranged.new.wide c.requires.rooms c.arrange-arranged.auto.wide)
+    (handed p c.requires.hand_ready.within c.arrange-arranged.ensures kind _ refl (wides_room p c.requires.hand_ready.within kind _ _ c.args.s.now.rooms c.arrange-arranged.auto.wide)
     _ _ c.requires.lines_in_bounds c.print_cells.ensures)

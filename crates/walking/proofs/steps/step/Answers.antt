@@ -9,5 +9,5 @@ returns c =
     record {
       width_is = c.own_width-own.ensures;
       written = refl;
-      passes = ap (set c.args.passed.now (get_or c.args.lines.now c.args.i no_kept).depth) c.passed_on.ensures;
+      passes = ap (set c.args.passed.now (get_or c.args.m.lines.now c.args.i no_kept).depth) c.passed_on.ensures;
     }

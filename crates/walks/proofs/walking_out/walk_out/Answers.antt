@@ -10,13 +10,12 @@ walk_sheet-read-requires c =
       sheet_bound = omega arith;
       figures_in_bounds = omega arith;
       places_in_bounds = omega arith;
-      max_position_in_bounds = c.requires.walk_room.given_room;
-      raw_bound = c.requires.raw_bound;
+      max_position_in_bounds = c.requires.given_room;
     }
 
 pub tell-requires : goal.tell-requires
 tell-requires c =
-    tell_room _ c.args.sheet.now _ c.line_count.ensures (lines_few c.walk_sheet-read.ensures) (omega arith) (omega (arith, c.requires.walk_room.given_room, c.walk_sheet-read.auto.leasts)) c.requires.walk_room.wide_room
+    tell_room _ c.args.sheet.now _ c.line_count.ensures (lines_few c.walk_sheet-read.ensures) (omega arith) (omega (arith, c.requires.given_room, c.walk_sheet-read.auto.leasts)) c.requires.wide_room
 
 pub returns : goal.returns
 returns c = walk_found c.walk_sheet-read.ensures _ c.line_count.ensures c.tell.ensures
