@@ -7,9 +7,9 @@
  *   them: readable where it is const, writable where it is not. What is lent for writing need not be cleared before. (Not null even where the number
  *   is 0: the library as it is compiled does not follow such a pointer, but what is proved is about pointers that are not null.)
  * - A buffer that is lent for writing overlaps neither another buffer of the call nor the sheet, and nothing else touches it during the call.
- * - There is room on the stack. The most that was measured, on sheets that need the longest arrays: tables_nested 643,000 bytes, tables_walk 512,000,
- *   tables_at, tables_within and tables_joining 479,000, tables_missing 430,000, tables_layout 397,000, tables_estimates 368,000, tables_grid 315,000,
- *   tables_check 53,000, tables_measure 300; TABLES_STACK is enough for any call. Without it a call ends in the system's stack overflow. Nothing is
+ * - There is room on the stack. The most that was measured, on sheets that need the longest arrays: tables_nested 676,000 bytes, tables_walk 545,000,
+ *   tables_at, tables_within and tables_joining 512,000, tables_missing 462,000, tables_layout 430,000, tables_estimates 400,000, tables_grid 348,000,
+ *   tables_check 86,000, tables_measure 300; TABLES_STACK is enough for any call. Without it a call ends in the system's stack overflow. Nothing is
  *   allocated.
  *
  * There is no state outside the arguments: calls may run in several threads at once, each with buffers of its own, and a sheet may be shared.
