@@ -1,5 +1,5 @@
 // The arrays in which a sheet is read and measured, of two sizes. They are cleared with each call, and for a small sheet short ones do.
-ghost use Rattle.std.specs.Prelude.{◌*◌, ◌≡◌, false, ◌≤◌, None, ◌/◌, IsSome, Some};
+ghost use Rattle.std.specs.Prelude.{◌≡◌, ◌≤◌, None, IsSome, Some};
 ghost use Rattle.lists.specs.Limits.{max_entries, max_lines};
 ghost use Rattle.sheet.specs.Steps.{room_for};
 ghost use Rattle.opening.specs.Opening.{open_checks, opened_of};

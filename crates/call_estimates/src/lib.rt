@@ -4,13 +4,11 @@
 
 mod arrays; // the arrays to work in, by the size of the sheet
 
-ghost use Rattle.std.specs.Prelude.{◌≡◌, false, ◌∷◌, ◌≤◌, None};
-ghost use Rattle.lists.specs.Limits.{max_lines};
+ghost use Rattle.std.specs.Prelude.{◌≡◌, ◌∷◌, None};
 ghost use Rattle.lists.specs.Refusals.{verdict_of};
 ghost use Rattle.opening.specs.Opening.{open_checks};
 ghost use Rattle.sheet_figures.specs.Calls.{check_checks};
 ghost use Rattle.sheet_figures.specs.inner.Early.{early};
-ghost use Rattle.sheet_figures.specs.inner.Opened.{lines_in};
 ghost use Rattle.call_estimates.specs.Estimates.{EstimatesAnswer};
 ghost use Rattle.call_estimates.specs.inner.Found.{LinesRoom, EstimatesFound};
 

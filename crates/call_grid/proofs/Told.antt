@@ -89,9 +89,9 @@ module _ {ks : List Kept} {line : ℕ} (a : Asked ks line) where
       few_entries = grid_entries T a.sound;
       few_rows = omega (arith, rows_few, a.lined.short);
       few_columns = grid_columns T a.sound;
-      cells = told_of cell_in _ _ _ _ _ m.entries_are m.entries t.cells ∙ map_as cell_in shown_line shown (λ e. refl) (entries_of (grid_of T));
-      firsts = told_of first_in _ _ _ _ _ m.entries_are m.entries t.firsts ∙ map_as first_in first_of shown (λ e. refl) (entries_of (grid_of T));
-      spans = told_of span_in _ _ _ _ _ m.entries_are m.entries t.spans ∙ map_as span_in span_of shown (λ e. refl) (entries_of (grid_of T));
-      row_lines = told_of line_in _ _ _ _ _ m.rows_are m.rows t.row_lines ∙ ended_lines 0 (grid_of T);
-      row_ends_fits = told_of end_in _ _ _ _ _ m.rows_are m.rows t.row_ends_fits ∙ ended_ends 0 (grid_of T);
+      cells = told_of cell_in _ _ _ _ _ m.entries_are m.entries t.entries_written.cells ∙ map_as cell_in shown_line shown (λ e. refl) (entries_of (grid_of T));
+      firsts = told_of first_in _ _ _ _ _ m.entries_are m.entries t.entries_written.firsts ∙ map_as first_in first_of shown (λ e. refl) (entries_of (grid_of T));
+      spans = told_of span_in _ _ _ _ _ m.entries_are m.entries t.entries_written.spans ∙ map_as span_in span_of shown (λ e. refl) (entries_of (grid_of T));
+      row_lines = told_of line_in _ _ _ _ _ m.rows_are m.rows t.rows_written.row_lines ∙ ended_lines 0 (grid_of T);
+      row_ends_fits = told_of end_in _ _ _ _ _ m.rows_are m.rows t.rows_written.row_ends_fits ∙ ended_ends 0 (grid_of T);
     }

@@ -5,7 +5,7 @@
 mod arrays; // the arrays to work in, by the size of the sheet
 mod made; // the grid of the table in a line of a sheet that was read
 
-ghost use Rattle.std.specs.Prelude.{◌≡◌, true, ◌∷◌, Some};
+ghost use Rattle.std.specs.Prelude.{◌≡◌, ◌∷◌, Some};
 ghost use Rattle.opening.specs.Opening.{open_checks};
 ghost use Rattle.sheet_figures.specs.inner.Early.{early};
 ghost use Rattle.call_grid.specs.Grid.{GridAnswer};

@@ -1,8 +1,8 @@
 // The grid of the table in a line of a sheet that was read: made as records, and each figure of them written to its buffer.
-ghost use Rattle.std.specs.Prelude.{◌≡◌, ◌≤◌, ◌/◌, length};
+ghost use Rattle.std.specs.Prelude.{◌≡◌, ◌≤◌, length};
 ghost use Rattle.lists.specs.Limits.{max_entries, max_lines, max_position};
 ghost use Rattle.sheet_figures.specs.inner.Opened.{AskedIn, MostIn};
-ghost use Rattle.call_grid.specs.inner.Made.{answer_of, EntriesTold, GridFits, GridMade, GridTold, RowsTold};
+ghost use Rattle.call_grid.specs.inner.Made.{answer_of, EntriesWritten, GridFits, GridMade, GridTold, RowsWritten};
 
 use answers::Grid;
 use gridding::Counts;
@@ -42,7 +42,7 @@ pub fn make_read(
 // The figures of n entries, each to its buffer.
 fn write_entries(n: usize, entries: &[Entry], cell: &mut [u32], first: &mut [u32], span: &mut [u32])
     requires { (n ≤ length entries.now) × (n ≤ length cell.old) × (n ≤ length first.old) × (n ≤ length span.old) }
-    ensures { EntriesTold n entries.now cell.new first.new span.new }
+    ensures { EntriesWritten n entries.now cell.new first.new span.new }
 {
     for i in 0..n {
         cell[i] = entries[i].cell;
@@ -54,7 +54,7 @@ fn write_entries(n: usize, entries: &[Entry], cell: &mut [u32], first: &mut [u32
 // The figures of r rows, each to its buffer.
 fn write_rows(r: usize, rows: &[RowEnd], row: &mut [u32], row_end: &mut [u32])
     requires { (r ≤ length rows.now) × (r ≤ length row.old) × (r ≤ length row_end.old) }
-    ensures { RowsTold r rows.now row.new row_end.new }
+    ensures { RowsWritten r rows.now row.new row_end.new }
 {
     for i in 0..r {
         row[i] = rows[i].line;

@@ -1,5 +1,5 @@
 // The arrays in which a sheet is read and its table laid out, of two sizes. They are cleared with each call, and for a small sheet short ones do.
-ghost use Rattle.std.specs.Prelude.{◌*◌, true, ◌≤◌, Some, ◌/◌, IsSome};
+ghost use Rattle.std.specs.Prelude.{◌≤◌, Some, IsSome};
 ghost use Rattle.lists.specs.Limits.{max_entries, max_lines};
 ghost use Rattle.sheet.specs.Steps.{room_for};
 ghost use Rattle.opening.specs.Opening.{open_checks};

@@ -1,5 +1,5 @@
 // The layout of the table in a line of a sheet that was read, whose cells are measured.
-ghost use Rattle.std.specs.Prelude.{◌≡◌, ◌≤◌, ◌/◌, length};
+ghost use Rattle.std.specs.Prelude.{◌≡◌, ◌≤◌, length};
 ghost use Rattle.lists.specs.Limits.{max_entries, max_position, max_size};
 ghost use Rattle.table.specs.inner.Asked.{OutRoom};
 ghost use Rattle.sheet_figures.specs.inner.Opened.{AskedIn, MostIn, MeasuredIn};

@@ -1,5 +1,5 @@
 // The missing entries and the causes of the table in a line of a sheet, written to the lent buffers.
-ghost use Rattle.std.specs.Prelude.{true, ◌≤◌, length, Some};
+ghost use Rattle.std.specs.Prelude.{◌≤◌, length, Some};
 ghost use Rattle.lists.specs.Limits.{max_entries, max_lines};
 ghost use Rattle.opening.specs.Opening.{open_checks};
 ghost use Rattle.sheet_figures.specs.inner.Opened.{AskedIn, MeasuredIn};

@@ -1,5 +1,5 @@
 // Each table of a walked sheet, laid out and printed.
-ghost use Rattle.std.specs.Prelude.{◌≡◌, ◌≤◌, length};
+ghost use Rattle.std.specs.Prelude.{◌≤◌};
 ghost use Rattle.lists.specs.Limits.{max_lines};
 ghost use Rattle.causes.specs.inner.Fronts.{FrontReady};
 ghost use Rattle.report.specs.inner.Read.{TableAt};

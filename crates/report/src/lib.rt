@@ -4,7 +4,7 @@
 
 mod each; // each.rt: each table of a walked sheet
 
-ghost use Rattle.std.specs.Prelude.{◌≡◌, ◌≤◌, length};
+ghost use Rattle.std.specs.Prelude.{◌≤◌, length};
 ghost use Rattle.lists.specs.Limits.{max_size};
 ghost use Rattle.report.specs.inner.Read.{WalkNarrow, ReadListable};
 

@@ -47,18 +47,18 @@ pub record GridFits (n r : ℕ) (entries : List Entry) (rows : List RowEnd) (cel
   pub row_in : r ≤ length row
   pub end_in_fits : r ≤ length end
 
-pub record EntriesTold (n : ℕ) (es : List Entry) (cell first' span : List ℕ) : Type 0 where
+-- the figures of n entries stand in front
+pub record EntriesWritten (n : ℕ) (es : List Entry) (cell first' span : List ℕ) : Type 0 where
   pub cells : take n cell ≡ map cell_in (take n es)
   pub firsts : take n first' ≡ map first_in (take n es)
   pub spans : take n span ≡ map span_in (take n es)
 
-pub record RowsTold (r : ℕ) (rs : List RowEnd) (row end : List ℕ) : Type 0 where
+-- the figures of r rows stand in front
+pub record RowsWritten (r : ℕ) (rs : List RowEnd) (row end : List ℕ) : Type 0 where
   pub row_lines : take r row ≡ map line_in (take r rs)
   pub row_ends_fits : take r end ≡ map end_in (take r rs)
 
+-- those of a grid of n entries and r rows
 pub record GridTold (n r : ℕ) (es : List Entry) (rs : List RowEnd) (cell first' span row end : List ℕ) : Type 0 where
-  pub cells : take n cell ≡ map cell_in (take n es)
-  pub firsts : take n first' ≡ map first_in (take n es)
-  pub spans : take n span ≡ map span_in (take n es)
-  pub row_lines : take r row ≡ map line_in (take r rs)
-  pub row_ends_fits : take r end ≡ map end_in (take r rs)
+  pub entries_written : EntriesWritten n es cell first' span
+  pub rows_written : RowsWritten r rs row end

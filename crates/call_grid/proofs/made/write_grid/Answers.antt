@@ -8,7 +8,4 @@ pub write_rows-requires : goal.write_rows-requires
 write_rows-requires c = let r = c.requires in (r.rows_in_fits, r.row_in, r.end_in_fits)
 
 pub returns : goal.returns
-returns c =
-    let e = c.write_entries.ensures in
-    let r = c.write_rows.ensures in
-    record { cells = e.cells; firsts = e.firsts; spans = e.spans; row_lines = r.row_lines; row_ends_fits = r.row_ends_fits }
+returns c = record { entries_written = c.write_entries.ensures; rows_written = c.write_rows.ensures }
