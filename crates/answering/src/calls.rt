@@ -1,7 +1,4 @@
 // What the public calls answer of a sheet and of each of its tables, printed from the buffers that they fill: it is compared with the Rust.
-ghost use Rattle.std.specs.Prelude.{◌≤◌, length};
-ghost use Rattle.lists.specs.Limits.{max_lines};
-
 use answers::Grid;
 use kinds::Kind;
 use lists::{MAX_ENTRIES, MAX_LINES, MAX_POSITION};
@@ -41,6 +38,11 @@ fn grid_records(
     Some(grid)
 }
 
+// The first so many of a buffer.
+fn front<T>(buffer: &[T], count: u32) -> &[T] {
+    buffer.get(..count as usize).unwrap_or(buffer)
+}
+
 // Puts the columns' widths and the entries of the table on a line, whose grid says where they stand.
 fn layout_cells(
     out: &mut Output,
@@ -58,13 +60,12 @@ fn layout_cells(
     let made = grid_records(sheet, line, &mut rows, &mut entries, &mut first, &mut span);
     if let Some(grid) = made {
         let entries = Entries {
-            count: grid.rows,
-            rows: &rows,
+            rows: front(&rows, grid.rows),
             grid: &entries,
             start: x,
             extent: wide,
         };
-        cells(out, columns, column, entries);
+        cells(out, front(column, columns), entries);
     }
 }
 
@@ -96,7 +97,7 @@ fn grid_lines(out: &mut Output, line: u32, columns: u32, entries: Entries) {
     words(out, b"row cell first span\n");
     entries.put(out);
     words(out, b"row end\n");
-    row_ends(out, entries.rows, entries.count);
+    row_ends(out, entries.rows);
 }
 
 // Puts the grid of the table on a line, which no call refuses either.
@@ -108,8 +109,7 @@ pub fn grid(out: &mut Output, sheet: &[u8], line: u32) {
     let made = grid_records(sheet, line, &mut rows, &mut entries, &mut first, &mut span);
     if let Some(grid) = made {
         let entries = Entries {
-            count: grid.rows,
-            rows: &rows,
+            rows: front(&rows, grid.rows),
             grid: &entries,
             start: &first,
             extent: &span,
@@ -118,16 +118,15 @@ pub fn grid(out: &mut Output, sheet: &[u8], line: u32) {
     }
 }
 
-// Puts what is asked for of every table of a sheet, whose lines are the first n records, in the order of their lines.
-pub fn each_table<F>(out: &mut Output, kept: &[Kept], n: usize, put: F)
+// Puts what is asked for of every table of a sheet, in the order of their lines.
+pub fn each_table<F>(out: &mut Output, lines: &[Kept], put: F)
 where
     F: Fn(&mut Output, u32),
-    requires n_le_max_lines { (n ≤ max_lines) × (n ≤ length kept.now) }
     requires callable { F.IsAlwaysCallable put }
 {
-    for i in 0..n {
-        if kept[i].kind == Kind::Table {
-            put(out, (i + 1) as u32);
+    for (i, here) in (1..u32::MAX).zip(lines) {
+        if here.kind == Kind::Table {
+            put(out, i);
         }
     }
 }

@@ -16,11 +16,11 @@ pub record Given (g : Settings) (wrap raw width overflow : ℕ) : Type 0 where
   pub width_is : g.width ≡ width
   pub overflow_is : g.overflow ≡ overflow
 
--- a call asked for them, unless it is refused
+-- settings that are answered have these figures
 abbrev pub Asks : Result Settings Refusal → (wrap raw width overflow : ℕ) → Type 0
 Asks asked wrap raw width overflow = (g : Settings) → asked ≡ Ok g → Given g wrap raw width overflow
 
--- the verdict of the checks, and where they pass the settings as they were given
+-- the verdict is that of the checks, and settings that are answered have the figures that were given
 pub record Judged (cs : List Check) (wrap raw width overflow : ℕ) (asked : Result Settings Refusal) : Type 0 where
   pub verdict : verdict_in asked ≡ verdict_of cs
   pub asks : Asks asked wrap raw width overflow

@@ -2,7 +2,7 @@
 #![tactic(auto, unfolding(lists::specs::Refusals::verdict_of, lists::specs::Refusals::first_answer, crate::specs::Arguments::any_shorter))]
 
 ghost use Rattle.std.specs.Prelude.{◌≡◌, [], ◌∷◌, ◌||◌, ◌≤◌, ltb};
-ghost use Rattle.lists.specs.Limits.{max_wrap, max_width, max_size};
+ghost use Rattle.lists.specs.Limits.{max_wrap, max_width, max_lines, max_entries};
 ghost use Rattle.arguments.specs.Arguments.{any_shorter, estimates_arguments, grid_arguments, layout_arguments, missing_arguments, pointing_arguments, within_arguments, walk_settings, walk_arguments, nested_arguments};
 ghost use Rattle.lists.specs.Refusals.{check, verdict_of};
 ghost use Rattle.lists.specs.declared.Reason.TheVariants.{Setting, ShortBuffer};
@@ -17,7 +17,10 @@ pub struct Settings {
     pub raw: u32,
     pub width: u32,
     pub overflow: u32,
-    pub ghost in_range: { (raw ≤ 1) × (width ≤ max_size) },
+    pub ghost wrap_bound: { wrap ≤ max_wrap },
+    pub ghost raw_bound: { raw ≤ 1 },
+    pub ghost width_bound: { width ≤ max_width },
+    pub ghost overflow_bound: { overflow ≤ 1 },
 }
 
 // A refusal of no line, if the test holds.
@@ -56,6 +59,13 @@ fn out_of_range(wrap: u32, raw: u32, width: u32) -> bool
     wrap > MAX_WRAP || raw > 1 || width > MAX_WIDTH
 }
 
+// Whether the buffer for the columns of a layout is too short, or one of those for its entries.
+fn layout_short(column: usize, x: usize, wide: usize) -> bool
+    ensures { result ≡ (any_shorter max_lines (column ∷ []) || any_shorter max_entries (x ∷ wide ∷ [])) }
+{
+    column < MAX_LINES || x < MAX_ENTRIES || wide < MAX_ENTRIES
+}
+
 // Each gives the settings as they are given, unless they or the lengths of the lent buffers are refused.
 #[tactic(auto, unfolding(lists::specs::Refusals::verdict_of, lists::specs::Refusals::first_answer, crate::specs::Arguments::any_shorter, crate::specs::Asked::verdict_in))]
 impl Settings {
@@ -72,7 +82,7 @@ impl Settings {
         ensures { Judged (layout_arguments wrap raw width (column ∷ []) (x ∷ wide ∷ [])) wrap raw width 0 result }
     {
         let settings = Settings::of_pointing(wrap, raw, width)?;
-        let short = column < MAX_LINES || x < MAX_ENTRIES || wide < MAX_ENTRIES;
+        let short = layout_short(column, x, wide);
         refuse_if(short, Reason::ShortBuffer)?;
         Ok(settings)
     }
@@ -154,7 +164,7 @@ impl Settings {
         ensures { Judged (nested_arguments wrap raw width overflow (columns ∷ []) (starts ∷ wides ∷ [])) wrap raw width overflow result }
     {
         let settings = Settings::of_walking(wrap, raw, width, overflow)?;
-        let short = columns < MAX_LINES || starts < MAX_ENTRIES || wides < MAX_ENTRIES;
+        let short = layout_short(columns, starts, wides);
         refuse_if(short, Reason::ShortBuffer)?;
         Ok(settings)
     }

@@ -1,10 +1,10 @@
 // Sums in a cell: a text is read once, from its first byte to its last, and its value is worked out on the way.
 #![tactic(auto)]
 
-ghost use Rattle.std.specs.Prelude.{◌≡◌, ◌+◌, ◌*◌, ◌-◌, ◌≤◌, ◌<◌, unsigned_abs};
+ghost use Rattle.std.specs.Prelude.{◌≡◌, ◌≤◌, unsigned_abs};
 ghost use Rattle.sums.specs.Tree.{limit};
 ghost use Rattle.sums.specs.Grammar.{digit};
-ghost use Rattle.sums.specs.Machine.{have, operator as operator_of, total as total_by, wanted as wanted_by};
+ghost use Rattle.sums.specs.Machine.{have, operator as operator_of, total as total_by};
 ghost use Rattle.sums.specs.Answers.{values, answer_by, answer_of};
 ghost use Rattle.calc.specs.Measures.{Length, measure_of};
 ghost use Rattle.calc.specs.inner.Kept.{onto_of, place_of, room_of, opening_at, end_at, Small, Steps};
@@ -60,14 +60,6 @@ fn operator(c: u8, sum: Option<Before>, p: Option<i64>) -> Top
     Top::Want(Frame { sum, product })
 }
 
-// One more digit of a number.
-fn longer(v: u32, c: u8) -> u32
-    requires { (v < 100000000) × (48 ≤ c) }
-    ensures { result ≡ 10 * v + (c - 48) }
-{
-    10 * v + u32::from(c - b'0')
-}
-
 // A byte that is no bracket.
 fn stepped(c: u8, t: Top) -> Top
     requires { Small t }
@@ -77,14 +69,14 @@ fn stepped(c: u8, t: Top) -> Top
         Top::Wrong => Top::Wrong,
         Top::Want(f) => {
             if c.is_ascii_digit() {
-                return Top::Within(1, longer(0, c), f);
+                return Top::Within(1, u32::from(c - b'0'), f);
             }
             Top::Wrong
         }
         Top::Within(n, v, f) => {
             if c.is_ascii_digit() {
                 if n < 9 {
-                    return Top::Within(n + 1, longer(v, c), f);
+                    return Top::Within(n + 1, 10 * v + u32::from(c - b'0'), f);
                 }
                 return Top::Wrong;
             }

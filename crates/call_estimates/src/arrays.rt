@@ -1,9 +1,10 @@
 // The arrays in which a sheet is read and measured, of two sizes. They are cleared with each call, and for a small sheet short ones do.
-ghost use Rattle.std.specs.Prelude.{◌≡◌, ◌≤◌, None, IsSome, Some};
+ghost use Rattle.std.specs.Prelude.{◌≡◌, ◌≤◌, None};
 ghost use Rattle.lists.specs.Limits.{max_entries, max_lines};
 ghost use Rattle.sheet.specs.Steps.{room_for};
 ghost use Rattle.opening.specs.Opening.{open_checks, opened_of};
-ghost use Rattle.call_estimates.specs.inner.Found.{LinesRoom, FiguresFit, FiguresTold, EstimatesFound, EstimatesTried};
+ghost use Rattle.opening.specs.inner.Measures.{Decided};
+ghost use Rattle.call_estimates.specs.inner.Found.{LinesRoom, FiguresFit, FiguresWritten, EstimatesFound, EstimatesTried};
 
 use lists::{MAX_ENTRIES, MAX_LINES, Refusal, SMALL_LINES};
 use text::Estimate;
@@ -32,22 +33,14 @@ pub fn check_within(sheet: &[u8]) -> Result<usize, Refusal>
     }
 }
 
-// The three figures of each of the first n lines, each to its buffer.
-fn write_figures(
-    n: usize,
-    figures: &[Estimate],
-    size: &mut [u32],
-    least: &mut [u32],
-    prefix: &mut [u32],
-)
-    requires { FiguresFit n figures.now size.old least.old prefix.old }
-    ensures { FiguresTold n figures.now size.new least.new prefix.new }
+// The three figures of each line, in the front of its buffer.
+fn write_figures(figures: &[Estimate], size: &mut [u32], least: &mut [u32], prefix: &mut [u32])
+    requires { FiguresFit figures.now size.old least.old prefix.old }
+    ensures { FiguresWritten figures.now size.new least.new prefix.new }
 {
-    for i in 0..n {
-        size[i] = figures[i].size;
-        least[i] = figures[i].least;
-        prefix[i] = figures[i].prefix;
-    }
+    lists::write_front(figures, |e| e.size, size);
+    lists::write_front(figures, |e| e.least, least);
+    lists::write_front(figures, |e| e.prefix, prefix);
 }
 
 // The estimates of a sheet, in arrays of L lines, estimates and rows and E entries; none, if they do not suffice for the sheet's
@@ -59,34 +52,25 @@ fn estimates_in<const L: usize, const E: usize>(
     size: &mut [u32],
     least: &mut [u32],
     prefix: &mut [u32],
-) -> Option<Result<usize, Refusal>>
+) -> Result<Option<usize>, Refusal>
     requires room { room_for sheet.now ≤ L }
     requires sizes { (L ≤ max_lines) × (E ≤ max_entries) }
     requires lines_room { LinesRoom size.old least.old prefix.old }
     ensures tried { EstimatesTried (open_checks None sheet.now) sheet.now wrap result size.new least.new prefix.new }
-    ensures any { max_entries ≤ E → max_lines ≤ L → IsSome result }
+    ensures any { max_entries ≤ E → max_lines ≤ L → Decided result }
 {
     let mut lines = [records::NO_LINE; L];
     let mut figures = [estimates::NONE; L];
     let mut entries = [records::NO_ENTRY; E];
     let mut rows = [records::NO_ROW; L];
-    let read = opening::open_sheet(sheet, None, &mut lines, size);
-    if !opening::measuring::enough(read, &lines, E, L) {
-        return None;
+    let n = opening::open_sheet(sheet, None, &mut lines, size)?;
+    let lines = &lines[..n];
+    if !opening::measuring::enough(lines, E, L) {
+        return Ok(None);
     }
-    opening::measuring::measure_read(
-        read,
-        None,
-        wrap,
-        &lines,
-        &mut figures,
-        size,
-        &mut entries,
-        &mut rows,
-    );
-    let n = sheet_figures::line_count(read);
-    write_figures(n, &figures, size, least, prefix);
-    Some(read)
+    estimates::measure(wrap, lines, &mut figures, size, &mut entries, &mut rows);
+    write_figures(&figures[..n], size, least, prefix);
+    Ok(Some(n))
 }
 
 // The estimates in short arrays if they suffice, and else in long ones.
@@ -101,10 +85,11 @@ pub fn estimates_within(
     ensures { EstimatesFound (open_checks None sheet.now) sheet.now wrap result size.new least.new prefix.new }
 {
     if opening::is_small(sheet) {
-        let tried = estimates_in::<SMALL_LINES, SMALL_LINES>(sheet, wrap, size, least, prefix);
-        if let Some(read) = tried {
-            return read;
+        let tried = estimates_in::<SMALL_LINES, SMALL_LINES>(sheet, wrap, size, least, prefix)?;
+        if let Some(n) = tried {
+            return Ok(n);
         }
     }
-    estimates_in::<MAX_LINES, MAX_ENTRIES>(sheet, wrap, size, least, prefix).unwrap()
+    let tried = estimates_in::<MAX_LINES, MAX_ENTRIES>(sheet, wrap, size, least, prefix)?;
+    Ok(tried.unwrap())
 }

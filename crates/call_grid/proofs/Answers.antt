@@ -37,7 +37,7 @@ grid_early why cs s line cell first' span row end =
       firsts = refl;
       spans = refl;
       row_lines = refl;
-      row_ends_fits = refl;
+      row_ends_are = refl;
     }
 
 -- not refused for the arguments
@@ -53,7 +53,7 @@ grid_late z f =
       firsts = f.firsts;
       spans = f.spans;
       row_lines = f.row_lines;
-      row_ends_fits = f.row_ends_fits;
+      row_ends_are = f.row_ends_are;
     })
 
 -- ---- the call
@@ -108,6 +108,6 @@ module _ {s : List ℕ} {line : ℕ} {v : Result (Unit {0}) Refusal} {cell₀ fi
               firsts = leaving first₀ first' (f _) k kb b found.firsts;
               spans = leaving span₀ span (f _) k kc c found.spans;
               row_lines = leaving row₀ row (f _) l kd d found.row_lines;
-              row_ends_fits = leaving end₀ end (f _) l ke e found.row_ends_fits;
+              row_ends_are = leaving end₀ end (f _) l ke e found.row_ends_are;
             };
       }

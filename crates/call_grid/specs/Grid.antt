@@ -31,7 +31,7 @@ pub record GridLeft (cs : List Check) (g : List GridRow) (cell₀ first₀ span�
   pub firsts : first ≡ leaves cs first₀ (map first_of (entries_of g))
   pub spans : span ≡ leaves cs span₀ (map span_of (entries_of g))
   pub row_lines : row ≡ leaves cs row₀ (map row_line g)
-  pub row_ends_fits : end ≡ leaves cs end₀ (row_ends 0 g)
+  pub row_ends_are : end ≡ leaves cs end₀ (row_ends 0 g)
 
 abbrev pub GridBuffers : (s : List ℕ) (line : ℕ) (cell₀ first₀ span₀ row₀ end₀ cell first span row end : List ℕ) → Type 0
 GridBuffers s line cell₀ first₀ span₀ row₀ end₀ cell first' span row end =

@@ -1,10 +1,12 @@
 // The arrays in which a sheet is read and a grid made, of two sizes. They are cleared with each call, and for a small sheet short ones do.
-ghost use Rattle.std.specs.Prelude.{◌≤◌, Some, IsSome};
+ghost use Rattle.std.specs.Prelude.{◌≤◌, Some};
 ghost use Rattle.lists.specs.Limits.{max_entries, max_lines};
 ghost use Rattle.sheet.specs.Steps.{room_for};
 ghost use Rattle.opening.specs.Opening.{open_checks};
+ghost use Rattle.opening.specs.inner.Measures.{Decided};
 ghost use Rattle.call_grid.specs.inner.Found.{GridRoom, GridFound, GridTried};
 
+use super::made::{answer_of, write_grid};
 use answers::Grid;
 use lists::{MAX_ENTRIES, MAX_LINES, Refusal, SMALL_LINES};
 
@@ -19,26 +21,27 @@ fn grid_in<const L: usize, const E: usize>(
     span: &mut [u32],
     row: &mut [u32],
     row_end: &mut [u32],
-) -> Option<Result<Grid, Refusal>>
+) -> Result<Option<Grid>, Refusal>
     requires lines_room { room_for sheet.now ≤ L }
     requires sizes { (L ≤ max_lines) × (E ≤ max_entries) }
     requires grid_room { GridRoom cell.old first.old span.old row.old row_end.old }
     ensures tried { GridTried (open_checks (Some line) sheet.now) sheet.now line result
         cell.new first.new span.new row.new row_end.new }
-    ensures any { max_entries ≤ E → max_lines ≤ L → IsSome result }
+    ensures any { max_entries ≤ E → max_lines ≤ L → Decided result }
 {
     let mut lines = [records::NO_LINE; L];
     let mut entries = [records::NO_ENTRY; E];
     let mut rows = [records::NO_ROW; L];
-    let read = opening::open_sheet(sheet, Some(line), &mut lines, row);
-    if !opening::measuring::enough(read, &lines, E, L) {
-        return None;
+    let n = opening::open_sheet(sheet, Some(line), &mut lines, row)?;
+    let lines = &lines[..n];
+    if !opening::measuring::enough(lines, E, L) {
+        return Ok(None);
     }
-    let found = super::made::make_read(read, line, &lines, &mut entries, &mut rows);
-    let n = found.map_or(0, |grid| grid.entries as usize);
-    let r = found.map_or(0, |grid| grid.rows as usize);
-    super::made::write_grid(n, r, &entries, &rows, cell, first, span, row, row_end);
-    Some(found)
+    let at = (line - 1) as usize;
+    let counts = grid_plain::make(lines, at, &mut entries, &mut rows);
+    let grid = counts.records(&entries, &rows);
+    write_grid(grid, cell, first, span, row, row_end);
+    Ok(Some(answer_of(grid)))
 }
 
 // The grid in short arrays if they suffice, and else in long ones.
@@ -58,10 +61,11 @@ pub fn grid_within(
     if opening::is_small(sheet) {
         let tried = grid_in::<SMALL_LINES, SMALL_LINES>(
             sheet, line, cell, first, span, row, row_end,
-        );
-        if let Some(found) = tried {
-            return found;
+        )?;
+        if let Some(grid) = tried {
+            return Ok(grid);
         }
     }
-    grid_in::<MAX_LINES, MAX_ENTRIES>(sheet, line, cell, first, span, row, row_end).unwrap()
+    let tried = grid_in::<MAX_LINES, MAX_ENTRIES>(sheet, line, cell, first, span, row, row_end)?;
+    Ok(tried.unwrap())
 }

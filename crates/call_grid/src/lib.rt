@@ -3,7 +3,7 @@
 #![tactic(auto)]
 
 mod arrays; // the arrays to work in, by the size of the sheet
-mod made; // the grid of the table in a line of a sheet that was read
+mod made; // the records of a grid as the call answers them
 
 ghost use Rattle.std.specs.Prelude.{◌≡◌, ◌∷◌, Some};
 ghost use Rattle.opening.specs.Opening.{open_checks};

@@ -1,7 +1,7 @@
 -- `layout`: what is found in the sheet is what the call answers and leaves, and of it the third demand holds. Assumes nothing.
 use Rattle.answers.specs.declared.Layout.{Layout}
 use Rattle.lists.specs.declared.Refusal.{Refusal}
-use Rattle.std.specs.Prelude.{Err, Ok, Result, Some}
+use Rattle.std.specs.Prelude.{Err, Ok, Result, MatchResult, Some}
 use mathlib.Core.Path.{◌≡◌, refl, sym, ◌∙◌}
 use mathlib.Core.Bool.{true, false}
 use mathlib.Core.List.{List, [], ◌∷◌}
@@ -20,13 +20,16 @@ use Rattle.call_layout.specs.inner.Found.{columns_in, entries_in, LayoutFound}
 use Rattle.arguments.specs.Arguments.{any_shorter, layout_arguments}
 use Rattle.call_layout.specs.Layout.{layout_checks, laid_out_of, LayoutAnswer}
 use Rattle.sheet_figures.specs.inner.Early.{early}
+use Rattle.arguments.specs.declared.Settings.{Settings}
+use Rattle.arguments.specs.Asked.{Asks, verdict_in}
+use Rattle.arguments.proofs.Opened.{opened}
 use Rattle.arguments.proofs.Shorter.{two_fit, or_false}
 use Rattle.sheet_figures.proofs.Early.{early_nines, none_nines, fits, leaving}
 
 -- ---- before the sheet is read
 
 -- refused for the arguments
-pub layout_early : (why : Refusal) (cs : List Check) (s : List ℕ) (line wrap raw width : ℕ) (column x wide : List ℕ)
+layout_early : (why : Refusal) (cs : List Check) (s : List ℕ) (line wrap raw width : ℕ) (column x wide : List ℕ)
     → LayoutFound (early (Err why) ∷ cs) s line wrap raw width (Err why) column x wide
 unfolding first_answer early passes if_passes columns_in entries_in
 layout_early why cs s line wrap raw width column x wide =
@@ -41,11 +44,11 @@ layout_early why cs s line wrap raw width column x wide =
     }
 
 -- not refused for the arguments
-pub layout_late : {v : Result (Unit {0}) Refusal} {cs : List Check} {s : List ℕ} {line wrap raw width : ℕ} {r : Result Layout Refusal} {column x wide : List ℕ} → v ≡ (Ok tt)
-    → LayoutFound cs s line wrap raw width r column x wide → LayoutFound (early v ∷ cs) s line wrap raw width r column x wide
+layout_late : {cs : List Check} {s : List ℕ} {line wrap raw width : ℕ} {r : Result Layout Refusal} {column x wide : List ℕ}
+    → LayoutFound cs s line wrap raw width r column x wide → LayoutFound (early (Ok tt) ∷ cs) s line wrap raw width r column x wide
 unfolding first_answer early passes if_passes
-layout_late z f =
-    rw z (record {
+layout_late f =
+    record {
       answer = f.answer;
       few_columns = f.few_columns;
       few_entries = f.few_entries;
@@ -53,7 +56,14 @@ layout_late z f =
       xs = f.xs;
       wides = f.wides;
       promised = f.promised;
-    })
+    }
+
+pub layout_opened : {asked : Result Settings Refusal} {cs : List Check} {s : List ℕ} {line wrap raw width : ℕ} {r : Result Layout Refusal} {column x wide : List ℕ}
+    → Asks asked wrap raw width 0 → MatchResult asked (λ g. LayoutFound cs s line g.wrap g.raw g.width r column x wide) (λ why. r ≡ Err why)
+    → LayoutFound (early (verdict_in asked) ∷ cs) s line wrap raw width r column x wide
+layout_opened {asked} {cs} {s} {line} {wrap} {raw} {width} {r} {column} {x} {wide} =
+    opened (λ v q. LayoutFound (early v ∷ cs) s line wrap raw width q column x wide) (λ p q l o. LayoutFound cs s line p q l r column x wide)
+    asked (λ why. layout_early why cs s line wrap raw width column x wide) layout_late
 
 -- ---- the call
 

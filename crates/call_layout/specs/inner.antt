@@ -1,3 +1,3 @@
 -- What the functions within the call take and promise.
 pub mod Found
-pub mod Read
+pub mod Made

@@ -1,14 +1,17 @@
 // The arrays in which a sheet is read and its table laid out, of two sizes. They are cleared with each call, and for a small sheet short ones do.
-ghost use Rattle.std.specs.Prelude.{◌≤◌, Some, IsSome};
+ghost use Rattle.std.specs.Prelude.{◌≤◌, Some};
 ghost use Rattle.lists.specs.Limits.{max_entries, max_lines};
 ghost use Rattle.sheet.specs.Steps.{room_for};
 ghost use Rattle.opening.specs.Opening.{open_checks};
 ghost use Rattle.table.specs.inner.Asked.{OutRoom};
+ghost use Rattle.opening.specs.inner.Measures.{Decided};
 ghost use Rattle.call_layout.specs.inner.Found.{LayoutFound, LayoutTried};
 
+use super::read::layout_of;
 use answers::Layout;
 use arguments::Settings;
 use lists::{MAX_ENTRIES, MAX_LINES, Refusal, SMALL_LINES};
+use table::MeasuredTable;
 
 // The layout of the table in a line of a sheet, in arrays of L lines, estimates and rows and E entries; none, if they do not suffice for the sheet's
 // tables. `column` is scratch until it is written. It is never taken into its caller's frame: so a small sheet does
@@ -21,37 +24,40 @@ fn layout_in<const L: usize, const E: usize>(
     column: &mut [u32],
     x: &mut [u32],
     wide: &mut [u32],
-) -> Option<Result<Layout, Refusal>>
+) -> Result<Option<Layout>, Refusal>
     requires lines_room { room_for sheet.now ≤ L }
     requires sizes { (L ≤ max_lines) × (E ≤ max_entries) }
     requires out_room { OutRoom column.old x.old wide.old }
     ensures tried { LayoutTried (open_checks (Some line) sheet.now) sheet.now line settings.wrap settings.raw settings.width result
         column.new x.new wide.new }
-    ensures any { max_entries ≤ E → max_lines ≤ L → IsSome result }
+    ensures any { max_entries ≤ E → max_lines ≤ L → Decided result }
 {
     let mut lines = [records::NO_LINE; L];
     let mut figures = [estimates::NONE; L];
     let mut entries = [records::NO_ENTRY; E];
     let mut rows = [records::NO_ROW; L];
-    let read = opening::open_sheet(sheet, Some(line), &mut lines, column);
-    if !opening::measuring::enough(read, &lines, E, L) {
-        return None;
+    let n = opening::open_sheet(sheet, Some(line), &mut lines, column)?;
+    let lines = &lines[..n];
+    if !opening::measuring::enough(lines, E, L) {
+        return Ok(None);
     }
-    opening::measuring::measure_read(
-        read,
-        Some(line),
+    let at = (line - 1) as usize;
+    estimates::measure_below(
         settings.wrap,
-        &lines,
+        lines,
+        at,
         &mut figures,
         column,
         &mut entries,
         &mut rows,
     );
-    let found = super::read::layout_read(
-        read,
-        line,
-        &lines,
-        &figures,
+    let t = MeasuredTable {
+        lines,
+        figures: &figures,
+        at,
+    };
+    let layout = layout_of(
+        t,
         settings.raw,
         settings.width,
         &mut entries,
@@ -60,7 +66,7 @@ fn layout_in<const L: usize, const E: usize>(
         x,
         wide,
     );
-    Some(found)
+    Ok(Some(layout))
 }
 
 // The layout in short arrays if they suffice, and else in long ones.
@@ -77,10 +83,11 @@ pub fn layout_within(
         column.new x.new wide.new }
 {
     if opening::is_small(sheet) {
-        let tried = layout_in::<SMALL_LINES, SMALL_LINES>(sheet, line, settings, column, x, wide);
-        if let Some(found) = tried {
-            return found;
+        let tried = layout_in::<SMALL_LINES, SMALL_LINES>(sheet, line, settings, column, x, wide)?;
+        if let Some(layout) = tried {
+            return Ok(layout);
         }
     }
-    layout_in::<MAX_LINES, MAX_ENTRIES>(sheet, line, settings, column, x, wide).unwrap()
+    let tried = layout_in::<MAX_LINES, MAX_ENTRIES>(sheet, line, settings, column, x, wide)?;
+    Ok(tried.unwrap())
 }

@@ -3,13 +3,12 @@
 #![tactic(auto)]
 
 mod arrays; // the arrays to work in, by the size of the sheet
-pub mod read; // the table in a line of a sheet that was read
+pub mod read; // one table of an accepted sheet
 
-ghost use Rattle.std.specs.Prelude.{◌≡◌, ℕ, ◌∷◌, Some};
+ghost use Rattle.std.specs.Prelude.{◌≡◌, MatchResult, Some, Ok, Err};
 ghost use Rattle.table.specs.inner.Asked.{OutRoom};
 ghost use Rattle.opening.specs.Opening.{open_checks};
-ghost use Rattle.sheet_figures.specs.inner.Early.{early};
-ghost use Rattle.arguments.specs.Asked.{Asks, verdict_in};
+ghost use Rattle.arguments.specs.Asked.{verdict_in};
 ghost use Rattle.call_layout.specs.Layout.{LayoutAnswer};
 ghost use Rattle.call_layout.specs.inner.Found.{LayoutFound};
 
@@ -18,6 +17,7 @@ use arguments::Settings;
 use lists::Refusal;
 
 // What is found in the sheet, unless the arguments are refused.
+#[tactic(auto, unfolding(arguments::specs::Asked::verdict_in))]
 fn find_layout(
     sheet: &[u8],
     line: u32,
@@ -27,9 +27,9 @@ fn find_layout(
     wide: &mut [u32],
 ) -> Result<Layout, Refusal>
     requires { verdict_in asked ≡ Ok tt → OutRoom column.old x.old wide.old }
-    ensures { (wrap raw width : ℕ) → Asks asked wrap raw width 0
-        → LayoutFound (early (verdict_in asked) ∷ open_checks (Some line) sheet.now) sheet.now line wrap raw width result
-        column.new x.new wide.new }
+    ensures { MatchResult asked
+        (λ g. LayoutFound (open_checks (Some line) sheet.now) sheet.now line g.wrap g.raw g.width result column.new x.new wide.new)
+        (λ why. result ≡ Err why) }
 {
     let settings = asked?;
     arrays::layout_within(sheet, line, settings, column, x, wide)

@@ -1,11 +1,9 @@
 -- The room for the columns' figures, and the causes that are written of the figures told: they are the causes of the table's columns.
 -- Assumes nothing.
-use mathlib.Core.Path.{◌≡◌, sym, ap, ◌∙◌}
+use mathlib.Core.Path.{◌≡◌, ap, ◌∙◌}
 use mathlib.Core.List.{List}
 use Prim.Native.Nat.{ℕ}
-use native.Mathlib.Omega.{arith}
-use lib.ListN.{length, take}
-use lib.Seq.{length-take-le}
+use lib.ListN.{length}
 use Rattle.text.specs.declared.Estimate.{Estimate}
 use Rattle.records.specs.declared.Entry.{Entry}
 use Rattle.columns.specs.Columns.{up_to}
@@ -13,9 +11,8 @@ use Rattle.widths.specs.Widths.{final_widths}
 use Rattle.answers.specs.declared.Way.{Way}
 use Rattle.widths.specs.declared.Laid.{Laid}
 use Rattle.sizing.specs.Sizing.{sizes_in, leasts_in}
-use Rattle.sizing.specs.inner.Room.{Entered}
-use Rattle.causes.specs.inner.Telling.{Tellable, Told, number_at}
-use Rattle.causes.specs.inner.Fronts.{finals_in, causes_in, ColumnRoom}
+use Rattle.causes.specs.inner.Telling.{Told, number_at}
+use Rattle.causes.specs.inner.Tables.{finals_in, causes_in}
 
 pub causes_told : {es : List Entry} {figures : List Estimate} {c m raw width : ℕ} {sizes leasts shares column cause : List ℕ} {r : Laid}
     → Told es figures c raw width sizes leasts shares column r → m ≡ c → cause ≡ up_to (length sizes) (number_at width sizes shares column)
@@ -25,20 +22,3 @@ causes_told {es} {figures} {c} {m} {raw} {width} {column = column} {r = r} t q e
   where
     column_is : column ≡ finals_in es figures c raw width
     column_is = t.laid.wide_are ∙ ap (λ (w : Way). final_widths w (sizes_in es figures c) (leasts_in es figures c) width) t.laid.way_is
-
--- the fronts of the room have the lengths that are asked for
-pub room_tellable : {es : List Entry} {figures : List Estimate} {sizes leasts shares column cause : List ℕ} → Entered es figures (length cause)
-    → ColumnRoom sizes leasts shares column cause
-    → Tellable es figures (take (length cause) sizes) (take (length cause) leasts) (take (length cause) shares) (take (length cause) column)
-    × (length cause ≡ length (take (length cause) column))
-room_tellable {sizes = sizes} {leasts = leasts} {shares = shares} {column = column} {cause = cause} t p =
-    let k = length-take-le (length cause) column p.column_room in (
-      record {
-        entered = rw k t;
-        few = omega (arith, k, p.few);
-        sizes_length = length-take-le (length cause) sizes p.sizes_room ∙ sym k;
-        leasts_length = length-take-le (length cause) leasts p.leasts_room ∙ sym k;
-        shares_length = length-take-le (length cause) shares p.shares_room ∙ sym k;
-      },
-      sym k,
-    )

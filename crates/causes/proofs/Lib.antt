@@ -1,4 +1,3 @@
-pub mod Telling
 pub mod Listing
 pub mod Missed
 pub mod Columns

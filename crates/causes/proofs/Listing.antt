@@ -38,9 +38,6 @@ module _ {es : List Entry} {cause missing₀ : List ℕ} (p : Listable es cause 
   abbrev bs : List Box
   bs = bare_boxes es
 
-  pub list_start : Sofar es cause missing₀ missing₀ 0 0
-  list_start = record { at_most = omega arith; fewer = omega arith; as_long = refl; rest = refl }
-
   module _ {missing : List ℕ} {n i : ℕ} (z : Sofar es cause missing₀ missing n i) where
     pub list_stop : length es ≤ i → Listed es cause missing n
     unfolding hidden_from

@@ -1,7 +1,7 @@
 // Why a column of a table is 0 wide and which entries are missing, for those who teach which cells can go missing. The Rust has no counterpart.
 #![tactic(auto)]
 
-pub mod fronts; // those of a table whose records stand in the front of slices
+pub mod tables; // those of one table
 
 ghost use Rattle.std.specs.Prelude.{◌≡◌, length};
 ghost use Rattle.columns.specs.Columns.{up_to};

@@ -1,9 +1,6 @@
--- Cells as records of three numbers each in one slice, and one figure of each: of cells, of rows and of entries.
--- These are definitions; nothing is assumed.
+-- Cells as records of three numbers each in one slice, and one figure of each. These are definitions; nothing is assumed.
 use Rattle.std.specs.Prelude.{List, [], map, ℕ, get_or}
 use Rattle.records.specs.Records.{records_of}
-use Rattle.records.specs.declared.Entry.{Entry}
-use Rattle.records.specs.declared.RowEnd.{RowEnd}
 use Rattle.cells.specs.declared.Cell.{Cell}
 
 abbrev pub cell_by : List ℕ → Cell
@@ -19,7 +16,7 @@ cells_of xs = records_of 3 cell_by xs
 unfoldable pub figures : {A : Type 0} → ℕ → (List ℕ → A) → (A → ℕ) → List ℕ → List ℕ
 figures w make figure xs = map figure (records_of w make xs)
 
--- of cells: their lines, the columns that they span, and the rows that they take
+-- the lines of cells, the columns that they span, and the rows that they take
 abbrev pub held_line : Cell → ℕ
 held_line c = c.line
 
@@ -37,29 +34,3 @@ held_rows c = c.rows
 
 abbrev pub rowspans_of : List ℕ → List ℕ
 rowspans_of xs = figures 3 cell_by held_rows xs
-
--- of rows: their lines, and where they end
-abbrev pub row_line : RowEnd → ℕ
-row_line r = r.line
-
-abbrev pub row_lines_of : List RowEnd → List ℕ
-row_lines_of rs = map row_line rs
-
-abbrev pub row_end : RowEnd → ℕ
-row_end r = r.end
-
-abbrev pub row_ends_of : List RowEnd → List ℕ
-row_ends_of rs = map row_end rs
-
--- of entries: the lines of their cells, and their spans
-abbrev pub entry_cell : Entry → ℕ
-entry_cell e = e.cell
-
-abbrev pub entry_cells_of : List Entry → List ℕ
-entry_cells_of es = map entry_cell es
-
-abbrev pub entry_span : Entry → ℕ
-entry_span e = e.span
-
-abbrev pub entry_spans_of : List Entry → List ℕ
-entry_spans_of es = map entry_span es

@@ -6,7 +6,8 @@ ghost use Rattle.lists.specs.Limits.{max_lines};
 ghost use Rattle.records.specs.Kept.{no_kept};
 ghost use Rattle.cells.specs.Cells.{row_sum, taken};
 ghost use Rattle.cells.specs.Listed.{table_rows, ListingReady, TableListed};
-ghost use Rattle.cells.specs.Held.{no_cell, cells_of, lines_of, spans_of, rowspans_of, row_lines_of, row_ends_of};
+ghost use Rattle.cells.specs.Held.{no_cell, cells_of, lines_of, spans_of, rowspans_of};
+ghost use Rattle.records.specs.Figures.{row_lines_of, row_ends_of};
 ghost use Rattle.cells.specs.Spans.{bare, part, rows_at, Narrow, BodyHeld, LargestSum, RowsHeld, RowEnded, RowResolved, BodyRows, BodyResolved};
 
 use records::{Kept, RowEnd};
@@ -116,8 +117,7 @@ fn widest_row(cells: &[u32], rows: &[RowEnd], first: usize) -> u32
 {
     let mut most: u32 = 0;
     let mut from = first;
-    for j in 0..rows.len() {
-        let row = rows[j];
+    for row in rows {
         let to = row.end as usize;
         most = most.max(row_sum(&cells[3 * from..3 * to]));
         from = to;
@@ -136,8 +136,7 @@ fn resolve_rows(cells: &mut [u32], rows: &[RowEnd], first: usize, most: u32)
 {
     let count = rows.len();
     let mut from = first;
-    for j in 0..count {
-        let row = rows[j];
+    for (j, row) in rows.iter().enumerate() {
         let to = row.end as usize;
         let sum = row_sum(&cells[3 * from..3 * to]);
         let left = (count - j - 1) as u32;

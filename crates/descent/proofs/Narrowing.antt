@@ -39,11 +39,12 @@ use Rattle.walking.proofs.Smaller.{most_printed, table_low}
 use Rattle.descent.specs.Descent.{StandsIn, Narrowing}
 use Rattle.descent.proofs.Standing.{up}
 use Rattle.descent.proofs.Sources.{page_width, from_parent, from_table, row_width, none_on}
+use Rattle.kinds.specs.declared.Kind.{Kind}
 
 -- ---- one line
 
 -- a line that is not too narrow passes on no more than it has
-passed_less : (kind : ℕ) (e : Estimate) (v x : ℕ) → too_narrow kind e (Some v) ≡ false → passed_on kind e (Some v) ≡ Some x → x ≤ v
+passed_less : (kind : Kind) (e : Estimate) (v x : ℕ) → too_narrow kind e (Some v) ≡ false → passed_on kind e (Some v) ≡ Some x → x ≤ v
 unfolding passed_on too_narrow
 passed_less kind e v x = go (takes_off kind)
   where
@@ -93,8 +94,8 @@ module _ (wrap raw root : ℕ) {ks : List Kept} (w : Sheet ks) (sound : (t : ℕ
       e : Estimate
       e = get_or (estimates wrap ks) p none
 
-      kind : ℕ
-      kind = kind_number (get_or ks p no_kept).kind
+      kind : Kind
+      kind = (get_or ks p no_kept).kind
 
       go : Dec (kind_number (get_or ks i no_kept).kind ≡ cell_kind) → x ≤ v
       go (yes c) =

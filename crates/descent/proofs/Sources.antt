@@ -22,18 +22,19 @@ use Rattle.walking.specs.inner.Steps.{CellIn}
 use Rattle.walking.proofs.Lines.{walk_last, walk_stays, nearest_is, InTable, cell_table, cell_nearest}
 use Rattle.descent.specs.Descent.{StandsIn}
 use Rattle.descent.proofs.Standing.{of_parent, stands_on}
+use Rattle.kinds.specs.declared.Kind.{Kind}
 
 -- a line that takes off nothing passes on what it has
-all_on : (kind : ℕ) (e : Estimate) (w : Option ℕ) → takes_off kind ≡ false → passed_on kind e w ≡ w
+all_on : (kind : Kind) (e : Estimate) (w : Option ℕ) → takes_off kind ≡ false → passed_on kind e w ≡ w
 unfolding passed_on
 all_on kind e None n = refl
 all_on kind e (Some w) n = rw n
 
-off_table : (kind : ℕ) → kind ≡ table_kind → takes_off kind ≡ false
+off_table : (kind : Kind) → kind_number kind ≡ table_kind → takes_off kind ≡ false
 unfolding takes_off
 off_table kind e = rw e
 
-off_body : (kind : ℕ) → kind ≡ body_kind → takes_off kind ≡ false
+off_body : (kind : Kind) → kind_number kind ≡ body_kind → takes_off kind ≡ false
 unfolding takes_off
 off_body kind e = rw e
 
@@ -55,14 +56,14 @@ module _ (wrap raw root : ℕ) {ks : List Kept} (w : Sheet ks) where
   page_width = own 0 w.some
 
   pub from_parent : (p i : ℕ) → Parent ks p i → (kind_number (get_or ks i no_kept).kind ≡ cell_kind → ⊥)
-      → get_or (walk wrap raw root ks) i None ≡ passed_on (kind_number (get_or ks p no_kept).kind) (get_or (estimates wrap ks) p none) (get_or (walk wrap raw root ks) p None)
+      → get_or (walk wrap raw root ks) i None ≡ passed_on (get_or ks p no_kept).kind (get_or (estimates wrap ks) p none) (get_or (walk wrap raw root ks) p None)
   unfolding line_width
   from_parent p i r n =
       own i r.within
       ∙ rw (ne_eqb i 0 (λ e. omega (arith, r.before)), ne_eqb (kind_number (get_or ks i no_kept).kind) cell_kind n)
       (nearest_is (passed_by wrap ks (F i)) ks ((get_or ks i no_kept).depth - 1) i p r.before (omega (arith, r.deeper))
       (λ k a b e. omega (arith, r.between k a b, r.deeper))
-      ∙ ap (passed_on (kind_number (get_or ks p no_kept).kind) (get_or (estimates wrap ks) p none)) (front i p r.before (omega (arith, r.within))))
+      ∙ ap (passed_on (get_or ks p no_kept).kind (get_or (estimates wrap ks) p none)) (front i p r.before (omega (arith, r.within))))
 
   pub from_table : (i : ℕ) → kind_number (get_or ks i no_kept).kind ≡ cell_kind → (c : InTable ks i)
       → get_or (walk wrap raw root ks) i None ≡ cell_width wrap raw ks c.table (get_or (walk wrap raw root ks) c.table None) i
@@ -105,9 +106,9 @@ module _ (wrap raw root : ℕ) {ks : List Kept} (w : Sheet ks) where
     pub row_width : get_or (walk wrap raw root ks) p None ≡ get_or (walk wrap raw root ks) t None
     row_width =
         from_parent body.0 p body.1 (λ e. omega (arith, row_kind_lem))
-        ∙ all_on (kind_number (get_or ks body.0 no_kept).kind) (get_or (estimates wrap ks) body.0 none) (W body.0) (off_body (kind_number (get_or ks body.0 no_kept).kind) body_kind_lem)
+        ∙ all_on (get_or ks body.0 no_kept).kind (get_or (estimates wrap ks) body.0 none) (W body.0) (off_body (get_or ks body.0 no_kept).kind body_kind_lem)
         ∙ from_parent t body.0 body_in (λ e. omega (arith, body_kind_lem))
-        ∙ all_on (kind_number (get_or ks t no_kept).kind) (get_or (estimates wrap ks) t none) (W t) (off_table (kind_number (get_or ks t no_kept).kind) c.0)
+        ∙ all_on (get_or ks t no_kept).kind (get_or (estimates wrap ks) t none) (W t) (off_table (get_or ks t no_kept).kind c.0)
 
   -- what has no width passes on none
   pub none_on : (p i : ℕ) → Parent ks p i → get_or (walk wrap raw root ks) p None ≡ None → get_or (walk wrap raw root ks) i None ≡ None
@@ -120,4 +121,4 @@ module _ (wrap raw root : ℕ) {ks : List Kept} (w : Sheet ks) where
           from_table i c t
           ∙ ap (λ (u : Option ℕ). cell_width wrap raw ks t.table u i) (sym (row_width p i t.table r t.cell) ∙ q)
       go (no c) =
-          from_parent p i r c ∙ ap (passed_on (kind_number (get_or ks p no_kept).kind) (get_or (estimates wrap ks) p none)) q
+          from_parent p i r c ∙ ap (passed_on (get_or ks p no_kept).kind (get_or (estimates wrap ks) p none)) q

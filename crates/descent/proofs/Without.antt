@@ -22,9 +22,10 @@ use Rattle.walking.proofs.Lines.{one_table, cell_table}
 use Rattle.descent.specs.Descent.{StandsIn, MissingCell, InMissing, WithoutWidth}
 use Rattle.descent.proofs.Standing.{of_parent, stands_on, up}
 use Rattle.descent.proofs.Sources.{page_width, from_parent, from_table, row_width, none_on}
+use Rattle.kinds.specs.declared.Kind.{Kind}
 
 -- what has a width passes one on
-some_on : (kind : ℕ) (e : Estimate) (v : ℕ) → passed_on kind e (Some v) ≡ None → ⊥
+some_on : (kind : Kind) (e : Estimate) (v : ℕ) → passed_on kind e (Some v) ≡ None → ⊥
 unfolding passed_on
 some_on kind e v q = let z : ◌≡◌ {A = ℕ} 0 1 = cc in omega arith
 
@@ -92,8 +93,8 @@ module _ (wrap raw root : ℕ) {ks : List Kept} (w : Sheet ks) where
             inside = inl refl;
           }
       go (no c) =
-          absurd (some_on (kind_number (get_or ks p no_kept).kind) (get_or (estimates wrap ks) p none) v
-          (ap (passed_on (kind_number (get_or ks p no_kept).kind) (get_or (estimates wrap ks) p none)) (sym a) ∙ sym (from_parent wrap raw root w p i r c) ∙ b))
+          absurd (some_on (get_or ks p no_kept).kind (get_or (estimates wrap ks) p none) v
+          (ap (passed_on (get_or ks p no_kept).kind (get_or (estimates wrap ks) p none)) (sym a) ∙ sym (from_parent wrap raw root w p i r c) ∙ b))
 
   then_missing : (n i : ℕ) → i < n → i < length ks → get_or (walk wrap raw root ks) i None ≡ None → InMissing wrap raw root ks i
   then_missing zero i h l b = absurd (not-suc-le-zero h)

@@ -20,7 +20,7 @@ use Rattle.octets.proofs.Standing.{stand, joined}
 use Rattle.kinds.specs.declared.Kind.{Kind}
 use Rattle.kinds.specs.declared.Kind.TheVariants.{Text, Table, Body, Row, Cell}
 use Rattle.kinds.specs.Kinds.{kind_number, kind_at, same, place, kind_of, img_kind, calc_kind}
-use Rattle.records.specs.Kept.{cell}
+use Rattle.records.specs.Kept.{kept_cell}
 use Rattle.records.specs.declared.Kept.{Kept}
 use Rattle.fields.specs.Blanks.{until_blank, blank}
 use Rattle.fields.specs.Numbers.{up_to}
@@ -56,7 +56,7 @@ text_end = 116 ∷ 32 ∷ 48 ∷ 32 ∷ 48 ∷ 32 ∷ 48 ∷ 32 ∷ []
 -- a number that is ` 0 0 0 ` and a line feed with one digit more for cols and one for rows
 pub cell_ends : {s : List ℕ} {at depth r : ℕ} → Eight s at r → 729636054438522912 ≤ r → (r - 729636054438522912) % 16777216 ≡ 0
     → (r - 729636054438522912) / 16777216 % 65536 ≤ 9 → (r - 729636054438522912) / 16777216 / 65536 ≤ 9 → (l : Kept)
-    → l ≡ cell depth ((r - 729636054438522912) / 16777216 % 65536) ((r - 729636054438522912) / 16777216 / 65536) → (b : Brief) → Some (record { line = l; next = at + 8 }) ≡ Some b → bytes.Cell s at depth b
+    → l ≡ kept_cell depth ((r - 729636054438522912) / 16777216 % 65536) ((r - 729636054438522912) / 16777216 / 65536) → (b : Brief) → Some (record { line = l; next = at + 8 }) ≡ Some b → bytes.Cell s at depth b
 unfolding All
 cell_ends {r = r} w h m p q l i b e =
     let figure = (r - 729636054438522912) / 16777216 in
@@ -81,8 +81,8 @@ module _ {s : List ℕ} {at depth : ℕ} (d : Digit s at depth) where
 
   -- a line without a text, or a cell: its front, and its end k places on
   module _ (kind : Kind) (k cols rows : ℕ) (name front : List ℕ) (short : k ≤ 8) (begins : take k front ≡ blank ∷ name) (counted : length name + 1 ≡ k)
-      (named : Name name kind) (numbered : n_fits (kind_number kind) (plain 0) ≡ true) (other : eqb (kind_number kind) calc_kind ≡ false) (narrow : cols ≤ 9) (low : rows ≤ 9)
-      (wide : up_to (span_limit (kind_number kind) max_cols) (plain cols) ≡ true) (high : up_to (span_limit (kind_number kind) max_rows) (plain rows) ≡ true)
+      (named : Name name kind) (numbered : n_fits kind (plain 0) ≡ true) (other : eqb (kind_number kind) calc_kind ≡ false) (narrow : cols ≤ 9) (low : rows ≤ 9)
+      (wide : up_to (span_limit kind max_cols) (plain cols) ≡ true) (high : up_to (span_limit kind max_rows) (plain rows) ≡ true)
       (at_front : take 8 (drop (at + 1) s) ≡ front) (at_end : take 8 (drop (at + 1 + k) s) ≡ ending cols rows) where
     pub ended : (b : Brief)
         → b.line ≡ record { depth = depth; kind = kind; cols = cols; rows = rows; number = shift; own = with_img (eqb (kind_number kind) img_kind) 0 }
@@ -94,8 +94,7 @@ module _ {s : List ℕ} {at depth : ℕ} (d : Digit s at depth) where
         record {
           node = _;
           read = bare_is s at depth kind cols rows name (10 ∷ after) d.small narrow low named numbered wide high (digit_first _ bytes) after refl other;
-          kept = kept;
-          next = next ∙ omega (arith, counted);
+          brief = record { kept = kept; next = next ∙ omega (arith, counted) };
         }
 
   -- ---- kind by kind
@@ -145,6 +144,5 @@ module _ {s : List ℕ} {at depth : ℕ} (d : Digit s at depth) where
             line_is s at depth Text 0 0 (116 ∷ 101 ∷ 120 ∷ 116 ∷ []) (drop (at + 1 + 4 + 8) s) d.small (omega arith) (omega arith) (λ p t. refl) refl refl refl
             (digit_first _ (joined s text_front text_end (at + 1) 4 (omega arith) e (rw five f))) front.end front.size (rw thirteen z.scanned.end) z.inside z.ended
             (or-true (eqb (front.end - (at + 2 + 4 + 1 + 6)) 0)) refl (rw thirteen z.scanned.size);
-        kept = rw add-zero;
-        next = refl;
+        brief = record { kept = rw add-zero; next = refl };
       })

@@ -115,7 +115,7 @@ module _ {wrap : ℕ} {ls : List Kept} {b : List Estimate} {at : ℕ} where
   }
 
 -- a line that `node` takes and that is neither leaf nor table
-pub plain_holder : {l read : Kept} → read ≡ l → Plain l → is_leaf (kind_number read.kind) ≡ false → (kind_number read.kind ≡ table_kind → ⊥) → Holder l
+pub plain_holder : {l read : Kept} → read ≡ l → Plain l → is_leaf read.kind ≡ false → (kind_number read.kind ≡ table_kind → ⊥) → Holder l
 plain_holder f p l t = record {
   leaf = rw (← f) l;
   table = rw (← f) t;
@@ -126,7 +126,7 @@ plain_holder f p l t = record {
 -- a leaf is sound, and no larger than its weight
 leaf_sound : (wrap : ℕ) (l : Kept) → ((leaf_of wrap l).least ≤ (leaf_of wrap l).size) × ((leaf_of wrap l).size ≤ l.own + 1)
 unfolding leaf_of
-leaf_sound wrap l = go (has_text (kind_number l.kind)) (eqb (kind_number l.kind) break_kind)
+leaf_sound wrap l = go (has_text l.kind) (eqb (kind_number l.kind) break_kind)
   where
     text : Estimate
     text = estimate l.own (min l.own wrap) 0
@@ -166,17 +166,17 @@ module _ {wrap : ℕ} {ls : List Kept} {b : List Estimate} {at : ℕ} (sheet : S
         small = rw (← f) m;
       })
 
-  pub leaf_meets : {c' : List Estimate} {l : Kept} {e : Estimate} → length ls ≤ length b → l ≡ line_at ls at → is_leaf (kind_number l.kind) ≡ true → e ≡ leaf_of wrap l → c' ≡ set b at e
+  pub leaf_meets : {c' : List Estimate} {l : Kept} {e : Estimate} → length ls ≤ length b → l ≡ line_at ls at → is_leaf l.kind ≡ true → e ≡ leaf_of wrap l → c' ≡ set b at e
       → NodeMeets wrap ls b c' at (at + 1)
   leaf_meets {l = l} {e = e} sized t k f s =
       let z = leaf_sound wrap l in
       let x : e.least ≤ e.size = rw f z.0 in
       let g : e.size ≤ (line_at ls at).own + 1 = rw (f, ← t) z.1 in
-      let a : is_leaf (kind_number (line_at ls at).kind) ≡ true = rw (← t) k in
+      let a : is_leaf (line_at ls at).kind ≡ true = rw (← t) k in
       let y : e ≡ est_at (done_of wrap ls) at = f ∙ ap (leaf_of wrap) t ∙ leaf_est wrap ls at within a in
       meets (begin (done_of wrap ls) sized within) (λ h. childless a h (dec_lt (line_at ls at).depth (line_at ls (at + 1)).depth)) y (omega (arith, weight_more ls at)) x s
     where
-      childless : is_leaf (kind_number (line_at ls at).kind) ≡ true → at + 1 < length ls → Dec ((line_at ls at).depth < (line_at ls (at + 1)).depth)
+      childless : is_leaf (line_at ls at).kind ≡ true → at + 1 < length ls → Dec ((line_at ls at).depth < (line_at ls (at + 1)).depth)
           → (line_at ls (at + 1)).depth ≤ (line_at ls at).depth
       childless a h (no u) = omega arith
       childless a h (yes u) =
@@ -221,7 +221,7 @@ module _ {wrap : ℕ} {ls : List Kept} {b : List Estimate} {at : ℕ} (sheet : S
 -- a turn of `cell` over a leaf, which it measures itself
 pub cell_leaf : {wrap : ℕ} {ls : List Kept} {b c c' : List Estimate} {at sum most children i : ℕ} {l : Kept} {e : Estimate} → Sheet ls
     → CellLoop wrap ls b c at sum most children i → i < length ls → (line_at ls at).depth < (line_at ls i).depth → l ≡ line_at ls i
-    → is_leaf (kind_number l.kind) ≡ true → e ≡ leaf_of wrap l → c' ≡ set c i e
+    → is_leaf l.kind ≡ true → e ≡ leaf_of wrap l → c' ≡ set c i e
     → CellLoop wrap ls b c' at (sum + e.size) (max most e.least) (children + 1) (i + 1)
 cell_leaf {c = c} {i = i} {e = e} w v h u t k f s =
     let z = v.passed.sized in

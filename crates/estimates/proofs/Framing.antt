@@ -49,14 +49,6 @@ pub record TableLoop (wrap : ℕ) (ls : List Kept) (b c : List Estimate) (at i :
   pub small : sizes_from wrap ls (line_at ls at).depth (at + 1) + weight ls (at + 1) ≤ sizes_from wrap ls (line_at ls at).depth i + weight ls i
 
 module _ {wrap : ℕ} {ls : List Kept} {b : List Estimate} {at : ℕ} (w : Sheet ls) where
-  pub table_start : Passed ls (done_of wrap ls) b b at (at + 1) (at + 1) → TableLoop wrap ls b b at (at + 1)
-  table_start p = record {
-    passed = p;
-    next = λ h. omega (arith, w.step at h);
-    frame = λ k p q. absurd (omega arith);
-    small = omega arith;
-  }
-
   module _ (t : kind_number (line_at ls at).kind ≡ table_kind) {c : List Estimate} {i : ℕ} (l : TableLoop wrap ls b c at i) (h : i < length ls)
       (u : (line_at ls at).depth < (line_at ls i).depth) where
     framed_here : Framed (line_at ls at).depth (line_at ls i).depth (kind_number (line_at ls i).kind)

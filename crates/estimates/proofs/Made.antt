@@ -1,19 +1,17 @@
 -- The records of a grid that is made are entries that fit, and what is made of them is the table's estimate by its definition, where the figures of
 -- its cells are those of the lines after it. Assumes nothing.
-use mathlib.Core.Path.{◌≡◌, refl, sym, ap, subst, ◌∙◌}
+use mathlib.Core.Path.{◌≡◌, refl, sym, ap, ◌∙◌}
 use mathlib.Core.Bool.{Bool, true, false, cond}
 use mathlib.Core.List.{List}
 use Prim.Native.Nat.{ℕ, suc, ◌-◌, ◌≤◌, ◌<◌}
 use native.Mathlib.Omega.{arith}
-use lib.ListN.{length, get_or, take, length-map, length-take}
-use lib.Seq.{get_or-take}
+use lib.ListN.{length, get_or}
 use Rattle.lists.specs.Lists.{All}
-use Rattle.lists.specs.Limits.{max_position}
 use Rattle.lists.proofs.All.{all_both, all_map, all_weaken, at_all}
 use Rattle.text.specs.declared.Estimate.{Estimate}
 use Rattle.records.specs.Kept.{no_entry}
 use Rattle.records.specs.declared.Kept.{Kept}
-use Rattle.records.specs.declared.Entry as packed
+use Rattle.records.specs.declared.Entry as records
 use Rattle.records.specs.declared.RowEnd.{RowEnd}
 use Rattle.columns.specs.Boxes.{flat}
 use Rattle.cells.specs.Listed.{table_rows}
@@ -22,8 +20,7 @@ use Rattle.grid.specs.Facts.{Sound, CellOf}
 use Rattle.grid.specs.Judging.{Lined, shown}
 use Rattle.grid.proofs.GridFacts.{Within, held_spanned, grid_within, grid_columns}
 use Rattle.grid.proofs.GridCells.{IsCell, entries_cells}
-use Rattle.gridding.specs.declared.Counts.{Counts}
-use Rattle.gridding.specs.Packed.{TableMade}
+use Rattle.gridding.specs.Cut.{GridRecords}
 use Rattle.estimates.specs.Estimates.{Done, undone, none, estimate, box_rows, tabled}
 use Rattle.estimates.specs.inner.Spread.{entry_boxes, EntryFits, TabulateReady, Tabulated, records_at, FiguresReady}
 use Rattle.estimates.specs.declared.Part.{Part}
@@ -52,35 +49,17 @@ module _ {ks : List Kept} {at scratch m n : ℕ} {es : List Estimate} (r : Figur
   records_fit = all_map (λ e. EntryFits es (columns_of (table_rows ks at)) (shown e)) (EntryFits es (columns_of (table_rows ks at))) shown (λ e p. p) xs entries_fit
 
 -- what is read of the records, once the grid is made
-module _ {ks : List Kept} {at scratch m n : ℕ} (figures : List Estimate) (entries : List packed.Entry) (r : FiguresReady ks at figures scratch m n) {counts : Counts} {rs : List RowEnd}
-    (made : TableMade (table_rows ks at) counts entries rs) where
-  pub taken : take counts.entries entries ≡ records_at ks at
-  taken = rw made.entries_are made.entries
-
-  long : length (records_at ks at) ≡ counts.entries
-  long = length-map (entries_of (grid_of (table_rows ks at))) shown ∙ sym made.entries_are
-
-  pub columns_few : counts.columns ≤ max_position
-  columns_few = omega (arith, made.columns_are, grid_columns (table_rows ks at) r.sound)
-
-  fit_at : (k : ℕ) → k < counts.entries → EntryFits figures counts.columns (get_or entries k no_entry)
-  fit_at k h =
-      let e : get_or (records_at ks at) k no_entry ≡ get_or entries k no_entry
-      = ap (λ (l : List packed.Entry). get_or l k no_entry) (sym taken) ∙ get_or-take counts.entries entries k no_entry h in
-      rw made.columns_are
-      (subst (EntryFits figures (columns_of (table_rows ks at))) e
-      (at_all (EntryFits figures (columns_of (table_rows ks at))) no_entry (records_at ks at) k (records_fit r) (omega (arith, long))))
-
-  pub tabulate_ready : TabulateReady entries counts.entries counts.columns figures scratch
-  tabulate_ready = record {
+module _ {ks : List Kept} {at scratch m n : ℕ} (figures : List Estimate) (r : FiguresReady ks at figures scratch m n) {entries : List records.Entry} {rows : List RowEnd} {columns : ℕ}
+    (g : GridRecords (table_rows ks at) entries rows columns) where
+  pub tabulate_ready : TabulateReady entries columns figures scratch
+  tabulate_ready = rw (g.entries_are, g.columns_are) (record {
     spread = record {
-      within = omega (arith, long, ap length taken, length-take counts.entries entries);
-      fit = fit_at;
-      room = rw taken r.room;
+      fit = λ k h. at_all (EntryFits figures (columns_of (table_rows ks at))) no_entry (records_at ks at) k (records_fit r) h;
+      room = r.room;
     };
-    few = columns_few;
+    few = grid_columns (table_rows ks at) r.sound;
     room = r.column_room;
-  }
+  })
 
 -- the definition: line t is the table's, and rest are the lines after it with their estimates
 module _ {ks : List Kept} {at : ℕ} (z : Lined ks) (within : at < length ks) (sound : Sound (table_rows ks at)) (es : List Estimate)

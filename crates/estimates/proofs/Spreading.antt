@@ -6,7 +6,7 @@ use Prim.Native.Nat.{ℕ, ◌+◌, ◌-◌, ◌*◌, ◌/◌, ◌≤◌, ◌<◌
 use native.Mathlib.Numerals.{add-one}
 use native.Mathlib.Decide.{dec_lt}
 use native.Mathlib.Omega.{arith}
-use lib.ListN.{length, get_or, take, drop, replicate, length-replicate, get_or-replicate, drop_of_length-le, get_or-eq_default}
+use lib.ListN.{length, get_or, take, drop, drop_of_length-le}
 use lib.Seq.{drop-cons}
 use borrow.Author.Tests.{eq-eqb, ne_eqb}
 use Rattle.lists.specs.Limits.{max_position}
@@ -40,21 +40,6 @@ pub record SpreadLoop (es : List Estimate) (xs : List Entry) (n all i : ℕ) (co
   pub long : length columns ≡ n
   pub whole : all + spread_cells (entry_boxes es (drop i xs)) ≡ spread_cells (entry_boxes es xs)
   pub most : (j : ℕ) → max (get_or columns j 0) (largest_at least_of (entry_boxes es (drop i xs)) j) ≡ largest_at least_of (entry_boxes es xs) j
-
-pub spread_start : (es : List Estimate) (xs : List Entry) (n : ℕ) (columns : List ℕ) → columns ≡ replicate n 0 → SpreadLoop es xs n 0 0 columns
-spread_start es xs n columns e = record {
-  place = omega arith;
-  long = ap length e ∙ length-replicate {A = ℕ} n 0;
-  whole = omega arith;
-  most = λ j. omega (arith, zero_at j);
-}
-  where
-    zero_at : (j : ℕ) → get_or columns j 0 ≡ 0
-    zero_at j = rw e (go (dec_lt j n))
-      where
-        go : Dec (j < n) → ◌≡◌ {A = ℕ} (get_or (replicate n 0) j 0) 0
-        go (yes p) = get_or-replicate n j 0 0 p
-        go (no p) = get_or-eq_default (replicate n 0) 0 {n = j} (omega (arith, length-replicate {A = ℕ} n 0))
 
 module _ {es : List Estimate} {xs : List Entry} {n all i : ℕ} {columns : List ℕ} (z : SpreadLoop es xs n all i columns) where
   pub spread_stop : length xs ≤ i → Spreads (entry_boxes es xs) n all columns

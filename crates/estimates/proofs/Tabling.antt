@@ -7,7 +7,7 @@ use Prim.Native.Nat.{ℕ, suc, ◌+◌, ◌-◌, ◌*◌, ◌/◌, ◌≤◌, �
 use native.Mathlib.Omega.{arith}
 use lib.Dec.{eqb}
 use lib.ListN.{length, get_or, take}
-use lib.Seq.{take_at, get_or-take, length-take-le}
+use lib.Seq.{take_at}
 use borrow.Author.Tests.{eq-eqb, ne_eqb, eqb-false}
 use Rattle.lists.specs.Lists.{sum, All}
 use Rattle.text.specs.declared.Estimate.{Estimate}
@@ -106,15 +106,8 @@ module _ {bs : List Box} {n all : ℕ} {columns : List ℕ} (s : Spreads bs n al
       record { after = refl; est = rw (t, l, q, s.all, s.leasts, r); least_size = omega arith }
 
 -- what is added up in the scratch is at most the sum of the cells
-pub leasts_fit : {entries : List Entry} {figures : List Estimate} {n m all : ℕ} {columns : List ℕ} → SpreadReady entries n figures m
-    → Spreads (entry_boxes figures (take n entries)) m all columns → sum columns ≤ all
-leasts_fit {entries} {figures} {n} {m} r s =
-    let xs = take n entries in
-    let b = boxes_fit figures m xs fit in
-    rw (s.leasts, s.all) (leasts_le (entry_boxes figures xs) m b.0 b.1)
-  where
-    fit : (k : ℕ) → k < length (take n entries) → EntryFits figures m (get_or (take n entries) k no_entry)
-    fit k h =
-        let l = length-take-le n entries r.within in
-        let g : k < n = omega arith in
-        rw (get_or-take n entries k no_entry g) (r.fit k g)
+pub leasts_fit : {entries : List Entry} {figures : List Estimate} {n all : ℕ} {columns : List ℕ} → SpreadReady entries figures n
+    → Spreads (entry_boxes figures entries) n all columns → sum columns ≤ all
+leasts_fit {entries} {figures} {n} r s =
+    let b = boxes_fit figures n entries r.fit in
+    rw (s.leasts, s.all) (leasts_le (entry_boxes figures entries) n b.0 b.1)

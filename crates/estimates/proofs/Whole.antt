@@ -6,28 +6,13 @@ use native.Mathlib.Omega.{arith}
 use native.Mathlib.Decide.{dec_lt}
 use lib.ListN.{length, get_or, drop, length-map, length-append, length-drop, get_or-map, get_or-append}
 use lib.Seq.{ext_get_or, get_or-append-add, get_or-drop}
-use Rattle.records.specs.declared.RowEnd.{RowEnd}
-use Rattle.records.specs.declared.Entry.{Entry}
 use Rattle.text.specs.declared.Estimate.{Estimate}
 use Rattle.records.specs.declared.Kept.{Kept}
 use Rattle.estimates.specs.Estimates.{none, undone, est_of, estimates}
 use Rattle.estimates.specs.Sheet.{Sheet}
-use Rattle.estimates.specs.Meets.{Lent, Measured}
-use Rattle.estimates.specs.inner.Cycle.{NodeReady, NodeMeets, est_at, done_of}
+use Rattle.estimates.specs.Meets.{Measured}
+use Rattle.estimates.specs.inner.Cycle.{NodeMeets, est_at, done_of}
 use Rattle.estimates.proofs.Laws.{length_all}
-
--- what is lent, in slices
-pub ready : {lines : List Kept} {figures : List Estimate} {leasts : List ℕ} {entries : List Entry} {rows : List RowEnd} {at : ℕ} → Lent lines figures leasts entries rows
-    → at < length lines → NodeReady lines figures leasts entries rows at
-ready {lines} {figures} {entries = entries} {rows = rows} l h = record {
-  sheet = l.sheet;
-  lined = l.lined;
-  tables = l.tables;
-  figures_fit = omega (arith, l.results);
-  scratch = l.scratch;
-  row_room = omega (arith, l.row_room);
-  within = omega arith;
-}
 
 module _ {wrap : ℕ} {ls : List Kept} {b c : List Estimate} {r : ℕ} (w : Sheet ls) (m : NodeMeets wrap ls b c 0 r) where
   to_the_end : r ≡ length ls

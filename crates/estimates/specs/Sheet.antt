@@ -25,11 +25,11 @@ pub record Sheet (ls : List Kept) : Type 0 where
   pub short : length ls ≤ max_lines
   -- one line of depth 0, the first; each other has a parent that may hold it
   pub top : (line_at ls 0).depth ≡ 0
-  pub root : is_frame (kind_number (line_at ls 0).kind) ≡ false
+  pub root : is_frame (line_at ls 0).kind ≡ false
   pub under : (k : ℕ) → 0 < k → k < length ls → 0 < (line_at ls k).depth
   pub shallow : (k : ℕ) → (line_at ls k).depth ≤ max_depth
   pub step : (k : ℕ) → k + 1 < length ls → (line_at ls (k + 1)).depth ≤ (line_at ls k).depth + 1
-  pub holds : (p i : ℕ) → Parent ls p i → may_hold (kind_number (line_at ls p).kind) (kind_number (line_at ls i).kind) ≡ true
+  pub holds : (p i : ℕ) → Parent ls p i → may_hold (line_at ls p).kind (line_at ls i).kind ≡ true
   -- the numbers of headings and lists, shifted up
   pub rank_low : (k : ℕ) → kind_number (line_at ls k).kind ≡ head_kind → shift ≤ (line_at ls k).number
   pub rank_high : (k : ℕ) → kind_number (line_at ls k).kind ≡ head_kind → (line_at ls k).number ≤ shift + 6

@@ -27,7 +27,7 @@ digit_to b e = leb-true b 57 (and_1 (leb 48 b) (leb b 57) e)
 -- the turns of `digits_at`
 
 module _ (most v i : ℕ) (s : List ℕ) where
-  abbrev here : FieldRead
+  abbrev here : FieldRead ℕ
   here = digits_read most v i (drop i s)
 
   abbrev b : ℕ
@@ -66,7 +66,7 @@ value_grows v [] = omega arith
 value_grows v (b ∷ f) = omega (arith, value_grows (v * 10 + (b - 48)) f)
 
 -- what the loop reads, by the field
-abbrev digits_in : ℕ → ℕ → ℕ → List ℕ → FieldRead
+abbrev digits_in : ℕ → ℕ → ℕ → List ℕ → FieldRead ℕ
 digits_in most v at f = cond (all_digits f && leb (value_from v f) most) (sound (value_from v f) (at + length f + 1)) None
 
 digits_field : (most v at : ℕ) (s : List ℕ) → v ≤ most → digits_read most v at s ≡ on_field (until_blank s) (digits_in most v at)
@@ -99,7 +99,7 @@ digits_field most v at (b ∷ bs) h =
 
 -- a number from 0 to most, by the field
 
-abbrev pub natural_in : ℕ → ℕ → List ℕ → FieldRead
+abbrev pub natural_in : ℕ → ℕ → List ℕ → FieldRead ℕ
 natural_in most at f = cond (is_natural f && leb (value_from 0 f) most) (sound (value_from 0 f) (at + length f + 1)) None
 
 -- a byte before digits: no digit, no number
@@ -212,7 +212,7 @@ lone s at e = record { inside = in_sheet; least = digit_from (get_or s at 0) dig
 
 -- the answers of `natural_at`, by the first byte
 module _ (most at : ℕ) (s : List ℕ) where
-  abbrev found : FieldRead
+  abbrev found : FieldRead ℕ
   found = number_read (up_to most) magnitude at (drop at s)
 
   pub natural_out : length s ≤ at → found ≡ None

@@ -15,13 +15,12 @@ use Rattle.std.specs.Prelude.{Option, Some, None}
 use Rattle.kinds.specs.declared.Kind.{Kind}
 use Rattle.kinds.specs.Kinds.{kind_at, same, place, kind_of, kind_names, kind_count}
 use Rattle.fields.specs.Blanks.{field, longer, until_blank, blank}
-use Rattle.fields.specs.Reading.{on_field, kind_read, KindRead, sound_kind, is_letter, nine_letters, key_from, key_of, key_place, kind_keys, kind_named}
-use Rattle.fields.specs.declared.naming.Key.{Key}
+use Rattle.fields.specs.Reading.{on_field, kind_read, FieldRead, sound, is_letter, nine_letters, key_from, key_of, key_place, kind_keys, kind_named}
 use Rattle.fields.proofs.OnField.{on_longer, on_same, on_unsound, and_0, and_1}
 
 -- the turns of `key_at`
 module _ (k i : ℕ) (s : List ℕ) where
-  abbrev here : Option Key
+  abbrev here : FieldRead ℕ
   here = key_from k i (drop i s)
 
   pub key_out : length s ≤ i → here ≡ None
@@ -29,7 +28,7 @@ module _ (k i : ℕ) (s : List ℕ) where
   key_out h = rw (drop_of_length-le s h)
 
   module _ (h : i < length s) where
-    pub key_end : get_or s i 0 ≡ blank → here ≡ Some (record { key = k; next = i + 1 })
+    pub key_end : get_or s i 0 ≡ blank → here ≡ sound k (i + 1)
     unfolding key_from
     key_end e = rw (drop-cons s i 0 h, eq-eqb _ _ e)
 
@@ -52,18 +51,18 @@ unfoldable pub named : ℕ → List ℕ → Bool
 named k [] = true
 named k (b ∷ f) = (is_letter b && ltb k nine_letters) && named (k * 32 + (b - 96)) f
 
-abbrev name_key : ℕ → ℕ → List ℕ → Option Key
-name_key k at f = cond (named k f) (Some (record { key = key_of k f; next = at + length f + 1 })) None
+abbrev name_key : ℕ → ℕ → List ℕ → FieldRead ℕ
+name_key k at f = cond (named k f) (sound (key_of k f) (at + length f + 1)) None
 
 -- the kind of a key, and where the next field starts
 
-abbrev pub kind_until : ℕ → Option Kind → KindRead
+abbrev pub kind_until : ℕ → Option Kind → FieldRead Kind
 kind_until next None = None
-kind_until next (Some kind) = sound_kind kind next
+kind_until next (Some kind) = sound kind next
 
-abbrev pub kind_with : Option Key → KindRead
+abbrev pub kind_with : FieldRead ℕ → FieldRead Kind
 kind_with None = None
-kind_with (Some r) = kind_until r.next (kind_named (key_place r.key kind_keys))
+kind_with (Some r) = kind_until r.next (kind_named (key_place r.value kind_keys))
 
 key_field : (k at : ℕ) (s : List ℕ) → kind_with (key_from k at s) ≡ on_field (until_blank s) (λ f. kind_with (name_key k at f))
 unfolding key_from until_blank named key_of
@@ -75,7 +74,7 @@ key_field k at (b ∷ bs) = go (eqb b blank) (is_letter b && ltb k nine_letters)
 
     go : (t d : Bool) → (is_letter b && ltb k nine_letters) ≡ d
         → kind_with (key_from w (at + 1) bs) ≡ on_field (until_blank bs) (λ f. kind_with (name_key w (at + 1) f))
-        → kind_with (cond t (Some (record { key = k; next = at + 1 })) (cond d (key_from w (at + 1) bs) None))
+        → kind_with (cond t (sound k (at + 1)) (cond d (key_from w (at + 1) bs) None))
         ≡ on_field (cond t (field [] bs) (longer b (until_blank bs))) (λ f. kind_with (name_key k at f))
     go true d e more = rw add-zero
     go false false e more = sym (on_longer b (until_blank bs) _ ∙ on_unsound (until_blank bs) _ (λ f. rw e))
@@ -195,17 +194,17 @@ place_none f (m ∷ ms) e g = go (same f m) refl (place_none f ms e (and_1 (name
 
 -- a kind is found by its key
 
-until_cond : (t : Bool) (kind : Kind) (next : ℕ) → cond t (sound_kind kind next) None ≡ kind_until next (cond t (Some kind) None)
+until_cond : (t : Bool) (kind : Kind) (next : ℕ) → cond t (sound kind next) None ≡ kind_until next (cond t (Some kind) None)
 until_cond true kind next = refl
 until_cond false kind next = refl
 
-kind_name : (at : ℕ) (f : List ℕ) → cond (ltb (kind_of f) kind_count) (sound_kind (kind_at (kind_of f)) (at + length f + 1)) None
+kind_name : (at : ℕ) (f : List ℕ) → cond (ltb (kind_of f) kind_count) (sound (kind_at (kind_of f)) (at + length f + 1)) None
     ≡ kind_with (name_key 1 at f)
 unfolding kind_of kind_keys
 kind_name at f = go (named 1 f) refl
   where
-    go : (t : Bool) → named 1 f ≡ t → cond (ltb (place f kind_names) kind_count) (sound_kind (kind_at (place f kind_names)) (at + length f + 1)) None
-        ≡ kind_with (cond t (Some (record { key = key_of 1 f; next = at + length f + 1 })) None)
+    go : (t : Bool) → named 1 f ≡ t → cond (ltb (place f kind_names) kind_count) (sound (kind_at (place f kind_names)) (at + length f + 1)) None
+        ≡ kind_with (cond t (sound (key_of 1 f) (at + length f + 1)) None)
     go true e = rw (place_key f kind_names e names_named) (until_cond _ _ _)
     go false e = rw (place_none f kind_names e names_named)
 

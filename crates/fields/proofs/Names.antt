@@ -10,7 +10,7 @@ use lib.Seq.{drop-cons, drop-drop}
 use Rattle.kinds.specs.declared.Kind.TheVariants.{Text, Table, Body, Row, Cell}
 use Rattle.kinds.specs.Kinds.{kind_at, same, place, kind_of}
 use Rattle.fields.specs.Blanks.{until_blank, blank}
-use Rattle.fields.specs.Reading.{sound_kind, kind_read, Four, Spelt, Named}
+use Rattle.fields.specs.Reading.{sound, kind_read, Four, Spelt, Named}
 
 -- the first of the bytes from a place on, with the place after it written as the code does
 from_next : (s : List ℕ) (i : ℕ) → i < length s → drop i s ≡ get_or s i 0 ∷ drop (i + 1) s
@@ -56,19 +56,19 @@ last_two s at four f =
 
 -- the kinds of `cell`, `text`, `row`, `body` and `table`, whose bytes are these numbers
 
-pub cell_name : (s : List ℕ) (at : ℕ) → Spelt 1819043171 s at (at + 5) (blank ∷ drop (at + 5) s) → kind_read at (drop at s) ≡ sound_kind Cell (at + 5)
+pub cell_name : (s : List ℕ) (at : ℕ) → Spelt 1819043171 s at (at + 5) (blank ∷ drop (at + 5) s) → kind_read at (drop at s) ≡ sound Cell (at + 5)
 unfolding kind_read until_blank kind_of kind_at place same
 cell_name s at f = let n : at + 4 + 1 ≡ at + 5 = omega arith in rw (f.is, n)
 
-pub text_name : (s : List ℕ) (at : ℕ) → Spelt 1954047348 s at (at + 5) (blank ∷ drop (at + 5) s) → kind_read at (drop at s) ≡ sound_kind Text (at + 5)
+pub text_name : (s : List ℕ) (at : ℕ) → Spelt 1954047348 s at (at + 5) (blank ∷ drop (at + 5) s) → kind_read at (drop at s) ≡ sound Text (at + 5)
 unfolding kind_read until_blank kind_of kind_at place same
 text_name s at f = let n : at + 4 + 1 ≡ at + 5 = omega arith in rw (f.is, n)
 
-pub row_name : (s : List ℕ) (at : ℕ) → Spelt 544698226 s at (at + 4) (drop (at + 4) s) → kind_read at (drop at s) ≡ sound_kind Row (at + 4)
+pub row_name : (s : List ℕ) (at : ℕ) → Spelt 544698226 s at (at + 4) (drop (at + 4) s) → kind_read at (drop at s) ≡ sound Row (at + 4)
 unfolding kind_read until_blank kind_of kind_at place same
 row_name s at f = let n : at + 3 + 1 ≡ at + 4 = omega arith in rw (f.is, n)
 
-pub body_name : (s : List ℕ) (at : ℕ) → Spelt 2036625250 s at (at + 5) (blank ∷ drop (at + 5) s) → kind_read at (drop at s) ≡ sound_kind Body (at + 5)
+pub body_name : (s : List ℕ) (at : ℕ) → Spelt 2036625250 s at (at + 5) (blank ∷ drop (at + 5) s) → kind_read at (drop at s) ≡ sound Body (at + 5)
 unfolding kind_read until_blank kind_of kind_at place same
 body_name s at f = let n : at + 4 + 1 ≡ at + 5 = omega arith in rw (f.is, n)
 

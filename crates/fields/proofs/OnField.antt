@@ -38,12 +38,12 @@ and_1 false true e = refl
 and_1 false false e = e
 
 -- a function that leaves nothing where there was nothing goes inside
-pub on_map : (h : FieldRead → FieldRead) → h None ≡ None → (x : Field) (g : List ℕ → FieldRead) → on_field x (λ f. h (g f))
+pub on_map : (h : FieldRead ℕ → FieldRead ℕ) → h None ≡ None → (x : Field) (g : List ℕ → FieldRead ℕ) → on_field x (λ f. h (g f))
     ≡ h (on_field x g)
 on_map h e (field f r) g = refl
 on_map h e endless g = sym e
 
-pub on_number : (h : FieldRead → FieldRead) → h None ≡ None → (x : Numeral) (g k : Number → FieldRead)
+pub on_number : (h : FieldRead ℕ → FieldRead ℕ) → h None ≡ None → (x : Numeral) (g k : Number → FieldRead ℕ)
     → ((n : Number) → k n ≡ h (g n)) → on_numeral x k ≡ h (on_numeral x g)
 on_number h e (numeral n) g k p = p n
 on_number h e unwritten g k p = sym e

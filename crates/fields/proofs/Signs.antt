@@ -20,7 +20,7 @@ use Rattle.fields.proofs.Digits.{natural_in, natural_field}
 
 -- a number that was read is at most the most
 
-abbrev Below : ℕ → FieldRead → Type 0
+abbrev Below : ℕ → FieldRead ℕ → Type 0
 Below most (Some f) = f.value ≤ most
 Below most None = Unit {0}
 
@@ -33,11 +33,11 @@ below_field most at (field f r) = go (is_natural f) (leb (value_from 0 f) most) 
     go true true e = leb-true (value_from 0 f) most e
     go true false e = tt
 
-pub natural_most : (most at : ℕ) (s : List ℕ) (f : declared.Field) → number_read (up_to most) magnitude at s ≡ Some f → f.value ≤ most
+pub natural_most : (most at : ℕ) (s : List ℕ) (f : declared.Field ℕ) → number_read (up_to most) magnitude at s ≡ Some f → f.value ≤ most
 natural_most most at s f e = subst (Below most) (sym (natural_field most at s) ∙ e) (below_field most at (until_blank s))
 
 -- what two readings of the same number have to do with each other
-pub number_map : (h : FieldRead → FieldRead) → h None ≡ None → (allowed allowed' : Number → Bool) (kept kept' : Number → ℕ)
+pub number_map : (h : FieldRead ℕ → FieldRead ℕ) → h None ≡ None → (allowed allowed' : Number → Bool) (kept kept' : Number → ℕ)
     → ((n : Number) (p : ℕ) → cond (allowed' n) (sound (kept' n) p) None ≡ h (cond (allowed n) (sound (kept n) p) None))
     → (at : ℕ) (s : List ℕ) → number_read allowed' kept' at s ≡ h (number_read allowed kept at s)
 unfolding number_read
@@ -46,7 +46,7 @@ number_map h e allowed allowed' kept kept' same at s =
     ∙ on_map h e (until_blank s) (λ f. on_numeral (number_of f) (λ n. cond (allowed n) (sound (kept n) (at + length f + 1)) None))
 
 -- a number from 0, shifted up where it is not below the least
-abbrev pub raised : ℕ → FieldRead → FieldRead
+abbrev pub raised : ℕ → FieldRead ℕ → FieldRead ℕ
 raised least (Some f) = cond (ltb f.value least) None (sound (shift + f.value) f.next)
 raised least None = None
 
@@ -90,7 +90,7 @@ unsigned at b bs n = go (eqb b blank)
         ∙ sym (on_longer b (until_blank bs) _)
 
 -- a number after a minus
-abbrev pub lowered : FieldRead → FieldRead
+abbrev pub lowered : FieldRead ℕ → FieldRead ℕ
 lowered (Some f) = cond (eqb f.value 0) None (sound (shift - f.value) f.next)
 lowered None = None
 
@@ -121,7 +121,7 @@ negative at bs =
 
 -- the answers of `signed_at`
 module _ (at : ℕ) (s : List ℕ) where
-  abbrev found : FieldRead
+  abbrev found : FieldRead ℕ
   found = number_read (within shift) shifted at (drop at s)
 
   pub signed_out : length s ≤ at → found ≡ None

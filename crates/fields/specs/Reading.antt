@@ -6,31 +6,21 @@ use Rattle.kinds.specs.Kinds.{kind_at, kind_of, kind_names, kind_count}
 use Rattle.fields.specs.Numbers.{Numeral, numeral, unwritten, number_of, is_digit}
 use Rattle.fields.specs.Blanks.{Field, field, endless, until_blank, blank}
 use Rattle.fields.specs.declared.Field as declared
-use Rattle.fields.specs.declared.naming.Key.{Key}
-use Rattle.fields.specs.declared.naming.KindField.{KindField}
 
 -- what reading a field answers, and a field that is read
 
-abbrev pub FieldRead : Type 0
-FieldRead = Option declared.Field
+abbrev pub FieldRead : Type 0 → Type 0
+FieldRead A = Option (declared.Field A)
 
-abbrev pub sound : ℕ → ℕ → FieldRead
+abbrev pub sound : {A : Type 0} → A → ℕ → FieldRead A
 sound value next = Some (record { value = value; next = next })
-
--- what reading a field that names a kind answers, and one that names this kind
-
-abbrev pub KindRead : Type 0
-KindRead = Option KindField
-
-abbrev pub sound_kind : Kind → ℕ → KindRead
-sound_kind kind next = Some (record { kind = kind; next = next })
 
 -- the bytes up to the first space, if there is one
 abbrev pub on_field : {A : Type 0} → Field → (List ℕ → Option A) → Option A
 on_field (field f r) g = g f
 on_field endless g = None
 
-abbrev pub on_numeral : Numeral → (Number → FieldRead) → FieldRead
+abbrev pub on_numeral : Numeral → (Number → FieldRead ℕ) → FieldRead ℕ
 on_numeral (numeral n) g = g n
 on_numeral unwritten g = None
 
@@ -40,19 +30,19 @@ from_to least most (plain v) = leb v most && leb least v
 from_to least most (minus v) = false
 
 -- the number field at the front of bytes that stand at a place: what is kept of its number, where that is allowed, and where the next field starts
-unfoldable pub number_read : (Number → Bool) → (Number → ℕ) → ℕ → List ℕ → FieldRead
+unfoldable pub number_read : (Number → Bool) → (Number → ℕ) → ℕ → List ℕ → FieldRead ℕ
 number_read allowed kept at s =
     on_field (until_blank s)
     (λ f. on_numeral (number_of f) (λ n. cond (allowed n) (sound (kept n) (at + length f + 1)) None))
 
 -- the kind at the front of bytes that stand at a place, likewise
-unfoldable pub kind_read : ℕ → List ℕ → KindRead
+unfoldable pub kind_read : ℕ → List ℕ → FieldRead Kind
 kind_read at s =
     on_field (until_blank s)
-    (λ f. cond (ltb (kind_of f) kind_count) (sound_kind (kind_at (kind_of f)) (at + length f + 1)) None)
+    (λ f. cond (ltb (kind_of f) kind_count) (sound (kind_at (kind_of f)) (at + length f + 1)) None)
 
 -- digits and the space after them, after digits of value v; a value above most is left at once
-unfoldable pub digits_read : ℕ → ℕ → ℕ → List ℕ → FieldRead
+unfoldable pub digits_read : ℕ → ℕ → ℕ → List ℕ → FieldRead ℕ
 digits_read most v at [] = None
 digits_read most v at (b ∷ bs) =
     cond (eqb b blank) (sound v (at + 1))
@@ -72,10 +62,10 @@ abbrev pub nine_letters : ℕ
 nine_letters = 35184372088832
 
 -- the key of the name at the front of bytes that stand at a place, after letters of key k, and where the next field starts
-unfoldable pub key_from : ℕ → ℕ → List ℕ → Option Key
+unfoldable pub key_from : ℕ → ℕ → List ℕ → FieldRead ℕ
 key_from k at [] = None
 key_from k at (b ∷ bs) =
-    cond (eqb b blank) (Some (record { key = k; next = at + 1 }))
+    cond (eqb b blank) (sound k (at + 1))
     (cond (is_letter b && ltb k nine_letters) (key_from (k * 32 + (b - 96)) (at + 1) bs) None)
 
 -- the key of a name, after letters of key k
@@ -88,7 +78,7 @@ unfoldable pub key_place : ℕ → List ℕ → ℕ
 key_place k [] = 0
 key_place k (m ∷ ms) = cond (eqb k m) 0 (suc (key_place k ms))
 
--- the kind at a place among them, if there is one
+-- the kind whose name has a place among the names; none past their end
 abbrev pub kind_named : ℕ → Option Kind
 kind_named place = cond (ltb place kind_count) (Some (kind_at place)) None
 
@@ -111,4 +101,4 @@ pub record Spelt (four : ℕ) (s : List ℕ) (at next : ℕ) (rest : List ℕ) :
 -- the field at a place names a kind, and the next field starts at another place of the sheet, or at its end
 pub record Named (kind : Kind) (s : List ℕ) (at next : ℕ) : Type 0 where
   pub inside : next ≤ length s
-  pub is : kind_read at (drop at s) ≡ sound_kind kind next
+  pub is : kind_read at (drop at s) ≡ sound kind next

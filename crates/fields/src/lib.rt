@@ -7,7 +7,7 @@ pub mod numbers;
 
 // What a field says, and the place after its space. A field that is not well formed, or not in its range, is none.
 #[derive(Clone, Copy, Debug, PartialEq, Eq)]
-pub struct Field {
-    pub value: u32,
+pub struct Field<T> {
+    pub value: T,
     pub next: usize,
 }

@@ -4,6 +4,7 @@ ghost use Rattle.kinds.specs.declared.Kind.TheVariants.{Table};
 ghost use Rattle.fields.specs.Blanks.{blank};
 ghost use Rattle.fields.specs.Reading.{Spelt, Named, nine_letters, key_from, key_place, kind_keys, kind_named, kind_read};
 
+use super::Field;
 use super::fours::four_at;
 use kinds::Kind;
 
@@ -23,43 +24,23 @@ const TABLE_END: u32 = 543517794;
 // The least key of nine letters, which the longest name has.
 const NINE_LETTERS: u64 = 35184372088832;
 
-// The kind that a field names, and the place after its space.
-#[derive(Clone, Copy)]
-pub struct KindField {
-    pub kind: Kind,
-    pub next: usize,
-}
-
-// A name as a number, and the place after the space that follows it.
-#[derive(Clone, Copy)]
-struct Key {
-    pub key: u64,
-    pub next: usize,
-}
-
-// The key of a name with one more letter.
-fn longer(key: u64, letter: u8) -> u64
-    requires key_lt_nine_letters { key < nine_letters }
-    requires le_letter { 97 ≤ letter }
-    ensures { result ≡ key * 32 + (letter - 96) }
-{
-    key * 32 + (letter as u64 - 96)
-}
-
-// Letters up to a space, as a number: 1, and then each letter as a digit of base 32.
-fn key_at(bytes: &[u8], at: usize) -> Option<Key>
+// Letters up to a space, as a number: 1, and then each letter as a digit of base 32; and the place after the space.
+fn key_at(bytes: &[u8], at: usize) -> Option<Field<u64>>
     ensures { result ≡ key_from 1 at (drop at bytes.now) }
 {
     let mut key = 1u64;
     for i in at..bytes.len() {
         let b = bytes[i];
         if b == b' ' {
-            return Some(Key { key, next: i + 1 });
+            return Some(Field {
+                value: key,
+                next: i + 1,
+            });
         }
         if !b.is_ascii_lowercase() || key >= NINE_LETTERS {
             return None;
         }
-        key = longer(key, b);
+        key = key * 32 + (u64::from(b) - 96);
     }
     None
 }
@@ -116,11 +97,11 @@ fn table_at(bytes: &[u8], at: usize) -> bool
     four_at(bytes, at, TABLE_FRONT) && four_at(bytes, at + 2, TABLE_END)
 }
 
-// The kind that the field at a place names. The commonest names are looked for first.
-pub fn kind_at(bytes: &[u8], at: usize) -> Option<KindField>
+// The kind that the field at a place names, and the place after its space. The commonest names are looked for first.
+pub fn kind_at(bytes: &[u8], at: usize) -> Option<Field<Kind>>
     ensures { result ≡ kind_read at (drop at bytes.now) }
 {
-    let (kind, next) = if name_at(bytes, at, CELL_NAME) {
+    let (value, next) = if name_at(bytes, at, CELL_NAME) {
         (Kind::Cell, at + 5)
     } else if name_at(bytes, at, TEXT_NAME) {
         (Kind::Text, at + 5)
@@ -132,7 +113,7 @@ pub fn kind_at(bytes: &[u8], at: usize) -> Option<KindField>
         (Kind::Table, at + 6)
     } else {
         let k = key_at(bytes, at)?;
-        (kind_of(k.key)?, k.next)
+        (kind_of(k.value)?, k.next)
     };
-    Some(KindField { kind, next })
+    Some(Field { value, next })
 }

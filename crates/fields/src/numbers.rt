@@ -7,17 +7,8 @@ ghost use Rattle.fields.specs.Reading.{from_to, number_read, digits_read, is_lon
 use super::Field;
 use text::decimal::SHIFT;
 
-// The value of digits with one more.
-pub fn grown(value: u64, digit: u8) -> u64
-    requires value_bound { value ≤ 4294967295 }
-    requires le_digit { 48 ≤ digit }
-    ensures { result ≡ value * 10 + (digit - 48) }
-{
-    value * 10 + (digit as u64 - 48)
-}
-
 // Digits up to a space. Once their value is above most, no further digit brings it back, so the reading stops there.
-fn digits_at(bytes: &[u8], at: usize, most: u32) -> Option<Field>
+fn digits_at(bytes: &[u8], at: usize, most: u32) -> Option<Field<u32>>
     ensures { result ≡ digits_read most 0 at (drop at bytes.now) }
 {
     let mut value = 0u64;
@@ -32,7 +23,7 @@ fn digits_at(bytes: &[u8], at: usize, most: u32) -> Option<Field>
         if !b.is_ascii_digit() {
             return None;
         }
-        value = grown(value, b);
+        value = value * 10 + u64::from(b - b'0');
         if value > most as u64 {
             return None;
         }
@@ -49,7 +40,7 @@ fn lone_at(bytes: &[u8], at: usize) -> bool
 }
 
 // A number from 0 to most. A single digit, the commonest field of a sheet, is looked for first.
-pub fn natural_at(bytes: &[u8], at: usize, most: u32) -> Option<Field>
+pub fn natural_at(bytes: &[u8], at: usize, most: u32) -> Option<Field<u32>>
     ensures { result ≡ number_read (up_to most) magnitude at (drop at bytes.now) }
 {
     if lone_at(bytes, at) {
@@ -73,7 +64,7 @@ pub fn natural_at(bytes: &[u8], at: usize, most: u32) -> Option<Field>
 }
 
 // A number from least to most, shifted up.
-pub fn shifted_at(bytes: &[u8], at: usize, least: u32, most: u32) -> Option<Field>
+pub fn shifted_at(bytes: &[u8], at: usize, least: u32, most: u32) -> Option<Field<u32>>
     requires { most ≤ shift }
     ensures { result ≡ number_read (from_to least most) shifted at (drop at bytes.now) }
 {
@@ -88,7 +79,7 @@ pub fn shifted_at(bytes: &[u8], at: usize, least: u32, most: u32) -> Option<Fiel
 }
 
 // A number from -1,000,000,000 to 1,000,000,000, shifted up.
-pub fn signed_at(bytes: &[u8], at: usize) -> Option<Field>
+pub fn signed_at(bytes: &[u8], at: usize) -> Option<Field<u32>>
     ensures { result ≡ number_read (within shift) shifted at (drop at bytes.now) }
 {
     if at >= bytes.len() {

@@ -3,11 +3,11 @@ use Rattle.std.specs.Prelude.{List, ℕ, ◌+◌, ◌≤◌, ◌<◌, length, ge
 use Rattle.lists.specs.Limits.{max_lines, max_depth, max_cols}
 use Rattle.records.specs.Kept.{no_kept}
 use Rattle.records.specs.declared.Kept.{Kept}
-use Rattle.records.specs.declared.Entry as packed
+use Rattle.records.specs.declared.Entry as records
 use Rattle.grid.specs.Grid.{Entry, shown_line}
 
 -- an entry as a record, as a listing shows it: line 0 for a filler
-abbrev pub shown : Entry → packed.Entry
+abbrev pub shown : Entry → records.Entry
 shown e = record { cell = shown_line e; first = e.first; span = e.span }
 
 -- lines of a sheet: a line is at most one deeper than the line before it, and a cell's cols are as they are written

@@ -4,7 +4,7 @@
 
 ghost use Rattle.std.specs.Prelude.{◌≡◌, true, ◌-◌, ◌<◌, length};
 ghost use Rattle.edges.specs.Edges.{is_edge, rows_from, RowsFit};
-ghost use Rattle.cells.specs.Held.{row_lines_of, row_ends_of, entry_cells_of, entry_spans_of};
+ghost use Rattle.records.specs.Figures.{row_lines_of, row_ends_of, entry_cells_of, entry_spans_of};
 ghost use Rattle.cells.specs.Listed.{table_rows};
 ghost use Rattle.positions.specs.Positions.{all_rows, entry_count};
 ghost use Rattle.grid.specs.inner.Numbering.{RowsNumbered};
@@ -26,8 +26,7 @@ fn number_rows(numbers: &Numbers, rows: &[RowEnd], entries: &mut [Entry]) -> Opt
 {
     let mut columns: usize = 0;
     let mut start: usize = 0;
-    for r in 0..rows.len() {
-        let row = rows[r];
+    for row in rows {
         let end = row.end as usize;
         let n = numbers.renumber(start, end, entries)?;
         columns = columns.max(n);

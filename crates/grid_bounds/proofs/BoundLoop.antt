@@ -79,9 +79,6 @@ pub record Bounding (ks : List Kept) (at h w e i : ℕ) : Type 0 where
   pub few : e ≤ max_entries
   pub place : i ≤ length ks
 
-pub bound_start : (ks : List Kept) (at : ℕ) → at < length ks → Bounding ks at 0 0 0 (at + 1)
-bound_start ks at h = record { whole = λ z. z; order = omega arith; within = omega arith; few = omega arith; place = omega arith }
-
 module _ {ks : List Kept} {at h w e i : ℕ} (z : Bounding ks at h w e i) where
   abbrev d : ℕ
   d = (get_or ks at no_kept).depth

@@ -14,6 +14,9 @@ use Rattle.records.specs.Kept.{no_kept}
 use Rattle.records.specs.declared.Kept.{Kept}
 use Rattle.grid.specs.Facts.{CellOf}
 use Rattle.grid_bounds.specs.Sheets.{Nests}
+use Rattle.kinds.specs.declared.Kind.{Kind}
+use Rattle.kinds.proofs.Places.{same_number}
+use Rattle.kinds.specs.declared.Kind.TheVariants.{Table, Body, Row}
 
 -- the parent of the line at i, from place u on
 record Above (ks : List Kept) (u i : ℕ) : Type 0 where
@@ -50,21 +53,23 @@ module _ (ks : List Kept) (step : (k : ℕ) → k + 1 < length ks → (get_or ks
 
   -- the kinds on the way from a table down to its cell
   module _ (z : Nests ks) (t i : ℕ) (c : CellOf ks t i) (e : kind_number (get_or ks t no_kept).kind ≡ table_kind) where
-    holds_body : (k : ℕ) → may_hold table_kind k ≡ true → k ≡ body_kind
+    holds_body : (k : Kind) → may_hold Table k ≡ true → kind_number k ≡ body_kind
     unfolding may_hold
-    holds_body k h = eqb-true k body_kind h
+    holds_body k h = eqb-true (kind_number k) body_kind h
 
-    holds_row : (k : ℕ) → may_hold body_kind k ≡ true → k ≡ row_kind
+    holds_row : (k : Kind) → may_hold Body k ≡ true → kind_number k ≡ row_kind
     unfolding may_hold
-    holds_row k h = eqb-true k row_kind h
+    holds_row k h = eqb-true (kind_number k) row_kind h
 
-    holds_cell : (k : ℕ) → may_hold row_kind k ≡ true → k ≡ cell_kind
+    holds_cell : (k : Kind) → may_hold Row k ≡ true → kind_number k ≡ cell_kind
     unfolding may_hold
-    holds_cell k h = eqb-true k cell_kind h
+    holds_cell k h = eqb-true (kind_number k) cell_kind h
 
     -- what a parent of the kind a holds
-    child : (a b : ℕ) → ((k : ℕ) → may_hold a k ≡ true → k ≡ b) → (p q : ℕ) → Parent ks p q → kind_number (get_or ks p no_kept).kind ≡ a → kind_number (get_or ks q no_kept).kind ≡ b
-    child a b h p q r f = h (kind_number (get_or ks q no_kept).kind) (sym (ap (λ (x : ℕ). may_hold x (kind_number (get_or ks q no_kept).kind)) f) ∙ z.holds p q r)
+    child : (a : Kind) (b : ℕ) → ((k : Kind) → may_hold a k ≡ true → kind_number k ≡ b) → (p q : ℕ) → Parent ks p q → kind_number (get_or ks p no_kept).kind ≡ kind_number a
+        → kind_number (get_or ks q no_kept).kind ≡ b
+    child a b h p q r f =
+        h (get_or ks q no_kept).kind (sym (ap (λ (x : Kind). may_hold x (get_or ks q no_kept).kind) (same_number (get_or ks p no_kept).kind a f)) ∙ z.holds p q r)
 
     pub cell_kind_lem : kind_number (get_or ks i no_kept).kind ≡ cell_kind
     cell_kind_lem =
@@ -78,8 +83,8 @@ module _ (ks : List Kept) (step : (k : ℕ) → k + 1 < length ks → (get_or ks
         let w = above t y.p y' (omega (arith, xp.before, yp.before, c.within)) (omega (arith, xp.deeper, yp.deeper)) in
         let wp = w.parent in
         let w' : w.p ≡ t = first w.p w.from (omega (arith, xp.before, yp.before, wp.before)) (omega (arith, xp.deeper, yp.deeper, wp.deeper)) in
-        child row_kind cell_kind holds_cell x.p i xp
-        (child body_kind row_kind holds_row y.p x.p yp (child table_kind body_kind holds_body w.p y.p wp (ap (λ (k : ℕ). kind_number (get_or ks k no_kept).kind) w' ∙ e)))
+        child Row cell_kind holds_cell x.p i xp
+        (child Body row_kind holds_row y.p x.p yp (child Table body_kind holds_body w.p y.p wp (ap (λ (k : ℕ). kind_number (get_or ks k no_kept).kind) w' ∙ e)))
       where
         -- another depth, so another line
         later : (q : ℕ) → t ≤ q → ((get_or ks q no_kept).depth ≡ (get_or ks t no_kept).depth → ⊥) → t < q

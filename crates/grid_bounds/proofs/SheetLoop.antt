@@ -24,9 +24,6 @@ pub record SheetLoop (ks : List Kept) (most end entries i : ℕ) : Type 0 where
   pub within : end ≤ max_position
   pub few : entries ≤ most
 
-pub sheet_start : (ks : List Kept) (most : ℕ) → SheetLoop ks most 0 0 0
-sheet_start ks most = record { place = omega arith; cols = omega arith; rows = omega arith; within = omega arith; few = omega arith }
-
 module _ {ks : List Kept} {most end entries i : ℕ} (z : SheetLoop ks most end entries i) where
   pub sheet_stop : length ks ≤ i → SheetBound most ks
   unfolding sum

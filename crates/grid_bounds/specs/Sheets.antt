@@ -33,7 +33,7 @@ pub record Suffice (entries rows : ℕ) (ks : List Kept) : Type 0 where
 
 -- each line's parent may hold it
 pub record Nests (ks : List Kept) : Type 0 where
-  pub holds : (p i : ℕ) → Parent ks p i → may_hold (kind_number (get_or ks p no_kept).kind) (kind_number (get_or ks i no_kept).kind) ≡ true
+  pub holds : (p i : ℕ) → Parent ks p i → may_hold (get_or ks p no_kept).kind (get_or ks i no_kept).kind ≡ true
 
 -- neither of the refusals 5 and 6 applies to any table
 pub record AllSound (ks : List Kept) : Type 0 where

@@ -3,7 +3,7 @@
 
 pub mod whole; // whole.rt: all tables of a sheet at once
 
-ghost use Rattle.std.specs.Prelude.{◌≡◌, true, cond, ◌≤◌, ◌<◌, eqb, length};
+ghost use Rattle.std.specs.Prelude.{◌≡◌, true, ◌≤◌, ◌<◌, length};
 ghost use Rattle.lists.specs.Limits.{max_lines, max_position};
 ghost use Rattle.cells.specs.Listed.{table_rows};
 ghost use Rattle.grid.specs.Facts.{Sound};
@@ -42,8 +42,7 @@ pub fn table_fits(lines: &[Kept], at: usize) -> bool
     let mut hung: u32 = 0;
     let mut end: u32 = 0;
     let mut entries: u32 = 0;
-    for i in at + 1..lines.len() {
-        let line = lines[i];
+    for line in &lines[at + 1..] {
         if line.depth <= d {
             break;
         }

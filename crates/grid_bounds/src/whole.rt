@@ -15,8 +15,7 @@ pub fn sheet_fits(lines: &[Kept], most: u32) -> bool
 {
     let mut end: u32 = 0;
     let mut entries: u32 = 0;
-    for i in 0..lines.len() {
-        let line = lines[i];
+    for line in lines {
         let is_cell = line.kind == Kind::Cell;
         if is_cell {
             let cols = u32::from(line.cols);

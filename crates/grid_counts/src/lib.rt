@@ -7,7 +7,7 @@ ghost use Rattle.lists.specs.Limits.{max_lines};
 ghost use Rattle.records.specs.Kept.{no_kept};
 ghost use Rattle.cells.specs.Listed.{table_rows};
 ghost use Rattle.grid_counts.specs.Count.{count_of, judged_by};
-ghost use Rattle.grid_counts.specs.inner.Tallies.{framed, many_entries, Lines, RowSum, Surveyed, Filled, Hanging, ready, RowReady, RowCounted, BodyReady, BodyCounted};
+ghost use Rattle.grid_counts.specs.inner.Tallies.{framed, many_entries, Lines, RowSum, Surveyed, Hanging, ready, RowReady, RowCounted, BodyReady, BodyCounted};
 
 use lists::{MAX_ENTRIES, MAX_POSITION, Reason};
 use records::Kept;

@@ -21,7 +21,7 @@ use Rattle.records.specs.declared.Entry.{Entry}
 use Rattle.cells.specs.Cells.{Cell, Frame, cell, open_cell}
 use Rattle.cells.proofs.Lines.{frame_stop, frame_body, frame_row, frame_cell, frame_deeper, inside}
 use Rattle.grid.specs.Grid as grid
-use Rattle.gridding.specs.Packed.{entry, shown}
+use Rattle.gridding.specs.Records.{entry, shown}
 use Rattle.grid_plain.specs.declared.RowCells.{RowCells}
 use Rattle.std.specs.Prelude.{Some}
 use Rattle.grid_plain.specs.Plain.{Plain, plain_entries}

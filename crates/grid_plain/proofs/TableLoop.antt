@@ -26,8 +26,8 @@ use Rattle.positions.specs.Positions.{all_rows, entry_count}
 use Rattle.grid.specs.Grid.{GridRow, grid_of}
 use Rattle.grid.specs.Grid as grid
 use Rattle.gridding.specs.declared.Counts.{Counts}
-use Rattle.gridding.specs.Packed.{shown, ended_rows, TableReady, TableMade}
-use Rattle.gridding.specs.Packed as packing
+use Rattle.gridding.specs.Records.{shown, ended_rows, TableReady, TableMade}
+use Rattle.gridding.specs.Records as records
 use Rattle.grid_plain.specs.declared.RowCells.{RowCells}
 use Rattle.std.specs.Prelude.{Some}
 use Rattle.grid_plain.specs.Plain.{PlainRow, PlainTable, plain_entries, plain_row, plain_grid, most_cells}
@@ -48,15 +48,15 @@ entries_more [] r = append-nil r.entries
 entries_more (q ∷ g) r = ap (λ (l : List grid.Entry). q.entries ++ l) (entries_more g r) ∙ sym (append_assoc q.entries (grid.entries_of g) r.entries)
 
 ended_more : (n : ℕ) (g : List GridRow) (r : GridRow)
-    → ended_rows n (g ++ (r ∷ [])) ≡ ended_rows n g ++ (packing.row r.line (n + length (grid.entries_of g) + length r.entries) ∷ [])
+    → ended_rows n (g ++ (r ∷ [])) ≡ ended_rows n g ++ (records.row r.line (n + length (grid.entries_of g) + length r.entries) ∷ [])
 unfolding ended_rows grid.entries_of
-ended_more n [] r = ap (λ (m : ℕ). packing.row r.line m ∷ []) (omega arith)
+ended_more n [] r = ap (λ (m : ℕ). records.row r.line m ∷ []) (omega arith)
 ended_more n (q ∷ g) r =
     let m = n + length q.entries in
     let e : m + length (grid.entries_of g) + length r.entries ≡ n + length (q.entries ++ grid.entries_of g) + length r.entries =
     omega (arith, length-append q.entries (grid.entries_of g)) in
-    ap (λ (l : List RowEnd). packing.row q.line m ∷ l)
-    (ended_more m g r ∙ ap (λ (x : ℕ). ended_rows m g ++ (packing.row r.line x ∷ [])) e)
+    ap (λ (l : List RowEnd). records.row q.line m ∷ l)
+    (ended_more m g r ∙ ap (λ (x : ℕ). ended_rows m g ++ (records.row r.line x ∷ [])) e)
 
 most_more : (rs : List Row) (r : Row) → most_cells (rs ++ (r ∷ [])) ≡ max (most_cells rs) (length r.cells)
 unfolding most_cells
@@ -250,13 +250,13 @@ module _ {ks : List Kept} {at : ℕ} {es₀ : List Entry} {rs₀ : List RowEnd} 
         }
 
         pub table_row : (end : RowCells) (es' : List Entry) → RowDone ks d (i + 1) n end es es' → length es' ≡ length es
-            → TableLoop ks at es₀ es' rs₀ (set rs r (packing.row (i + 1) (n + end.cells))) (n + end.cells) (r + 1) (max columns end.cells) end.next
+            → TableLoop ks at es₀ es' rs₀ (set rs r (records.row (i + 1) (n + end.cells))) (n + end.cells) (r + 1) (max columns end.cells) end.next
         unfolding all_cells All
         table_row end es' w s =
             let new = row (i + 1) f.cells in
             let g = plain_grid z.rows in
             let rows' = z.rows ++ (new ∷ []) in
-            let added = packing.row (i + 1) (n + end.cells) in
+            let added = records.row (i + 1) (n + end.cells) in
             let room : r < length rs = omega (arith, z.few, more, t.row_room, z.same_rows) in
             let m : r + 1 ≡ suc r = omega arith in
             let k : n + end.cells ≡ 0 + length (grid.entries_of g) + length (plain_entries 0 f.cells) =
@@ -288,7 +288,7 @@ module _ {ks : List Kept} {at : ℕ} {es₀ : List Entry} {rs₀ : List RowEnd} 
               rows_in_fits =
                   ap (λ (x : ℕ). take x (set rs r added)) m
                   ∙ take-suc-set rs r added room
-                  ∙ ap₂ (λ (l : List RowEnd) (x : ℕ). l ++ (packing.row (i + 1) x ∷ [])) z.rows_in_fits k
+                  ∙ ap₂ (λ (l : List RowEnd) (x : ℕ). l ++ (records.row (i + 1) x ∷ [])) z.rows_in_fits k
                   ∙ sym (ap (ended_rows 0) (grid_more z.rows new) ∙ ended_more 0 g (plain_row new));
               few = omega (arith, z.few, w.after);
               within = w.within;

@@ -4,7 +4,7 @@
 
 ghost use Rattle.std.specs.Prelude.{◌≡◌, ◌&&◌, eqb};
 ghost use Rattle.cells.specs.Listed.{table_rows};
-ghost use Rattle.gridding.specs.Packed.{TableReady, TableMade};
+ghost use Rattle.gridding.specs.Records.{TableReady, TableMade};
 ghost use Rattle.grid_plain.specs.inner.Walking.{RowReady, RowWalked, TableWalked};
 
 use gridding::Counts;

@@ -20,7 +20,7 @@ use Rattle.cells.specs.Listed.{table_rows}
 use Rattle.positions.specs.Positions.{entry_count, all_rows}
 use Rattle.grid.specs.Facts.{Sound}
 use Rattle.grid.specs.Judging.{Lined}
-use Rattle.gridding.specs.Packed.{TableReady}
+use Rattle.gridding.specs.Records.{TableReady}
 use Rattle.gridding.specs.inner.Making.{Ended}
 
 -- ---- the table of its own lines

@@ -1,4 +1,5 @@
 -- What holds of the grid of a table as records, and of its lines.
-pub mod Packing
+pub mod RowRecords
+pub mod Cut
 pub mod Ending
 pub mod Making

@@ -9,15 +9,15 @@ use Rattle.records.specs.declared.Kept.{Kept}
 use Rattle.records.specs.declared.Entry.{Entry}
 use Rattle.cells.specs.Cells as cells
 use Rattle.cells.specs.Listed.{table_rows}
-use Rattle.cells.specs.Held.{row_end, entry_span, row_lines_of, row_ends_of, entry_cells_of, entry_spans_of}
+use Rattle.records.specs.Figures.{row_end, entry_span, row_lines_of, row_ends_of, entry_cells_of, entry_spans_of}
 use Rattle.positions.specs.declared.Positions.{Positions}
 use Rattle.grid.specs.Grid.{grid_of}
 use Rattle.grid.specs.inner.Placing.{RowsReady, PlacedNumbered, TablePlaced}
 use Rattle.grid.proofs.Rebuilt.{held_few}
 use Rattle.grid.proofs.GridFacts.{grid_rows}
 use Rattle.grid.proofs.Judging.{placed_ready, stands}
-use Rattle.gridding.specs.Packed.{TableReady, TableMade}
-use Rattle.gridding.proofs.Packing.{rows_are}
+use Rattle.gridding.specs.Records.{TableReady, TableMade}
+use Rattle.gridding.proofs.RowRecords.{rows_are}
 
 module _ {ks : List Kept} {at : ℕ} (entries₀ : List Entry) (rows₀ : List RowEnd) (z : TableReady ks at entries₀ rows₀) where
   abbrev T : List cells.Row
@@ -42,5 +42,5 @@ module _ {ks : List Kept} {at : ℕ} (entries₀ : List Entry) (rows₀ : List R
           entries_are = g.entries_are;
           columns_are = g.columns_are;
           entries = g.entries;
-          rows = rows_are (grid_of T) rows g.row_lines g.row_ends_fits (omega (arith, grid_rows T z.sound, held_few ks at, z.row_room));
+          rows = rows_are (grid_of T) rows g.row_lines g.row_ends (omega (arith, grid_rows T z.sound, held_few ks at, z.row_room));
         }

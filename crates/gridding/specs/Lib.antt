@@ -1,2 +1,3 @@
-pub mod Packed
+pub mod Records
+pub mod Cut
 pub mod inner

@@ -5,7 +5,8 @@
 ghost use Rattle.std.specs.Prelude.{◌≡◌, ◌-◌, ◌*◌, ◌≤◌, ◌<◌, length};
 ghost use Rattle.lists.specs.Limits.{max_lines};
 ghost use Rattle.cells.specs.Listed.{table_rows};
-ghost use Rattle.gridding.specs.Packed.{TableReady, TableMade};
+ghost use Rattle.gridding.specs.Records.{TableReady, TableMade};
+ghost use Rattle.gridding.specs.Cut.{RecordsOf};
 ghost use Rattle.gridding.specs.inner.Making.{Ended, Roomy};
 
 use lists::MAX_LINES;
@@ -29,6 +30,28 @@ pub struct Counts {
     pub rows: usize,
     pub entries: usize,
     pub columns: usize,
+}
+
+// The records of a grid: of its entries and of its rows, and how many columns it has.
+#[derive(Clone, Copy)]
+pub struct Records<'a> {
+    pub entries: &'a [Entry],
+    pub rows: &'a [RowEnd],
+    pub columns: usize,
+}
+
+impl Counts {
+    // The records of a grid that was made in two slices: so many of their first.
+    pub fn records<'a>(self, entries: &'a [Entry], rows: &'a [RowEnd]) -> Records<'a>
+        requires { (self.entries ≤ length entries.now) × (self.rows ≤ length rows.now) }
+        ensures { RecordsOf self entries.now rows.now result.entries.now result.rows.now result.columns }
+    {
+        Records {
+            entries: &entries[..self.entries],
+            rows: &rows[..self.rows],
+            columns: self.columns,
+        }
+    }
 }
 
 // Where the lines of the table at the place `at` end: at the first that is no deeper than the table.

@@ -1,4 +1,4 @@
--- Each place below is that of its kind, and each kind is that of its place. Assumes nothing.
+-- The kind at each of the 27 places has that place, and the kind at the place of a kind is that kind. Assumes nothing.
 use mathlib.Core.Path.{◌≡◌, refl, sym, ap, ◌∙◌}
 use mathlib.Core.List.{List, [], ◌∷◌}
 use Prim.Native.Nat.{ℕ, zero, suc, ◌+◌, ◌<◌}
@@ -61,6 +61,9 @@ at_of_number Calc = refl
 pub number_below : (k : Kind) → kind_number k < kind_count
 number_below k = tag_below (variants the_type) (the_type.to k)
 
--- kinds that are not the same have other places
+-- kinds of one place are the same, and others have other places
+pub same_number : (k l : Kind) → kind_number k ≡ kind_number l → k ≡ l
+same_number k l q = sym (at_of_number k) ∙ ap kind_at q ∙ at_of_number l
+
 pub apart : (k l : Kind) → (k ≡ l → ⊥) → eqb (kind_number k) (kind_number l) ≡ false
-apart k l h = ne_eqb (kind_number k) (kind_number l) (λ q. h (sym (at_of_number k) ∙ ap kind_at q ∙ at_of_number l))
+apart k l h = ne_eqb (kind_number k) (kind_number l) (λ q. h (same_number k l q))

@@ -19,7 +19,7 @@ use Rattle.kinds.specs.Kinds.{kind_number, has_text, img_kind, calc_kind}
 use Rattle.fields.specs.Lines.{feed}
 use Rattle.fields.specs.Numbers.{up_to, magnitude, is_natural, value_from, natural_of, number_of}
 use Rattle.fields.specs.Blanks.{until_blank, blank}
-use Rattle.fields.specs.Reading.{sound, sound_kind, number_read, kind_read}
+use Rattle.fields.specs.Reading.{sound, number_read, kind_read}
 use Rattle.line.specs.Fields.{n_fits}
 use Rattle.line.specs.Reading.{span_limit, rest_read, fields_read}
 use Rattle.line.specs.LineAt.{line_at}
@@ -49,11 +49,11 @@ past s at k t e = sym (drop-drop k at s) ∙ ap (drop k) e
 
 -- the kind has this name
 abbrev pub Name : List ℕ → Kind → Type 0
-Name name kind = (at : ℕ) (t : List ℕ) → kind_read at (name ++ (blank ∷ t)) ≡ sound_kind kind (at + length name + 1)
+Name name kind = (at : ℕ) (t : List ℕ) → kind_read at (name ++ (blank ∷ t)) ≡ sound kind (at + length name + 1)
 
 module _ (s : List ℕ) (at depth : ℕ) (kind : Kind) (cols rows : ℕ) (name rest : List ℕ) (deep : depth ≤ 9) (narrow : cols ≤ 9) (low : rows ≤ 9)
-    (named : Name name kind) (numbered : n_fits (kind_number kind) (plain 0) ≡ true) (wide : up_to (span_limit (kind_number kind) max_cols) (plain cols) ≡ true)
-    (high : up_to (span_limit (kind_number kind) max_rows) (plain rows) ≡ true)
+    (named : Name name kind) (numbered : n_fits kind (plain 0) ≡ true) (wide : up_to (span_limit kind max_cols) (plain cols) ≡ true)
+    (high : up_to (span_limit kind max_rows) (plain rows) ≡ true)
     (stands : drop at s ≡ (48 + depth) ∷ blank ∷ (name ++ (blank ∷ 48 ∷ blank ∷ (48 + cols) ∷ blank ∷ (48 + rows) ∷ blank ∷ rest))) where
   -- the place of n
   abbrev n_place : ℕ
@@ -77,10 +77,10 @@ module _ (s : List ℕ) (at depth : ℕ) (kind : Kind) (cols rows : ℕ) (name r
         digit_read (up_to max_depth) magnitude at s _ depth deep stands (le-leb depth max_depth (omega arith)),
         at_kind,
         named (at + 2) _,
-        digit_read (n_fits (kind_number kind)) shifted n_place s _ 0 (omega arith) at_n numbered,
-        digit_read (up_to (span_limit (kind_number kind) max_cols)) magnitude (n_place + 2) s _ cols narrow (past s n_place 2 _ at_n) wide,
+        digit_read (n_fits kind) shifted n_place s _ 0 (omega arith) at_n numbered,
+        digit_read (up_to (span_limit kind max_cols)) magnitude (n_place + 2) s _ cols narrow (past s n_place 2 _ at_n) wide,
         two,
-        digit_read (up_to (span_limit (kind_number kind) max_rows)) magnitude (n_place + 4) s _ rows low (past s n_place 4 _ at_n) high,
+        digit_read (up_to (span_limit kind max_rows)) magnitude (n_place + 4) s _ rows low (past s n_place 4 _ at_n) high,
         four,
       )
 
@@ -92,7 +92,7 @@ module _ (s : List ℕ) (at depth : ℕ) (kind : Kind) (cols rows : ℕ) (name r
   text_at = past s n_place 6 _ at_n
 
   pub line_is : (stop size : ℕ) → stop ≡ from + length (front_of feed (drop from s)) → stop < length s → get_or s stop 0 ≡ feed
-      → (eqb (stop - from) 0 || has_text (kind_number kind)) ≡ true → eqb (kind_number kind) calc_kind ≡ false → size ≡ text_size (front_of feed (drop from s))
+      → (eqb (stop - from) 0 || has_text kind) ≡ true → eqb (kind_number kind) calc_kind ≡ false → size ≡ text_size (front_of feed (drop from s))
       → line_at s at
       ≡ Ok (record { depth = depth; kind = kind; number = shift; cols = cols; rows = rows; own = with_img (eqb (kind_number kind) img_kind) size; from = from; to = stop; next = stop + 1 })
   line_is stop size end inside fed may other sized = front_good s at _ (reads s at _ fields_are) stop end inside fed may other size sized

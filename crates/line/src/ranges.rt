@@ -1,6 +1,5 @@
 // The numbers that a line of a kind may have: its n and its spans.
 ghost use Rattle.std.specs.Prelude.{◌≡◌, drop};
-ghost use Rattle.kinds.specs.Kinds.{kind_number};
 ghost use Rattle.text.specs.Decimal.{shifted};
 ghost use Rattle.fields.specs.Reading.{number_read};
 ghost use Rattle.line.specs.Fields.{n_fits};
@@ -10,8 +9,8 @@ use fields::{Field, numbers};
 use kinds::Kind;
 
 // The field n of a line of the kind: a heading's rank, a list's first number, or 0.
-pub fn n_at(bytes: &[u8], at: usize, kind: Kind) -> Option<Field>
-    ensures { result ≡ number_read (n_fits (kind_number kind)) shifted at (drop at bytes.now) }
+pub fn n_at(bytes: &[u8], at: usize, kind: Kind) -> Option<Field<u32>>
+    ensures { result ≡ number_read (n_fits kind) shifted at (drop at bytes.now) }
 {
     if kind == Kind::Head {
         return numbers::shifted_at(bytes, at, 1, 6);
@@ -25,7 +24,7 @@ pub fn n_at(bytes: &[u8], at: usize, kind: Kind) -> Option<Field>
 // Cells alone have spans: the largest that a line of the kind may have, where a cell may have `most`.
 #[tactic(auto, unfolding(crate::specs::Reading::span_limit))]
 pub fn span_limit(kind: Kind, most: u32) -> u32
-    ensures { result ≡ span_limit (kind_number kind) most }
+    ensures { result ≡ span_limit kind most }
 {
     if kind == Kind::Cell { most } else { 0 }
 }

@@ -2,7 +2,7 @@
 use Rattle.answers.specs.Answers.{causes_with}
 use Rattle.answers.specs.declared.Causes.{Causes}
 use Rattle.lists.specs.declared.Refusal.{Refusal}
-use Rattle.std.specs.Prelude.{Err, Ok, Result, Some}
+use Rattle.std.specs.Prelude.{Err, Ok, Result, MatchResult, Some}
 use mathlib.Core.Path.{◌≡◌, refl, sym, ◌∙◌}
 use mathlib.Core.List.{List, [], ◌∷◌}
 use Prim.Native.Nat.{ℕ, ◌≤◌}
@@ -16,6 +16,9 @@ use Rattle.lists.specs.Refusals.{Check, first_answer, verdict_of, if_passes}
 use Rattle.sheet.proofs.First.{neither}
 use Rattle.opening.specs.Opening.{after_reading, open_checks}
 use Rattle.arguments.specs.Arguments.{any_shorter, missing_arguments}
+use Rattle.arguments.specs.declared.Settings.{Settings}
+use Rattle.arguments.specs.Asked.{Asks, verdict_in}
+use Rattle.arguments.proofs.Opened.{opened}
 use Rattle.arguments.proofs.Shorter.{or_false}
 use Rattle.sheet_figures.specs.Figures.{columns_at}
 use Rattle.sheet_figures.specs.inner.Early.{early}
@@ -25,24 +28,25 @@ use Rattle.missing.specs.Missing.{missing_checks, explained_of, for_one, Missing
 use Rattle.missing.specs.inner.Found.{ExplainRoom, missed_total, column_total, MissingFound}
 
 -- refused for the arguments
-pub missing_early : (why : Refusal) (cs : List Check) (s : List ℕ) (line wrap raw width : ℕ) (entry cause : List ℕ)
+missing_early : (why : Refusal) (cs : List Check) (s : List ℕ) (line wrap raw width : ℕ) (entry cause : List ℕ)
     → MissingFound (early (Err why) ∷ cs) s line wrap raw width (Err why) entry cause
 unfolding first_answer early if_passes missed_total column_total
 missing_early why cs s line wrap raw width entry cause =
     record { answer = refl; few_entries = omega arith; few_columns = omega arith; entries = refl; causes = refl }
 
 -- not refused for the arguments
-pub missing_late : {v : Result (Unit {0}) Refusal} {cs : List Check} {s : List ℕ} {line wrap raw width : ℕ} {r : Result Causes Refusal} {entry cause : List ℕ} → v ≡ (Ok tt)
-    → MissingFound cs s line wrap raw width r entry cause → MissingFound (early v ∷ cs) s line wrap raw width r entry cause
+missing_late : {cs : List Check} {s : List ℕ} {line wrap raw width : ℕ} {r : Result Causes Refusal} {entry cause : List ℕ}
+    → MissingFound cs s line wrap raw width r entry cause → MissingFound (early (Ok tt) ∷ cs) s line wrap raw width r entry cause
 unfolding first_answer early if_passes
-missing_late z f =
-    rw z (record {
-      answer = f.answer;
-      few_entries = f.few_entries;
-      few_columns = f.few_columns;
-      entries = f.entries;
-      causes = f.causes;
-    })
+missing_late f =
+    record { answer = f.answer; few_entries = f.few_entries; few_columns = f.few_columns; entries = f.entries; causes = f.causes }
+
+pub missing_opened : {asked : Result Settings Refusal} {cs : List Check} {s : List ℕ} {line wrap raw width : ℕ} {r : Result Causes Refusal} {entry cause : List ℕ}
+    → Asks asked wrap raw width 0 → MatchResult asked (λ g. MissingFound cs s line g.wrap g.raw g.width r entry cause) (λ why. r ≡ Err why)
+    → MissingFound (early (verdict_in asked) ∷ cs) s line wrap raw width r entry cause
+missing_opened {asked} {cs} {s} {line} {wrap} {raw} {width} {r} {entry} {cause} =
+    opened (λ v q. MissingFound (early v ∷ cs) s line wrap raw width q entry cause) (λ p q l o. MissingFound cs s line p q l r entry cause)
+    asked (λ why. missing_early why cs s line wrap raw width entry cause) missing_late
 
 -- where the arguments are not refused, each lent buffer has room
 fit : (wrap raw width : ℕ) (v : Result (Unit {0}) Refusal) (a b : ℕ) → v ≡ verdict_of (missing_arguments wrap raw width (a ∷ []) (b ∷ [])) → v ≡ (Ok tt)

@@ -5,10 +5,9 @@
 mod sheets; // of the table in a line of a sheet
 mod making; // of one table of a measured sheet
 
-ghost use Rattle.std.specs.Prelude.{◌≡◌, ℕ, ◌∷◌, Some};
+ghost use Rattle.std.specs.Prelude.{◌≡◌, MatchResult, Some, Ok, Err};
 ghost use Rattle.opening.specs.Opening.{open_checks};
-ghost use Rattle.sheet_figures.specs.inner.Early.{early};
-ghost use Rattle.arguments.specs.Asked.{Asks, verdict_in};
+ghost use Rattle.arguments.specs.Asked.{verdict_in};
 ghost use Rattle.missing.specs.Missing.{MissingAnswer};
 ghost use Rattle.missing.specs.inner.Found.{ExplainRoom, MissingFound};
 
@@ -17,6 +16,7 @@ use arguments::Settings;
 use lists::Refusal;
 
 // What is found in the sheet, unless the arguments are refused.
+#[tactic(auto, unfolding(arguments::specs::Asked::verdict_in))]
 fn find_missing(
     sheet: &[u8],
     line: u32,
@@ -25,9 +25,9 @@ fn find_missing(
     cause: &mut [u32],
 ) -> Result<Causes, Refusal>
     requires { verdict_in asked ≡ Ok tt → ExplainRoom entry.old cause.old }
-    ensures { (wrap raw width : ℕ) → Asks asked wrap raw width 0
-        → MissingFound (early (verdict_in asked) ∷ open_checks (Some line) sheet.now) sheet.now line wrap raw width result
-        entry.new cause.new }
+    ensures { MatchResult asked
+        (λ g. MissingFound (open_checks (Some line) sheet.now) sheet.now line g.wrap g.raw g.width result entry.new cause.new)
+        (λ why. result ≡ Err why) }
 {
     let settings = asked?;
     sheets::explain_sheet(sheet, line, settings, entry, cause)

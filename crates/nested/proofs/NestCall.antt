@@ -1,13 +1,14 @@
 -- The call `nested`: what is found in the sheet is what it answers and leaves, and of it the third demand holds. Assumes nothing.
 use Rattle.records.specs.declared.Kept.{Kept}
+use Rattle.answers.specs.Answers.{nested_with}
 use Rattle.answers.specs.declared.Layout.{Layout}
 use Rattle.answers.specs.declared.Nested.{Nested}
 use Rattle.lists.specs.declared.Refusal.{Refusal}
-use Rattle.std.specs.Prelude.{Err, Ok, Option, Result, None, Some}
+use Rattle.std.specs.Prelude.{Err, Ok, Option, Result, MatchResult, None, Some}
 use mathlib.Core.Path.{◌≡◌, refl, sym, ap, ◌∙◌}
 use mathlib.Core.Bool.{Bool, true, false}
 use mathlib.Core.List.{List, [], ◌∷◌, append-nil}
-use Prim.Native.Nat.{ℕ, ◌-◌, ◌≤◌}
+use Prim.Native.Nat.{ℕ, ◌-◌, ◌≤◌, ◌<◌}
 use native.Mathlib.Omega.{arith}
 use lib.Dec.{ltb}
 use lib.ListN.{length, get_or, take}
@@ -27,12 +28,13 @@ use Rattle.opening.proofs.Opens.{opened_asked}
 use Rattle.table.specs.inner.Asked.{OutRoom}
 use Rattle.table.proofs.Grids.{all_cells}
 use Rattle.arguments.specs.Arguments.{any_shorter, nested_arguments}
+use Rattle.arguments.specs.declared.Settings.{Settings}
+use Rattle.arguments.specs.Asked.{Asks, verdict_in}
+use Rattle.arguments.proofs.Opened.{opened}
 use Rattle.arguments.proofs.Shorter.{two_fit, or_false}
-use Rattle.sheet_figures.specs.inner.Opened.{AskedIn, MeasuredIn, LinesOf}
-use Rattle.sheet_figures.proofs.Openings.{asked_in}
-use Rattle.sheet_figures.proofs.Tables.{measured_in}
+use Rattle.sheet_figures.specs.inner.Opened.{LinesOf}
 use Rattle.call_layout.specs.inner.Found as layouts
-use Rattle.call_layout.specs.inner.Read.{LayoutRead}
+use Rattle.call_layout.specs.inner.Made.{LayoutMade}
 use Rattle.call_layout.proofs.Found.{layout_found}
 use Rattle.call_layout.specs.Layout.{for_columns, for_places}
 use Rattle.sheet_figures.specs.inner.Early.{early}
@@ -40,167 +42,144 @@ use Rattle.sheet_figures.proofs.Early.{early_nines, none_nines, fits, leaving}
 use Rattle.walking.specs.inner.Steps.{AtMost}
 use Rattle.nested.specs.Nested.{width_to, told_at, columns_for, xs_for, wides_for, nested_checks, nested_of, NestedAnswer}
 use Rattle.pacing.specs.inner.Found.{walked_checks, SheetWalked}
-use Rattle.nested.specs.inner.Found.{width_for, PlaceIn, nest_in, without_in, NestRead, columns_in, entries_in, NestFound}
+use Rattle.nested.specs.inner.Found.{NestMade, columns_in, entries_in, NestFound}
 use Rattle.pacing.proofs.Opening.{opened_passed}
 
 same_width : {v k : ℕ} → ◌≡◌ {A = Option ℕ} (Some v) (Some k) → v ≡ k
 same_width e = cc
 
+-- a layout as one at a width
+abbrev layout_nested : ℕ → Result Layout Refusal → Result (Option Nested) Refusal
+layout_nested at (Ok t) = Ok (Some (nested_with at t))
+layout_nested at (Err why) = Err why
+
 -- ---- the table asked for, of a sheet that was walked
 
 module _ {s : List ℕ} {line wrap raw width overflow : ℕ} {r : Result ℕ Refusal} {lines : List Kept} {figures : List Estimate} {ps : List (Option ℕ)}
     (w : SheetWalked (Some line) s wrap raw width overflow r lines figures ps) where
-  abbrev cs : List Check
-  cs = walked_checks (Some line) s wrap raw width overflow
-
-  abbrev W : Option ℕ
-  W = width_to s line wrap raw width
-
   apt : (n : ℕ) → r ≡ Ok n → Apt (kept_lines s) line
   apt n e = table_apt (kept_lines s) line (opened_asked (Some line) s n (sym (w.opened n e).answer) line refl)
 
-  -- the sheet opened for its line
-  lines_of : (n : ℕ) → r ≡ Ok n → LinesOf s line wrap (Ok n) lines figures
-  lines_of n e =
-      let o = w.opened n e in
-      record {
-        opened = record {
-          answer = o.answer;
-          holds = o.holds;
-          sound = λ k f. let t = apt n e in o.sound k f (line - 1) (omega (arith, t.from_one, t.within)) t.kind;
-        };
-        measured = λ k f. record { cells = (all_cells (line - 1) wrap (o.measured k f).figures).cells; sound = λ i c. (o.measured k f).sound i c.within };
-      }
-
-  all_pass : (n : ℕ) → r ≡ Ok n → passes cs ≡ true
-  all_pass n e = (first_accepts Err (Ok (length (sheet_lines s))) (Ok n) cs (λ why d. let z : ◌≡◌ {A = ℕ} 0 1 = cc in omega arith) (sym w.answer ∙ e)).0
-
-  -- what is asked of it
-  pub nest_asked : room_for s ≤ length lines → AskedIn r lines line
-  nest_asked h = record {
-    front = λ n e. (asked_in (lines_of n e).opened h).front n refl;
-    asked = λ n e. (asked_in (lines_of n e).opened h).asked n refl;
-  }
-
-  pub nest_measured : room_for s ≤ length figures → MeasuredIn r lines line figures
-  nest_measured h n e = measured_in (lines_of n e) h n refl
-
-  pub place_in : (walk : List (Option ℕ)) → room_for s ≤ length walk → PlaceIn r line walk
-  place_in walk h = record {
-    from_one = λ n e. (apt n e).from_one;
-    within = λ n e. let t = apt n e in let p = opened_passed (w.opened n e) n refl in omega (arith, t.from_one, t.within, p.room, p.kept);
-  }
-
-  -- the width at the table's place is the one that the walk gives it
-  width_is : (n : ℕ) → r ≡ Ok n → width_for r line ps ≡ W
-  unfolding width_for
-  width_is n e =
-      let t = apt n e in
-      let p = opened_passed (w.opened n e) n refl in
-      ap (λ (x : Result ℕ Refusal). width_for x line ps) e
-      ∙ sym (get_or-take n ps (line - 1) None (omega (arith, t.from_one, t.within, p.kept)))
-      ∙ ap (λ (l : List (Option ℕ)). get_or l (line - 1) None) (w.widths n e)
-
-  pub width_small : (v : Option ℕ) → v ≡ width_for r line ps → AtMost max_size v
-  unfolding width_for AtMost
-  width_small v f = at r refl
-    where
-      at : (x : Result ℕ Refusal) → r ≡ x → AtMost max_size v
-      at (Ok n) e = rw (f ∙ width_is n e) (w.small n e (line - 1))
-      at (Err why) e = rw (f ∙ ap (λ (x : Result ℕ Refusal). width_for x line ps) e) tt
-
-  -- ---- what is found
-
-  module _ (low : raw ≤ 1) (v : Option ℕ) (f : v ≡ width_for r line ps) {t : Result (Option Nested) Refusal} {column x wide : List ℕ} (g : NestRead r v lines line figures raw t column x wide) where
-    -- read, with a width
-    laid_found : (n k : ℕ) → r ≡ Ok n → v ≡ Some k → NestFound cs s line wrap raw width t column x wide
-    unfolding nest_in told_at columns_in entries_in columns_for xs_for wides_for layouts.columns_in layouts.entries_in
-    laid_found n k e d =
-        let u : W ≡ Some k = sym (width_is n e) ∙ sym f ∙ d in
-        let l = layout_found (lines_of n e) low (rw e at (g.laid k d)) in
-        let p = (opened_passed (w.opened n e) n refl).all in
-        let q = all_pass n e in
-        let a = l.answer ∙ first_passes Err _ (open_checks (Some line) s) p in
-        let b = g.answer k d ∙ ap (nest_in k) a in
-        let m : columns_in t ≡ layouts.columns_in (g.arranged k d) = ap columns_in b ∙ sym (ap layouts.columns_in a) in
-        let o : entries_in t ≡ layouts.entries_in (g.arranged k d) = ap entries_in b ∙ sym (ap layouts.entries_in a) in
+  module _ {n : ℕ} (e : r ≡ Ok n) where
+    -- the sheet opened for its line
+    pub lines_of : LinesOf s line wrap n lines figures
+    lines_of =
+        let o = w.opened n e in
+        let t = apt n e in
         record {
-          answer = b ∙ sym (first_passes Err (told_at s line wrap raw W) cs q ∙ ap (told_at s line wrap raw) u);
-          few_columns = omega (arith, m, l.few_columns);
-          few_entries = omega (arith, o, l.few_entries);
-          widths = ap (λ (y : ℕ). take y column) m ∙ l.widths ∙ figures_pass (open_checks (Some line) s) _ p ∙ sym (figures_pass cs _ q ∙ ap (columns_for s line wrap raw) u);
-          xs = ap (λ (y : ℕ). take y x) o ∙ l.xs ∙ figures_pass (open_checks (Some line) s) _ p ∙ sym (figures_pass cs _ q ∙ ap (xs_for s line wrap raw) u);
-          wides = ap (λ (y : ℕ). take y wide) o ∙ l.wides ∙ figures_pass (open_checks (Some line) s) _ p ∙ sym (figures_pass cs _ q ∙ ap (wides_for s line wrap raw) u);
-          promised = λ _ y h. let z : k ≡ y = same_width (sym u ∙ h) in rw (← z) (l.promised p);
+          opened = record {
+            answer = sym o.answer;
+            holds = o.holds n refl;
+            sound = o.sound n refl (line - 1) (omega (arith, t.from_one, t.within)) t.kind;
+          };
+          measured = record { cells = (all_cells (line - 1) wrap (o.measured n refl).figures).cells; sound = λ i c. (o.measured n refl).sound i c.within };
         }
 
-    -- read, without one
-    none_found : (n : ℕ) → r ≡ Ok n → v ≡ None → NestFound cs s line wrap raw width t column x wide
-    unfolding without_in told_at columns_in entries_in columns_for xs_for wides_for
-    none_found n e d =
-        let u : W ≡ None = sym (width_is n e) ∙ sym f ∙ d in
-        let q = all_pass n e in
-        let b : t ≡ Ok None = g.without d ∙ ap without_in e in
-        rw b
-        (record {
-          answer = sym (first_passes Err (told_at s line wrap raw W) cs q ∙ ap (told_at s line wrap raw) u);
-          few_columns = omega arith;
-          few_entries = omega arith;
-          widths = sym (figures_pass cs _ q ∙ ap (columns_for s line wrap raw) u);
-          xs = sym (figures_pass cs _ q ∙ ap (xs_for s line wrap raw) u);
-          wides = sym (figures_pass cs _ q ∙ ap (wides_for s line wrap raw) u);
-          promised = λ _ m h. let c = sym u ∙ h in let z : ◌≡◌ {A = ℕ} 0 1 = cc in absurd (omega arith);
-        })
+    pub place_in : (walk : List (Option ℕ)) → room_for s ≤ length walk → line - 1 < length walk
+    place_in walk h = let t = apt n e in let p = opened_passed (w.opened n e) n refl in omega (arith, t.from_one, t.within, p.room, p.kept)
 
-    refused_found : (why : Refusal) → r ≡ Err why → v ≡ None → NestFound cs s line wrap raw width t column x wide
-    unfolding without_in columns_in entries_in
-    refused_found why e d =
-        let b : t ≡ Err why = g.without d ∙ ap without_in e in
-        let o : first_answer Err (Ok (length (sheet_lines s))) cs ≡ Err why = sym w.answer ∙ e in
-        let q : passes cs ≡ false = fails o (passes cs) refl in
-        rw b
-        (record {
-          answer = sym (ap (first_answer Err _) (sym (append-nil cs))
-              ∙ first_carries Err (Ok (length (sheet_lines s))) Err _ why (λ w f. cc) (λ f. let z : ◌≡◌ {A = ℕ} 0 1 = cc in omega arith) cs [] o);
-          few_columns = omega arith;
-          few_entries = omega arith;
-          widths = sym (figures_fail cs _ q);
-          xs = sym (figures_fail cs _ q);
-          wides = sym (figures_fail cs _ q);
-          promised = λ p. let z : ◌≡◌ {A = ℕ} 0 1 = cc in absurd (omega arith);
-        })
-      where
-        fails : {why : Refusal} → first_answer Err (Ok (length (sheet_lines s))) (walked_checks (Some line) s wrap raw width overflow) ≡ Err why
-            → (b : Bool) → passes (walked_checks (Some line) s wrap raw width overflow) ≡ b → b ≡ false
-        fails o true p = let z = sym (first_passes Err (Ok (length (sheet_lines s))) cs p) ∙ o in let y : ◌≡◌ {A = ℕ} 0 1 = cc in absurd (omega arith)
-        fails o false p = refl
+    all_pass : passes (walked_checks (Some line) s wrap raw width overflow) ≡ true
+    all_pass = (first_accepts Err (Ok (length (sheet_lines s))) (Ok n) (walked_checks (Some line) s wrap raw width overflow) (λ why d. let z : ◌≡◌ {A = ℕ} 0 1 = cc in omega arith) (sym w.answer ∙ e)).0
 
-    pub nest_found : NestFound cs s line wrap raw width t column x wide
-    unfolding width_for
-    nest_found = at r refl v refl
-      where
-        at : (y : Result ℕ Refusal) → r ≡ y → (u : Option ℕ) → v ≡ u → NestFound cs s line wrap raw width t column x wide
-        at (Ok n) e None d = none_found n e d
-        at (Ok n) e (Some k) d = laid_found n k e d
-        at (Err why) e None d = refused_found why e d
-        at (Err why) e (Some k) d = let z = sym d ∙ f ∙ ap (λ (x : Result ℕ Refusal). width_for x line ps) e in let q : ◌≡◌ {A = ℕ} 0 1 = cc in absurd (omega arith)
+    -- the width at the table's place is the one that the walk gives it
+    width_is : get_or ps (line - 1) None ≡ width_to s line wrap raw width
+    width_is =
+        let t = apt n e in
+        let p = opened_passed (w.opened n e) n refl in
+        sym (get_or-take n ps (line - 1) None (omega (arith, t.from_one, t.within, p.kept))) ∙ ap (λ (l : List (Option ℕ)). get_or l (line - 1) None) (w.widths n e)
+
+    pub width_small : AtMost max_size (get_or ps (line - 1) None)
+    width_small = rw width_is (w.small n e (line - 1))
+
+    -- ---- what is found
+
+    module _ (low : raw ≤ 1) {t : Option Nested} {column x wide : List ℕ} (g : NestMade (take n lines) (line - 1) figures raw (get_or ps (line - 1) None) t column x wide) where
+      -- with a width
+      laid_found : (k : ℕ) → get_or ps (line - 1) None ≡ Some k → NestFound (walked_checks (Some line) s wrap raw width overflow) s line wrap raw width (Ok t) column x wide
+      unfolding told_at columns_in entries_in columns_for xs_for wides_for layouts.columns_in layouts.entries_in
+      laid_found k d =
+          let cs = walked_checks (Some line) s wrap raw width overflow in
+          let u : width_to s line wrap raw width ≡ Some k = sym width_is ∙ d in
+          let l = layout_found lines_of low (g.laid k d) in
+          let p = (opened_passed (w.opened n e) n refl).all in
+          let q = all_pass in
+          let a = l.answer ∙ first_passes Err _ (open_checks (Some line) s) p in
+          rw (g.answer k d)
+          (record {
+            answer =
+                ap (layout_nested k) a
+                ∙ sym (first_passes Err (told_at s line wrap raw (width_to s line wrap raw width)) cs q ∙ ap (told_at s line wrap raw) u);
+            few_columns = l.few_columns;
+            few_entries = l.few_entries;
+            widths = l.widths ∙ figures_pass (open_checks (Some line) s) _ p ∙ sym (figures_pass cs _ q ∙ ap (columns_for s line wrap raw) u);
+            xs = l.xs ∙ figures_pass (open_checks (Some line) s) _ p ∙ sym (figures_pass cs _ q ∙ ap (xs_for s line wrap raw) u);
+            wides = l.wides ∙ figures_pass (open_checks (Some line) s) _ p ∙ sym (figures_pass cs _ q ∙ ap (wides_for s line wrap raw) u);
+            promised = λ _ y h. let z : k ≡ y = same_width (sym u ∙ h) in rw (← z) (l.promised p);
+          })
+
+      -- without one
+      none_found : get_or ps (line - 1) None ≡ None → NestFound (walked_checks (Some line) s wrap raw width overflow) s line wrap raw width (Ok t) column x wide
+      unfolding told_at columns_in entries_in columns_for xs_for wides_for
+      none_found d =
+          let cs = walked_checks (Some line) s wrap raw width overflow in
+          let u : width_to s line wrap raw width ≡ None = sym width_is ∙ d in
+          let q = all_pass in
+          rw (g.without d)
+          (record {
+            answer = sym (first_passes Err (told_at s line wrap raw (width_to s line wrap raw width)) cs q ∙ ap (told_at s line wrap raw) u);
+            few_columns = omega arith;
+            few_entries = omega arith;
+            widths = sym (figures_pass cs _ q ∙ ap (columns_for s line wrap raw) u);
+            xs = sym (figures_pass cs _ q ∙ ap (xs_for s line wrap raw) u);
+            wides = sym (figures_pass cs _ q ∙ ap (wides_for s line wrap raw) u);
+            promised = λ _ m h. let c = sym u ∙ h in let z : ◌≡◌ {A = ℕ} 0 1 = cc in absurd (omega arith);
+          })
+
+      pub nest_found : NestFound (walked_checks (Some line) s wrap raw width overflow) s line wrap raw width (Ok t) column x wide
+      nest_found = at (get_or ps (line - 1) None) refl
+        where
+          at : (u : Option ℕ) → get_or ps (line - 1) None ≡ u → NestFound (walked_checks (Some line) s wrap raw width overflow) s line wrap raw width (Ok t) column x wide
+          at None d = none_found d
+          at (Some k) d = laid_found k d
+
+  pub nest_refused : {why : Refusal} {column x wide : List ℕ} → r ≡ Err why → NestFound (walked_checks (Some line) s wrap raw width overflow) s line wrap raw width (Err why) column x wide
+  unfolding columns_in entries_in
+  nest_refused {why} e =
+      let cs = walked_checks (Some line) s wrap raw width overflow in
+      let o : first_answer Err (Ok (length (sheet_lines s))) cs ≡ Err why = sym w.answer ∙ e in
+      let q : passes cs ≡ false = fails o (passes cs) refl in
+      record {
+        answer = sym (ap (first_answer Err _) (sym (append-nil cs))
+            ∙ first_carries Err (Ok (length (sheet_lines s))) Err _ why (λ w f. cc) (λ f. let z : ◌≡◌ {A = ℕ} 0 1 = cc in omega arith) cs [] o);
+        few_columns = omega arith;
+        few_entries = omega arith;
+        widths = sym (figures_fail cs _ q);
+        xs = sym (figures_fail cs _ q);
+        wides = sym (figures_fail cs _ q);
+        promised = λ p. let z : ◌≡◌ {A = ℕ} 0 1 = cc in absurd (omega arith);
+      }
+    where
+      fails : {why : Refusal} → first_answer Err (Ok (length (sheet_lines s))) (walked_checks (Some line) s wrap raw width overflow) ≡ Err why
+          → (b : Bool) → passes (walked_checks (Some line) s wrap raw width overflow) ≡ b → b ≡ false
+      fails o true p = let z = sym (first_passes Err (Ok (length (sheet_lines s))) (walked_checks (Some line) s wrap raw width overflow) p) ∙ o in let y : ◌≡◌ {A = ℕ} 0 1 = cc in absurd (omega arith)
+      fails o false p = refl
 
 -- ---- what is laid out, by its width
 
-module _ {read : Result ℕ Refusal} {w : Option ℕ} {lines : List Kept} {line : ℕ} {figures : List Estimate} {raw : ℕ} {r : Result (Option Nested) Refusal} {column x wide : List ℕ} where
-  pub read_without : w ≡ None → r ≡ without_in read → NestRead read w lines line figures raw r column x wide
-  read_without e q = record {
-    without = λ _. q;
-    arranged = λ v f. let z : ◌≡◌ {A = ℕ} 0 1 = cc in absurd (omega arith);
+module _ {w : Option ℕ} {ks : List Kept} {at : ℕ} {figures : List Estimate} {raw : ℕ} {column x wide : List ℕ} where
+  pub made_none : w ≡ None → NestMade ks at figures raw w None column x wide
+  made_none e = record {
+    without = λ _. refl;
+    layout = λ v f. let z : ◌≡◌ {A = ℕ} 0 1 = cc in absurd (omega arith);
     answer = λ v f. let z : ◌≡◌ {A = ℕ} 0 1 = cc in absurd (omega arith);
     laid = λ v f. let z : ◌≡◌ {A = ℕ} 0 1 = cc in absurd (omega arith);
   }
 
-  pub read_laid : (v : ℕ) → w ≡ Some v → (a : Result Layout Refusal) → r ≡ nest_in v a → LayoutRead read lines line figures raw v a column x wide → NestRead read w lines line figures raw r column x wide
-  read_laid v e a q l = record {
+  pub made_some : {v : ℕ} → w ≡ Some v → {a : Layout} → LayoutMade ks at figures raw v a column x wide → NestMade ks at figures raw w (Some (nested_with v a)) column x wide
+  made_some {v} e {a} l = record {
     without = λ f. let z : ◌≡◌ {A = ℕ} 0 1 = cc in absurd (omega arith);
-    arranged = λ k f. a;
-    answer = λ k f. let z : v ≡ k = same_width (sym e ∙ f) in rw (← z) q;
+    layout = λ k f. a;
+    answer = λ k f. let z : v ≡ k = same_width (sym e ∙ f) in rw (← z) refl;
     laid = λ k f. let z : v ≡ k = same_width (sym e ∙ f) in rw (← z) l;
   }
 
@@ -211,7 +190,7 @@ small_width e h = rw e at h
 
 -- ---- refused for the arguments, or not
 
-pub nest_early : (why : Refusal) (cs : List Check) (s : List ℕ) (line wrap raw width : ℕ) (column x wide : List ℕ)
+nest_early : (why : Refusal) (cs : List Check) (s : List ℕ) (line wrap raw width : ℕ) (column x wide : List ℕ)
     → NestFound (early (Err why) ∷ cs) s line wrap raw width (Err why) column x wide
 unfolding first_answer early passes if_passes columns_in entries_in
 nest_early why cs s line wrap raw width column x wide =
@@ -225,11 +204,11 @@ nest_early why cs s line wrap raw width column x wide =
       promised = λ p. let z : ◌≡◌ {A = ℕ} 0 1 = cc in absurd (omega arith);
     }
 
-pub nest_late : {v : Result (Unit {0}) Refusal} {cs : List Check} {s : List ℕ} {line wrap raw width : ℕ} {r : Result (Option Nested) Refusal} {column x wide : List ℕ} → v ≡ (Ok tt)
-    → NestFound cs s line wrap raw width r column x wide → NestFound (early v ∷ cs) s line wrap raw width r column x wide
+nest_late : {cs : List Check} {s : List ℕ} {line wrap raw width : ℕ} {r : Result (Option Nested) Refusal} {column x wide : List ℕ}
+    → NestFound cs s line wrap raw width r column x wide → NestFound (early (Ok tt) ∷ cs) s line wrap raw width r column x wide
 unfolding first_answer early passes if_passes
-nest_late z f =
-    rw z (record {
+nest_late f =
+    record {
       answer = f.answer;
       few_columns = f.few_columns;
       few_entries = f.few_entries;
@@ -237,7 +216,17 @@ nest_late z f =
       xs = f.xs;
       wides = f.wides;
       promised = f.promised;
-    })
+    }
+
+pub nest_opened : {asked : Result Settings Refusal} {s : List ℕ} {line wrap raw width overflow : ℕ} {r : Result (Option Nested) Refusal} {column x wide : List ℕ}
+    → Asks asked wrap raw width overflow
+    → MatchResult asked (λ g. NestFound (walked_checks (Some line) s g.wrap g.raw g.width g.overflow) s line g.wrap g.raw g.width r column x wide) (λ why. r ≡ Err why)
+    → NestFound (early (verdict_in asked) ∷ walked_checks (Some line) s wrap raw width overflow) s line wrap raw width r column x wide
+nest_opened {asked} {s} {line} {wrap} {raw} {width} {overflow} {r} {column} {x} {wide} =
+    let cs = walked_checks (Some line) s in
+    opened (λ v q. NestFound (early v ∷ cs wrap raw width overflow) s line wrap raw width q column x wide)
+    (λ p q l o. NestFound (cs p q l o) s line p q l r column x wide)
+    asked (λ why. nest_early why (cs wrap raw width overflow) s line wrap raw width column x wide) nest_late
 
 fit : (wrap raw width overflow : ℕ) (v : Result (Unit {0}) Refusal) (a b c : ℕ) → v ≡ verdict_of (nested_arguments wrap raw width overflow (a ∷ []) (b ∷ c ∷ [])) → v ≡ (Ok tt)
     → (max_lines ≤ a) × (max_entries ≤ b) × (max_entries ≤ c)

@@ -65,9 +65,6 @@ all_weaker P Q h (d ∷ ds) (p, a) = (h d p, all_weaker P Q h ds a)
 pub bits_octets : (ds : List ℕ) → Bits ds → Octets ds
 bits_octets ds w = record { long = w.long; small = all_weaker (λ d. d ≤ 1) (λ d. d < 256) (λ d p. omega arith) ds w.small }
 
-pub low_octets : (ds : List ℕ) → Low ds → Octets ds
-low_octets ds w = record { long = w.long; small = all_weaker (λ d. d < 128) (λ d. d < 256) (λ d p. omega arith) ds w.small }
-
 pub adds_octets : (cs ss : List ℕ) → Bits cs → Bits ss → Octets (adds_of cs ss)
 adds_octets cs ss w v =
     record {

@@ -1,7 +1,7 @@
 // Eight bytes at once, as one number: they are its digits in base 256, the first lowest. The compiled code takes them in one step.
 #![tactic(auto)]
 
-ghost use Rattle.std.specs.Prelude.{◌≡◌, List, [], ◌∷◌, ℕ, ◌+◌, ◌*◌, ◌≤◌, length, drop};
+ghost use Rattle.std.specs.Prelude.{◌≡◌, List, ℕ, ◌+◌, ◌*◌, ◌≤◌, length, drop};
 ghost use Rattle.octets.specs.inner.Digits.{as_number, Octets, Low, Bits, Eight, Digitwise, all_ones, all_low, top, char, odd, after_from, adds_of, CutAt};
 ghost use Rattle.octets.specs.inner.Plain.{PlainFront};
 

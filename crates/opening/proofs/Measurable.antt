@@ -3,8 +3,8 @@ use mathlib.Core.Logic.{inl, inr}
 use Rattle.records.specs.declared.RowEnd.{RowEnd}
 use Rattle.records.specs.declared.Entry.{Entry}
 use Rattle.lists.specs.declared.Refusal.{Refusal}
-use Rattle.std.specs.Prelude.{Ok, Result, Option, Some, None}
-use mathlib.Core.Path.{◌≡◌, refl, sym, ap, subst, ◌∙◌}
+use Rattle.std.specs.Prelude.{Ok, Result, Option, Some}
+use mathlib.Core.Path.{◌≡◌, refl, sym, ap, ◌∙◌}
 use mathlib.Core.List.{List, [], ◌∷◌, map}
 use Prim.Native.Nat.{ℕ, zero, suc, ◌+◌, ◌-◌, ◌≤◌}
 use native.Mathlib.Omega.{arith}
@@ -23,7 +23,6 @@ use Rattle.sheet.specs.Steps.{room_for}
 use Rattle.sheet.specs.Reading.{kept_of, reading_of}
 use Rattle.sheet.proofs.Nests.{lines_ranged, accepted_nested}
 use Rattle.sheet.proofs.Bounds.{accepted_room, accepted_own}
-use Rattle.grid_bounds.specs.Sheets.{Suffice}
 use Rattle.grid_bounds.proofs.Sheets.{suffice_entries}
 use Rattle.estimates.specs.Estimates.{measured, est_of, estimates}
 use Rattle.estimates.specs.Sheet.{own_of, Sheet}
@@ -34,7 +33,7 @@ use Rattle.opening.specs.inner.Opened.{Apt, Opened}
 use Rattle.opening.proofs.Ready.{kept_count_lem, kept_depth, kept_kind, kept_lined, kept_nests}
 use Rattle.opening.proofs.Opens.{opened_reads, opened_asked}
 use Rattle.opening.proofs.Answers.{table_apt}
-use Rattle.opening.specs.inner.Measures.{Enough, Measurable, InScope, ScopeMeasured, EnoughIn, ScratchForAny, ReadLent, ReadMeasured, SheetMeasured, TableMeasured}
+use Rattle.opening.specs.inner.Measures.{Enough, Measurable, ScratchForAny, CellsKnown, SheetMeasured}
 
 -- ---- the lines
 
@@ -72,19 +71,9 @@ sheet_of s n e =
 -- ---- the tables
 
 -- scratch with records for the entries and rows of every table
-module _ {ks : List Kept} {fs : List Estimate} (m : Measurable ks fs) (leasts : List ℕ) (entries : List Entry) (rows : List RowEnd) (h : max_position ≤ length leasts) where
-  pub lent_scratch : Suffice (length entries) (length rows) ks → Lent ks fs leasts entries rows
-  lent_scratch z = record {
-    sheet = m.sheet;
-    lined = m.lined;
-    tables = record { sound = m.sound.at; room = λ t u e. omega (arith, suffice_entries m.lined.step m.nests z t u e) };
-    results = m.results;
-    scratch = h;
-    row_room = omega (arith, z.few);
-  }
-
-  pub lent_large : max_entries ≤ length entries → max_lines ≤ length rows → Lent ks fs leasts entries rows
-  lent_large a b = record {
+module _ {ks : List Kept} {fs : List Estimate} (m : Measurable ks fs) {leasts : List ℕ} {entries : List Entry} {rows : List RowEnd} where
+  lent_large : max_position ≤ length leasts → max_entries ≤ length entries → max_lines ≤ length rows → Lent ks fs leasts entries rows
+  lent_large h a b = record {
     sheet = m.sheet;
     lined = m.lined;
     tables = record { sound = m.sound.at; room = λ t u e. omega (arith, (m.sound.at t u e).few) };
@@ -93,36 +82,19 @@ module _ {ks : List Kept} {fs : List Estimate} (m : Measurable ks fs) (leasts : 
     row_room = omega (arith, m.lined.short);
   }
 
-  pub lent_enough : Enough (length entries) (length rows) ks → Lent ks fs leasts entries rows
-  lent_enough (inl z) = lent_scratch z
-  lent_enough (inr z) = lent_large z.0 z.1
-
--- ---- what is in the scope
-
-pub sheet_in : (ks : List Kept) → InScope None ks
-sheet_in ks = record { table = λ line e. let z : ◌≡◌ {A = ℕ} 0 1 = cc in absurd (omega arith) }
-
-pub table_in : {ks : List Kept} {line : ℕ} → Apt ks line → InScope (Some line) ks
-table_in {ks} {line} a = record { table = λ l e. let z : line ≡ l = cc in subst (Apt ks) z a }
-
-module _ {s : Option ℕ} {wrap : ℕ} {ks : List Kept} {b c : List Estimate} where
-  pub scope_sheet : s ≡ None → Measured wrap ks b c → ScopeMeasured s wrap ks b c
-  scope_sheet q m = record { sheet = λ _. m; table = λ l e. let h = sym q ∙ e in let z : ◌≡◌ {A = ℕ} 0 1 = cc in absurd (omega arith) }
-
-  pub scope_table : {line : ℕ} → s ≡ Some line → CellsMeasured wrap ks (line - 1) b c → ScopeMeasured s wrap ks b c
-  scope_table {line} q m = record {
-    sheet = λ e. let h = sym q ∙ e in let z : ◌≡◌ {A = ℕ} 0 1 = cc in absurd (omega arith);
-    table = λ l e. let h = sym q ∙ e in let z : line ≡ l = cc in rw (← z) m;
+  pub lent_enough : {e r : ℕ} → max_position ≤ length leasts → Enough e r ks → e ≤ length entries → r ≤ length rows → Lent ks fs leasts entries rows
+  lent_enough h (inl z) a b = record {
+    sheet = m.sheet;
+    lined = m.lined;
+    tables = record { sound = m.sound.at; room = λ t u e. omega (arith, suffice_entries m.lined.step m.nests z t u e) };
+    results = m.results;
+    scratch = h;
+    row_room = omega (arith, z.few);
   }
+  lent_enough h (inr z) a b = lent_large h (omega (arith, z.0)) (omega (arith, z.1))
 
--- ---- the lines that were read
-
-pub suffice_in : {r : Result ℕ Refusal} (lines : List Kept) {e k n : ℕ} → r ≡ Ok n → n ≤ length lines → Suffice e k (take n lines) → EnoughIn r lines e k
-suffice_in lines {n = n} q h s m f = let z : n ≡ m = cc in rw (← z) (inl s)
-
-pub measured_in : {r : Result ℕ Refusal} {s : Option ℕ} {wrap : ℕ} (lines : List Kept) {b c : List Estimate} {n : ℕ} → r ≡ Ok n → ScopeMeasured s wrap (take n lines) b c
-    → ReadMeasured r s wrap lines b c
-measured_in lines {n = n} q m k f = let z : n ≡ k = cc in rw (← z) m
+  pub lent_any : ScratchForAny leasts entries rows → Lent ks fs leasts entries rows
+  lent_any h = lent_large h.leasts_room h.entries_room h.rows_room
 
 -- scratch that is as long as it was
 pub any_still : {leasts leasts' : List ℕ} {entries : List Entry} {rows : List RowEnd} → length leasts' ≡ length leasts → ScratchForAny leasts entries rows → ScratchForAny leasts' entries rows
@@ -142,42 +114,20 @@ module _ {asked : Option ℕ} {s : List ℕ} {r : Result ℕ Refusal} {lines : L
             (record { sheet = sheet_of s n o; lined = kept_lined s n o; nests = kept_nests s n o; sound = w.sound n e; results = omega arith }),
       )
 
-  pub front_table : {line : ℕ} → asked ≡ Some line → (n : ℕ) → r ≡ Ok n → InScope (Some line) (take n lines)
-  front_table {line} q n e = rw (w.holds n e) (table_in (table_apt (kept_lines s) line (opened_asked asked s n (sym w.answer ∙ e) line q)))
+  pub front_table : {line : ℕ} → asked ≡ Some line → (n : ℕ) → r ≡ Ok n → Apt (take n lines) line
+  front_table {line} q n e = rw (w.holds n e) (table_apt (kept_lines s) line (opened_asked asked s n (sym w.answer ∙ e) line q))
 
-  -- scratch that suffices for the lines, or for any table
-  module _ {sc : Option ℕ} {fs : List Estimate} (a : room_for s ≤ length lines) (c : room_for s ≤ length fs)
-      (i : (n : ℕ) → r ≡ Ok n → InScope sc (take n lines)) (leasts : List ℕ) (entries : List Entry) (rows : List RowEnd) where
-    pub lent_few : max_position ≤ length leasts → EnoughIn r lines (length entries) (length rows) → ReadLent r sc lines fs leasts entries rows
-    lent_few h z = record {
-      front = λ n e. (front_measurable n e {fs = fs} a c).0;
-      lent = λ n e. lent_enough (front_measurable n e {fs = fs} a c).1 leasts entries rows h (z n e);
-      scope = i;
-    }
-
-    pub lent_any : ScratchForAny leasts entries rows → ReadLent r sc lines fs leasts entries rows
-    lent_any h = record {
-      front = λ n e. (front_measurable n e {fs = fs} a c).0;
-      lent = λ n e. lent_large (front_measurable n e {fs = fs} a c).1 leasts entries rows h.leasts_room h.entries_room h.rows_room;
-      scope = i;
-    }
-
-  pub sheet_measured : {wrap : ℕ} {b figures : List Estimate} → ReadMeasured r None wrap lines b figures → SheetMeasured asked s wrap r lines figures
-  sheet_measured {wrap} m₀ = record {
-    opened = w;
-    measured = λ n e.
-        let m = rw (w.holds n e) at ((m₀ n e).sheet refl) in
-        record {
+  -- measured
+  pub sheet_measured : {wrap : ℕ} {b figures : List Estimate} (n : ℕ) → r ≡ Ok n → Measured wrap (take n lines) b figures → SheetMeasured asked s wrap (Ok n) lines figures
+  sheet_measured {wrap} n e m₀ =
+      let m = rw (w.holds n e) at m₀ in record {
+        opened = rw e at w;
+        measured = λ k f. record {
           figures = ap (take (length (kept_lines s))) m.results ∙ take_at (estimates wrap (kept_lines s)) _ (length (kept_lines s)) (length-map (measured wrap 1 (kept_lines s)) est_of ∙ length_all wrap (kept_lines s));
           sound = m.sound;
         };
-  }
+      }
 
 module _ {s : List ℕ} {line : ℕ} {r : Result ℕ Refusal} {lines : List Kept} (w : Opened (Some line) s r lines) where
-  pub table_measured : {wrap : ℕ} {b figures : List Estimate} → ReadMeasured r (Some line) wrap lines b figures → TableMeasured s line wrap r lines figures
-  table_measured {wrap} m₀ = record {
-    opened = w;
-    measured = λ n e.
-        let m = rw (w.holds n e) at ((m₀ n e).table line refl) in
-        record { cells = m.cells; sound = m.sound };
-  }
+  pub cells_known : {wrap : ℕ} {b figures : List Estimate} (n : ℕ) → r ≡ Ok n → CellsMeasured wrap (take n lines) (line - 1) b figures → CellsKnown wrap (kept_lines s) (line - 1) figures
+  cells_known n e m₀ = let m = rw (w.holds n e) at m₀ in record { cells = m.cells; sound = m.sound }

@@ -1,9 +1,9 @@
--- What an opened sheet has passed, and slices that are long enough for its records. Assumes nothing.
+-- What an opened sheet has passed. Assumes nothing.
 use Rattle.std.specs.Prelude.{Err, Ok, Option}
 use mathlib.Core.Path.{◌≡◌}
 use mathlib.Core.Bool.{true}
 use mathlib.Core.List.{List}
-use Prim.Native.Nat.{ℕ, ◌/◌, ◌≤◌}
+use Prim.Native.Nat.{ℕ, ◌≤◌}
 use native.Mathlib.Omega.{arith}
 use lib.ListN.{length}
 use Rattle.lists.specs.Limits.{max_lines}
@@ -37,9 +37,3 @@ module _ (asked : Option ℕ) (s : List ℕ) where
       let r : reading_of s ≡ Ok n = opened_reads asked s n e in
       let c = accepted_lines s n r in
       record { all = p; reading = r; count = c.0; kept = kept_count_lem s n r; few = omega arith; room = accepted_room s n r }
-
--- ---- room
-
--- slices that are long enough for so many records
-pub figures_room : (k : ℕ) (xs : List ℕ) → k ≤ length xs / 3 → k ≤ length xs
-figures_room k xs h = omega arith

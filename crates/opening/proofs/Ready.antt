@@ -1,5 +1,4 @@
 -- The lines of an accepted sheet as they are kept: they nest, and their tables can be checked. Assumes nothing.
-use Rattle.kinds.specs.Kinds.{kind_number}
 use Rattle.lists.specs.declared.Refusal.{Refusal}
 use Rattle.std.specs.Prelude.{Ok, Result}
 use mathlib.Core.Path.{◌≡◌, refl, sym, ◌∙◌}
@@ -19,9 +18,10 @@ use Rattle.grid.specs.Judging.{Lined}
 use Rattle.grid_bounds.specs.Sheets.{Nests}
 use Rattle.opening.specs.Opening.{kept_lines}
 use Rattle.opening.specs.inner.Opened.{TablesReady}
+use Rattle.kinds.specs.declared.Kind.{Kind}
 
 -- a figure of a kept line, also past the last
-pub figure_at_lem : (f : Kept → ℕ) → f no_kept ≡ f (kept_of no_line) → (ls : List Line) (k : ℕ) → f (get_or (map kept_of ls) k no_kept) ≡ f (kept_of (get_or ls k no_line))
+pub figure_at_lem : {A : Type 0} (f : Kept → A) → f no_kept ≡ f (kept_of no_line) → (ls : List Line) (k : ℕ) → f (get_or (map kept_of ls) k no_kept) ≡ f (kept_of (get_or ls k no_line))
 figure_at_lem f e [] k = e
 figure_at_lem f e (l ∷ ls) zero = refl
 figure_at_lem f e (l ∷ ls) (suc k) = figure_at_lem f e ls k
@@ -29,8 +29,8 @@ figure_at_lem f e (l ∷ ls) (suc k) = figure_at_lem f e ls k
 abbrev depth_of : Kept → ℕ
 depth_of k = k.depth
 
-abbrev kind_of : Kept → ℕ
-kind_of k = (kind_number k.kind)
+abbrev kind_of : Kept → Kind
+kind_of k = k.kind
 
 abbrev cols_of : Kept → ℕ
 cols_of k = k.cols
@@ -42,7 +42,7 @@ module _ (s : List ℕ) (n : ℕ) (e : reading_of s ≡ Ok n) where
   pub kept_depth : (k : ℕ) → (get_or (kept_lines s) k no_kept).depth ≡ (get_or (sheet_lines s) k no_line).depth
   kept_depth k = figure_at_lem depth_of refl (sheet_lines s) k
 
-  pub kept_kind : (k : ℕ) → kind_number (get_or (kept_lines s) k no_kept).kind ≡ kind_number (get_or (sheet_lines s) k no_line).kind
+  pub kept_kind : (k : ℕ) → (get_or (kept_lines s) k no_kept).kind ≡ (get_or (sheet_lines s) k no_line).kind
   kept_kind k = figure_at_lem kind_of refl (sheet_lines s) k
 
   pub kept_lined : Lined (kept_lines s)

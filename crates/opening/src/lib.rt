@@ -3,7 +3,7 @@
 
 pub mod measuring; // measuring.rt: the lines measured too
 
-ghost use Rattle.std.specs.Prelude.{◌≡◌, true, ◌≤◌, length, take};
+ghost use Rattle.std.specs.Prelude.{◌≡◌, true, ◌≤◌, length};
 ghost use Rattle.lists.specs.Sizes.{small_lines};
 ghost use Rattle.sheet.specs.Steps.{room_for};
 ghost use Rattle.sheet.specs.Reading.{Reads};
@@ -68,20 +68,6 @@ fn open_lines(asked: Option<u32>, lines: &[Kept], scratch: &mut [u32]) -> Result
     Ok(lines.len())
 }
 
-// The same of the first n records.
-pub fn open_front(
-    n: usize,
-    asked: Option<u32>,
-    lines: &[Kept],
-    scratch: &mut [u32],
-) -> Result<usize, Refusal>
-    requires n_bound { n ≤ length lines.now }
-    requires tables_ready { TablesReady (take n lines.now) scratch.old }
-    ensures { TablesOpened asked (take n lines.now) result }
-{
-    open_lines(asked, &lines[..n], scratch)
-}
-
 // Opens a sheet: reads it, asks for the line if a call asks for one, and checks its tables. Record k is then of line k + 1. The last slice is scratch: a
 // place for each line, of which nothing is cleared.
 pub fn open_sheet(
@@ -95,5 +81,5 @@ pub fn open_sheet(
     ensures { Opened asked bytes.now result lines.new }
 {
     let n = read_sheet(bytes, lines)?;
-    open_front(n, asked, lines, scratch)
+    open_lines(asked, &lines[..n], scratch)
 }

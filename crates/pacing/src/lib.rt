@@ -5,7 +5,7 @@ ghost use Rattle.std.specs.Prelude.{◌≤◌, length};
 ghost use Rattle.lists.specs.Limits.{max_position};
 ghost use Rattle.sheet.specs.Steps.{room_for};
 ghost use Rattle.walking.specs.inner.Steps as steps;
-ghost use Rattle.pacing.specs.inner.Found.{SheetOpened, ReadWalkable, WalkRead, SheetWalked};
+ghost use Rattle.pacing.specs.inner.Found.{SheetOpened, SheetWalked};
 
 use arguments::Settings;
 use lists::{MAX_ENTRIES, MAX_LINES, MAX_POSITION, Refusal};
@@ -68,26 +68,6 @@ fn walk_lines(m: Measured<'_>, settings: Settings, walk: &mut [Option<u32>]) -> 
     )
 }
 
-// The same of the first records, which are a sheet's lines, if it was read.
-fn walk_read(
-    read: Result<usize, Refusal>,
-    lines: &[Kept],
-    figures: &[Estimate],
-    settings: Settings,
-    walk: &mut [Option<u32>],
-) -> Result<usize, Refusal>
-    requires { ReadWalkable read lines.now figures.now walk.old }
-    ensures { WalkRead read lines.now figures.now settings.raw settings.width settings.overflow result walk.new }
-{
-    let n = read?;
-    let m = Measured {
-        lines: &lines[..n],
-        figures,
-    };
-    walk_lines(m, settings, walk)?;
-    Ok(n)
-}
-
 // Opens, measures and walks a sheet. The last slice is room to work in.
 pub fn walk_sheet(
     sheet: &[u8],
@@ -104,6 +84,11 @@ pub fn walk_sheet(
     requires max_position_in_bounds { max_position ≤ length leasts.old }
     ensures { SheetWalked asked sheet.now settings.wrap settings.raw settings.width settings.overflow result lines.new figures.new walk.new }
 {
-    let read = open_measured(sheet, asked, settings.wrap, lines, figures, leasts);
-    walk_read(read, lines, figures, settings, walk)
+    let n = open_measured(sheet, asked, settings.wrap, lines, figures, leasts)?;
+    let m = Measured {
+        lines: &lines[..n],
+        figures,
+    };
+    walk_lines(m, settings, walk)?;
+    Ok(n)
 }

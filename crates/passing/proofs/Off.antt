@@ -6,8 +6,9 @@ use lib.Dec.{ltb}
 use Rattle.std.specs.Prelude.{Option, Some, None}
 use Rattle.text.specs.declared.Estimate.{Estimate}
 use Rattle.passing.specs.Walk.{takes_off, passed_on, too_narrow}
+use Rattle.kinds.specs.declared.Kind.{Kind}
 
-module _ (kind : ℕ) (e : Estimate) (w : Option ℕ) where
+module _ (kind : Kind) (e : Estimate) (w : Option ℕ) where
   pub passes_none : w ≡ None → None ≡ passed_on kind e w
   unfolding passed_on
   passes_none h = sym (ap (passed_on kind e) h)

@@ -12,21 +12,22 @@ use Rattle.estimates.specs.Estimates.{none, estimates}
 use Rattle.placing.specs.Place.{Placed}
 use Rattle.table.specs.Laying.{places_in}
 use Rattle.table.specs.Arranging.{boxes_at}
+use Rattle.kinds.specs.declared.Kind.{Kind}
 
 -- ---- what a line passes on
 
 -- head, quote, ul, ol and dd take off their prefix
-unfoldable pub takes_off : ℕ → Bool
-takes_off kind = eqb kind head_kind || eqb kind quote_kind || eqb kind ul_kind || eqb kind ol_kind || eqb kind dd_kind
+unfoldable pub takes_off : Kind → Bool
+takes_off kind = eqb (kind_number kind) head_kind || eqb (kind_number kind) quote_kind || eqb (kind_number kind) ul_kind || eqb (kind_number kind) ol_kind || eqb (kind_number kind) dd_kind
 
 -- `width_minus`: what a line passes on to its children of the width that it has. A line that takes off its prefix passes on the rest, but no
 -- less than its own least width without the prefix; any other line passes on what it has. What has no width passes on none.
-unfoldable pub passed_on : ℕ → Estimate → Option ℕ → Option ℕ
+unfoldable pub passed_on : Kind → Estimate → Option ℕ → Option ℕ
 passed_on kind e None = None
 passed_on kind e (Some w) = Some (cond (takes_off kind) (max (w - e.prefix) (e.least - e.prefix)) w)
 
 -- it reports too narrow: the rest is less than that
-unfoldable pub too_narrow : ℕ → Estimate → Option ℕ → Bool
+unfoldable pub too_narrow : Kind → Estimate → Option ℕ → Bool
 too_narrow kind e None = false
 too_narrow kind e (Some w) = takes_off kind && ltb (w - e.prefix) (e.least - e.prefix)
 
@@ -61,7 +62,7 @@ from_nearest gives ks d (suc i) = cond (eqb (get_or ks i no_kept).depth d) (give
 
 -- what the line at place p passes on, where the lines have the widths ws
 abbrev pub passed_by : (wrap : ℕ) (ks : List Kept) → List (Option ℕ) → ℕ → Option ℕ
-passed_by wrap ks ws p = passed_on (kind_number (get_or ks p no_kept).kind) (get_or (estimates wrap ks) p none) (get_or ws p None)
+passed_by wrap ks ws p = passed_on (get_or ks p no_kept).kind (get_or (estimates wrap ks) p none) (get_or ws p None)
 
 -- the width of the line at place i, where the lines before it have the widths ws: the first line has the page's; a cell its width in its table,
 -- which is the nearest line three less deep; any other what its parent passes on, the nearest line one less deep
@@ -88,7 +89,7 @@ walk wrap raw root ks = walk_to wrap raw root ks (length ks)
 
 -- the line at place i is too narrow
 abbrev pub narrow_at : (wrap raw root : ℕ) (ks : List Kept) → ℕ → Bool
-narrow_at wrap raw root ks i = too_narrow (kind_number (get_or ks i no_kept).kind) (get_or (estimates wrap ks) i none) (get_or (walk wrap raw root ks) i None)
+narrow_at wrap raw root ks i = too_narrow (get_or ks i no_kept).kind (get_or (estimates wrap ks) i none) (get_or (walk wrap raw root ks) i None)
 
 -- the n lines from place i on, in turn, if overflow is off
 unfoldable pub narrow_from : (wrap raw root overflow : ℕ) (ks : List Kept) → ℕ → ℕ → List Check

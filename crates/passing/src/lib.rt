@@ -2,7 +2,6 @@
 #![tactic(auto)]
 
 ghost use Rattle.std.specs.Prelude.{◌≡◌};
-ghost use Rattle.kinds.specs.Kinds.{kind_number};
 ghost use Rattle.passing.specs.Walk.{takes_off, passed_on, too_narrow, printed};
 
 use kinds::Kind;
@@ -13,7 +12,7 @@ use text::Estimate;
 // These take off their prefix.
 #[tactic(auto, unfolding(crate::specs::Walk::takes_off))]
 fn takes_off(kind: Kind) -> bool
-    ensures { result ≡ takes_off (kind_number kind) }
+    ensures { result ≡ takes_off kind }
 {
     matches!(
         kind,
@@ -23,7 +22,7 @@ fn takes_off(kind: Kind) -> bool
 
 // The rest without the prefix, but no less than the line's own least width without it.
 pub fn passed_on(kind: Kind, e: Estimate, w: Option<u32>) -> Option<u32>
-    ensures { result ≡ passed_on (kind_number kind) e w }
+    ensures { result ≡ passed_on kind e w }
 {
     let v = w?;
     if takes_off(kind) {
@@ -35,7 +34,7 @@ pub fn passed_on(kind: Kind, e: Estimate, w: Option<u32>) -> Option<u32>
 
 // Whether the rest is less than that.
 pub fn too_narrow(kind: Kind, e: Estimate, w: Option<u32>) -> bool
-    ensures { result ≡ too_narrow (kind_number kind) e w }
+    ensures { result ≡ too_narrow kind e w }
 {
     match w {
         Some(v) => takes_off(kind) && v.saturating_sub(e.prefix) < e.least.saturating_sub(e.prefix),

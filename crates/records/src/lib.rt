@@ -2,7 +2,7 @@
 #![tactic(auto)]
 
 ghost use Rattle.std.specs.Prelude.{◌≡◌};
-ghost use Rattle.records.specs.Kept.{bare, cell, text};
+ghost use Rattle.records.specs.Kept.{kept_bare, kept_cell, kept_text};
 
 use kinds::Kind;
 
@@ -23,7 +23,7 @@ pub struct Kept {
 impl Kept {
     // A line of a kind without figures.
     pub fn bare(depth: u8, kind: Kind) -> Kept
-        ensures { result ≡ bare depth kind }
+        ensures { result ≡ kept_bare depth kind }
     {
         Kept {
             depth,
@@ -37,7 +37,7 @@ impl Kept {
 
     // A cell of so many columns and rows.
     pub fn cell(depth: u8, cols: u16, rows: u16) -> Kept
-        ensures { result ≡ cell depth cols rows }
+        ensures { result ≡ kept_cell depth cols rows }
     {
         Kept {
             cols,
@@ -48,7 +48,7 @@ impl Kept {
 
     // A text of so many columns.
     pub fn text(depth: u8, own: u32) -> Kept
-        ensures { result ≡ text depth own }
+        ensures { result ≡ kept_text depth own }
     {
         Kept {
             own,
@@ -72,7 +72,7 @@ pub struct RowEnd {
     pub end: u32,
 }
 
-// What stands in an array before it is written.
+// What an array is filled with before it is written.
 pub const NO_LINE: Kept = Kept {
     depth: 0,
     kind: Kind::Text,

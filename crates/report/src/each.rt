@@ -1,56 +1,49 @@
 // Each table of a walked sheet, laid out and printed.
-ghost use Rattle.std.specs.Prelude.{◌≤◌};
-ghost use Rattle.lists.specs.Limits.{max_lines};
-ghost use Rattle.causes.specs.inner.Fronts.{FrontReady};
+ghost use Rattle.std.specs.Prelude.{◌≤◌, length};
+ghost use Rattle.causes.specs.inner.Tables.{Explainable};
 ghost use Rattle.report.specs.inner.Read.{TableAt};
 
 use super::{Asked, Form, Walked};
 use answers::Way;
-use gridding::Counts;
+use gridding::Records;
 use kinds::Kind;
 use printing::Output;
-use records::{Entry, RowEnd};
+use table::MeasuredTable;
 use text::Estimate;
 use walking::{Measured, Scratch};
 use writing::entries::Entries;
 
-// Puts what is asked for of a table that is laid out, whose grid stands in the front of its slices. An explanation prints no places of entries: it takes
-// their room.
+// Puts what is asked for of a table that is laid out. An explanation prints no places of entries: it takes their room.
 fn shown(
     out: &mut Output,
     asked: Asked,
     way: Way,
-    counts: Counts,
     figures: &[Estimate],
-    grid: &[Entry],
-    rows: &[RowEnd],
+    grid: Records<'_>,
     column: &[u32],
     x: &mut [u32],
     wide: &mut [u32],
 )
-    requires front_ready { FrontReady counts.entries counts.columns grid.now figures.now x.old wide.old }
-    requires rows_few { counts.rows ≤ max_lines }
+    requires explainable { Explainable grid.entries.now figures.now (length column.now) x.old }
+    requires cause_in { length column.now ≤ length wide.old }
 {
     match asked.form {
         Form::Layout => {
             let entries = Entries {
-                count: counts.rows as u32,
-                rows,
-                grid,
+                rows: grid.rows,
+                grid: grid.entries,
                 start: x,
                 extent: wide,
             };
-            writing::tables::cells(out, counts.columns as u32, column, entries);
+            writing::tables::cells(out, column, entries);
         }
         Form::Explain => report_causes::told(
             out,
             way,
             asked.raw,
             asked.width,
-            counts,
             figures,
             grid,
-            rows,
             column,
             x,
             wide,
@@ -62,10 +55,13 @@ fn shown(
 fn table(out: &mut Output, place: usize, asked: Asked, m: Measured<'_>, s: &mut Scratch<'_>)
     requires { TableAt m.lines.now place }
 {
+    let t = MeasuredTable {
+        lines: m.lines,
+        figures: m.figures,
+        at: place,
+    };
     let arranged = table::arrange(
-        m.lines,
-        m.figures,
-        place,
+        t,
         asked.raw,
         asked.width,
         s.entries,
@@ -79,7 +75,14 @@ fn table(out: &mut Output, place: usize, asked: Asked, m: Measured<'_>, s: &mut 
     let line = (place + 1) as u32;
     writing::tables::heading(out, line, laid.way, counts.columns as u32, laid.width);
     shown(
-        out, asked, laid.way, counts, m.figures, s.entries, s.rows, s.column, s.x, s.wide,
+        out,
+        asked,
+        laid.way,
+        m.figures,
+        counts.records(s.entries, s.rows),
+        &s.column[..counts.columns],
+        s.x,
+        s.wide,
     );
 }
 

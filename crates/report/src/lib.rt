@@ -6,13 +6,11 @@ mod each; // each.rt: each table of a walked sheet
 
 ghost use Rattle.std.specs.Prelude.{◌≤◌, length};
 ghost use Rattle.lists.specs.Limits.{max_size};
-ghost use Rattle.report.specs.inner.Read.{WalkNarrow, ReadListable};
+ghost use Rattle.report.specs.inner.Read.{WalkNarrow};
 
 use arguments::Settings;
 use lists::{MAX_ENTRIES, MAX_LINES, MAX_POSITION, Refusal};
 use printing::Output;
-use records::Kept;
-use text::Estimate;
 use walking::{Measured, Scratch};
 
 // What is printed of a table: its layout, or what explains it. A switch and no type parameter: seven functions would carry it for one `match`.
@@ -57,47 +55,19 @@ fn laid(out: &mut Output, asked: Asked, w: Walked<'_>) {
     each::all_tables(out, asked, w, &mut s);
 }
 
-// Puts the tables of a sheet that was walked, whose lines are the first records, or why it is refused.
-fn told<'a>(
-    out: &mut Output,
-    asked: Asked,
-    read: Result<usize, Refusal>,
-    kept: &'a [Kept],
-    figures: &'a [Estimate],
-    walk: &'a [Option<u32>],
-)
-    requires { ReadListable read kept.now figures.now walk.now }
-{
-    match read {
-        Ok(n) => {
-            let measured = Measured {
-                lines: &kept[..n],
-                figures,
-            };
-            let w = Walked {
-                measured,
-                widths: walk,
-            };
-            laid(out, asked, w);
-        }
-        Err(why) => writing::refusal(out, why),
-    }
-}
-
-// Puts every table of a sheet at the width that the walk gives it, or why the sheet is refused. The sheet is read, measured and walked once, however many
+// Puts every table of a sheet at the width that the walk gives it, unless the sheet is refused. The sheet is read, measured and walked once, however many
 // tables it has; no width overflows.
-fn opened(out: &mut Output, sheet: &[u8], wrap: u32, asked: Asked) {
+fn opened(out: &mut Output, sheet: &[u8], form: Form, settings: Settings) -> Result<(), Refusal> {
     let mut kept = [records::NO_LINE; MAX_LINES];
     let mut figures = [estimates::NONE; MAX_LINES];
     let mut walk = [None; MAX_LINES];
     let mut leasts = [0u32; MAX_POSITION];
-    let settings = Settings {
-        wrap,
-        raw: asked.raw,
-        width: asked.width,
-        overflow: 0,
+    let asked = Asked {
+        form,
+        raw: settings.raw,
+        width: settings.width,
     };
-    let read = pacing::walk_sheet(
+    let n = pacing::walk_sheet(
         sheet,
         None,
         settings,
@@ -105,21 +75,34 @@ fn opened(out: &mut Output, sheet: &[u8], wrap: u32, asked: Asked) {
         &mut figures,
         &mut walk,
         &mut leasts,
-    );
-    told(out, asked, read, &kept, &figures, &walk);
+    )?;
+    let measured = Measured {
+        lines: &kept[..n],
+        figures: &figures,
+    };
+    let w = Walked {
+        measured,
+        widths: &walk,
+    };
+    laid(out, asked, w);
+    Ok(())
 }
 
-// Puts what is printed of an input, settings and sheet. What no longer fits the buffer is written to standard output on the way.
+// Puts what is printed of an input, settings and sheet, unless it is refused.
+fn accepted(out: &mut Output, input: &[u8], form: Form) -> Result<(), Refusal> {
+    let given = settings::settings(input)?;
+    let settings = Settings {
+        wrap: given.wrap,
+        raw: given.raw,
+        width: given.width,
+        overflow: 0,
+    };
+    opened(out, &input[given.sheet..], form, settings)
+}
+
+// Puts what is printed of an input, or why it is refused. What no longer fits the buffer is written to standard output on the way.
 pub fn answer(out: &mut Output, input: &[u8], form: Form) {
-    match settings::settings(input) {
-        Ok(given) => {
-            let asked = Asked {
-                form,
-                raw: given.raw,
-                width: given.width,
-            };
-            opened(out, &input[given.sheet..], given.wrap, asked);
-        }
-        Err(why) => writing::refusal(out, why),
+    if let Err(why) = accepted(out, input, form) {
+        writing::refusal(out, why);
     }
 }

@@ -2,7 +2,6 @@
 ghost use Rattle.std.specs.Prelude.{◌≡◌, ◌≤◌, length};
 ghost use Rattle.lists.specs.Limits.{max_position};
 ghost use Rattle.sizing.specs.inner.Room.{Entered, Raisable};
-ghost use Rattle.report_causes.specs.inner.Rooms.{ColumnRooms};
 
 use answers::Way;
 use lists::MAX_POSITION;
@@ -102,23 +101,24 @@ fn figured(
     figures.put(out);
 }
 
-// The same in room that may be longer.
-fn figured_front(
+// Puts the heading, and the line of every column, whose final widths and causes are given.
+pub fn columns(
     out: &mut Output,
     way: Way,
     width: u32,
-    c: usize,
     figures: &[Estimate],
     entries: &[Entry],
     column: &[u32],
     cause: &[u32],
-    sizes: &mut [u32],
-    leasts: &mut [u32],
-    shares: &mut [u32],
 )
-    requires entered { Entered entries.now figures.now c }
-    requires column_rooms { ColumnRooms c sizes.old leasts.old shares.old }
+    requires entered { Entered entries.now figures.now (length column.now) }
+    requires column_len_bound { length column.now ≤ max_position }
 {
+    let mut sizes = [0u32; MAX_POSITION];
+    let mut leasts = [0u32; MAX_POSITION];
+    let mut shares = [0u32; MAX_POSITION];
+    words(out, b"column size least share width cause\n");
+    let c = column.len();
     figured(
         out,
         way,
@@ -130,38 +130,5 @@ fn figured_front(
         &mut sizes[..c],
         &mut leasts[..c],
         &mut shares[..c],
-    );
-}
-
-// Puts the heading, and the line of every column, whose final widths and causes are given.
-pub fn columns(
-    out: &mut Output,
-    way: Way,
-    width: u32,
-    c: usize,
-    figures: &[Estimate],
-    entries: &[Entry],
-    column: &[u32],
-    cause: &[u32],
-)
-    requires entered { Entered entries.now figures.now c }
-    requires c_le_max_position { c ≤ max_position }
-{
-    let mut sizes = [0u32; MAX_POSITION];
-    let mut leasts = [0u32; MAX_POSITION];
-    let mut shares = [0u32; MAX_POSITION];
-    words(out, b"column size least share width cause\n");
-    figured_front(
-        out,
-        way,
-        width,
-        c,
-        figures,
-        entries,
-        column,
-        cause,
-        &mut sizes,
-        &mut leasts,
-        &mut shares,
     );
 }

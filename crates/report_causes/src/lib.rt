@@ -5,43 +5,38 @@
 mod columns_told; // columns_told.rt: a line for each column, with its cause
 mod losses; // losses.rt: which entries are missing, and how many
 
-ghost use Rattle.causes.specs.inner.Fronts.{FrontReady};
+ghost use Rattle.std.specs.Prelude.{◌≤◌, length};
+ghost use Rattle.causes.specs.inner.Tables.{Explainable};
 
 use answers::Way;
 use columns_told::columns;
-use gridding::Counts;
+use gridding::Records;
 use losses::Missed;
 use printing::Output;
-use records::{Entry, RowEnd};
 use text::Estimate;
 
-// Puts what is told of a table, whose grid and final widths stand in the front of their slices. The last two are room for the missing entries and the
-// causes.
+// Puts what is told of a table, whose grid and final widths are given. The last two are room for the missing entries and the causes.
 pub fn told(
     out: &mut Output,
     way: Way,
     raw: u32,
     width: u32,
-    counts: Counts,
     figures: &[Estimate],
-    grid: &[Entry],
-    rows: &[RowEnd],
+    grid: Records<'_>,
     column: &[u32],
     missing: &mut [u32],
     cause: &mut [u32],
 )
-    requires { FrontReady counts.entries counts.columns grid.now figures.now missing.old cause.old }
+    requires explainable { Explainable grid.entries.now figures.now (length column.now) missing.old }
+    requires cause_in { length column.now ≤ length cause.old }
 {
-    let n = counts.entries;
-    let c = counts.columns;
-    let count = causes::fronts::explain_front(n, c, grid, figures, raw, width, missing, cause);
-    columns(out, way, width, c, figures, &grid[..n], column, cause);
+    let cause = &mut cause[..column.len()];
+    let count = causes::tables::explain(grid.entries, figures, raw, width, missing, cause);
+    columns(out, way, width, figures, grid.entries, column, cause);
     let missed = Missed {
-        rows,
         grid,
         figures,
-        missing,
-        count: count as u32,
+        missing: &missing[..count],
     };
     missed.put(out);
 }

@@ -1,19 +1,21 @@
 // Which entries of a table are missing, by their numbers in the grid, which ascend. What stands in the slices is not trusted: each index is tested.
+ghost use Rattle.std.specs.Prelude.{◌≤◌, length};
+ghost use Rattle.lists.specs.Limits.{max_entries};
+
 use super::columns_told::four_spaced;
+use gridding::Records;
 use printing::Output;
-use records::{Entry, RowEnd};
 use text::Estimate;
-use writing::entries::{entry_at, number_at};
+use writing::entries::entry_at;
 use writing::lines::{number, two, words};
 
-// The rows and the grid of a table, its figures, and the first so many numbers of the slice of the missing entries.
+// The grid of a table, the estimates of its cells, and the numbers of its missing entries.
 #[derive(Clone, Copy)]
 pub struct Missed<'a> {
-    pub rows: &'a [RowEnd],
-    pub grid: &'a [Entry],
+    pub grid: Records<'a>,
     pub figures: &'a [Estimate],
     pub missing: &'a [u32],
-    pub count: u32,
+    pub ghost few: { length missing.now ≤ max_entries },
 }
 
 impl Missed<'_> {
@@ -32,16 +34,13 @@ impl Missed<'_> {
 
     // With how many of the missing entries something is lost: a cell of a size above 0.
     fn lost(&self) -> u32 {
-        let is_lost = |k: &u32| {
-            let e = number_at(self.missing, *k);
-            self.size_of(entry_at(self.grid, e).cell) > 0
-        };
-        (0..self.count).filter(is_lost).count() as u32
+        let is_lost = |e: &&u32| self.size_of(entry_at(self.grid.entries, **e).cell) > 0;
+        self.missing.iter().filter(is_lost).count() as u32
     }
 
     // The row of an entry, from a row on: the first whose entries end after it.
     fn row_of(&self, from: usize, e: u32) -> usize {
-        let rows = self.rows;
+        let rows = self.grid.rows;
         for i in from..rows.len() {
             if e < rows[i].end {
                 return i;
@@ -52,11 +51,11 @@ impl Missed<'_> {
 
     // Puts the line of one entry: row, cell, first column, span and size.
     fn put_one(&self, out: &mut Output, row: usize, e: usize) {
-        if row >= self.rows.len() || e >= self.grid.len() {
+        if row >= self.grid.rows.len() || e >= self.grid.entries.len() {
             return;
         }
-        let shown = self.rows[row];
-        let entry = self.grid[e];
+        let shown = self.grid.rows[row];
+        let entry = self.grid.entries[e];
         four_spaced(out, shown.line, entry.cell, entry.first, entry.span);
         number(out, self.size_of(entry.cell));
         words(out, b"\n");
@@ -65,13 +64,12 @@ impl Missed<'_> {
     // Puts how many entries are missing, with how many of them something is lost, and a line for each. They ascend, and so do their rows.
     pub fn put(&self, out: &mut Output) {
         words(out, b"missing lost\n");
-        two(out, self.count, self.lost());
+        two(out, self.missing.len() as u32, self.lost());
         words(out, b"row cell first span size\n");
         let mut row = 0;
-        for k in 0..self.count {
-            let e = number_at(self.missing, k);
-            row = self.row_of(row, e);
-            self.put_one(out, row, e as usize);
+        for e in self.missing {
+            row = self.row_of(row, *e);
+            self.put_one(out, row, *e as usize);
         }
     }
 }

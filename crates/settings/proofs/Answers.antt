@@ -16,7 +16,7 @@ use Rattle.settings.specs.Reading.{setting_read}
 use Rattle.settings.proofs.Told.{setting_told, setting_none, setting_place}
 
 module _ (s : List ℕ) where
-  abbrev read : ℕ → ℕ → ℕ → FieldRead
+  abbrev read : ℕ → ℕ → ℕ → FieldRead ℕ
   read stop most at = setting_read stop most at (drop at s)
 
   pub no_heading : same (take 15 s) settings_heading ≡ false → settings_of s ≡ malformed
@@ -32,17 +32,17 @@ module _ (s : List ℕ) where
     unfolding settings_in
     no_wrap e = rw inside (setting_none 32 max_wrap 15 s e _)
 
-    module _ {wrap : Field} (e₁ : read 32 max_wrap 15 ≡ Some wrap) where
+    module _ {wrap : Field ℕ} (e₁ : read 32 max_wrap 15 ≡ Some wrap) where
       pub no_raw : read 32 1 wrap.next ≡ None → settings_of s ≡ malformed
       unfolding settings_in
       no_raw e = rw (inside, setting_told 32 max_wrap 15 s e₁) (setting_none 32 1 wrap.next s e _)
 
-      module _ {raw : Field} (e₂ : read 32 1 wrap.next ≡ Some raw) where
+      module _ {raw : Field ℕ} (e₂ : read 32 1 wrap.next ≡ Some raw) where
         pub no_width : read feed max_width raw.next ≡ None → settings_of s ≡ malformed
         unfolding settings_in
         no_width e = rw (inside, setting_told 32 max_wrap 15 s e₁, setting_told 32 1 wrap.next s e₂) (setting_none feed max_width raw.next s e _)
 
-        pub all_set : {width : Field} → read feed max_width raw.next ≡ Some width
+        pub all_set : {width : Field ℕ} → read feed max_width raw.next ≡ Some width
             → settings_of s ≡ Ok (record { wrap = wrap.value; raw = raw.value; width = width.value; sheet = width.next })
         unfolding settings_in
         all_set e =

@@ -2,22 +2,22 @@
 use mathlib.Core.Path.{◌≡◌, refl, ap, subst, ◌∙◌}
 use mathlib.Core.Bool.{Bool, true, false, cond}
 use mathlib.Core.List.{List}
-use Prim.Native.Nat.{ℕ, suc, ◌+◌, ◌-◌, ◌≤◌}
+use Prim.Native.Nat.{ℕ, suc, ◌+◌, ◌-◌, ◌≤◌, ◌<◌}
 use native.Mathlib.Omega.{arith}
-use lib.Dec.{ltb}
-use lib.ListN.{length, take, drop, length-drop}
+use lib.Dec.{eqb, ltb}
+use lib.ListN.{length, take, drop, length-drop, drop_of_length-le}
 use lib.Seq.{drop-drop}
 use borrow.Author.Tests.{ltb-true}
-use Rattle.std.specs.Prelude.{Option, Some, None}
+use Rattle.std.specs.Prelude.{Option, Some, None, position}
 use Rattle.fields.specs.Numbers.{Numeral, numeral, unwritten, number_of, up_to, magnitude}
 use Rattle.fields.specs.Reading.{FieldRead}
 use Rattle.fields.specs.declared.Field.{Field}
 use Rattle.settings.specs.Settings.{part, unstopped, with_part, with_numeral, then_setting, Settled, malformed}
-use Rattle.settings.specs.Reading.{count_before, stop_read, written_in, ended_at, setting_read}
+use Rattle.settings.specs.Reading.{count_before, written_in, ended_at, setting_read}
 use Rattle.settings.proofs.Stops.{until_cut, stop_found, stop_none}
 
 -- what follows a setting that was read at a place
-abbrev after : List ℕ → FieldRead → (ℕ → List ℕ → Settled) → Settled
+abbrev after : List ℕ → FieldRead ℕ → (ℕ → List ℕ → Settled) → Settled
 after s (Some r) f = f r.value (drop r.next s)
 after s None f = malformed
 
@@ -50,30 +50,31 @@ module _ (most : ℕ) (s : List ℕ) (f : ℕ → List ℕ → Settled) where
       go false = refl
 
 module _ (stop most at : ℕ) (s : List ℕ) where
-  abbrev found : FieldRead
+  abbrev found : FieldRead ℕ
   found = setting_read stop most at (drop at s)
 
   -- by what the search for the stop tells
 
-  pub setting_open : stop_read stop at (drop at s) ≡ None → found ≡ None
+  pub setting_out : length s < at → found ≡ None
   unfolding setting_read
-  setting_open e = rw (stop_none stop at (drop at s) e)
+  setting_out h = let e : length s ≤ at = omega arith in rw (drop_of_length-le s e)
 
-  module _ {end : ℕ} (e : stop_read stop at (drop at s) ≡ Some end) where
-    pub setting_ended : found ≡ ended_at (end + 1) (written_in most (number_of (take (end - at) (drop at s))))
-    unfolding setting_read
-    setting_ended =
-        let told = stop_found stop at (drop at s) e in
-        let n : end - at ≡ count_before stop (drop at s) = omega (arith, told.1) in
-        rw (told.0, n, ← told.1)
+  pub setting_open : position (λ b. eqb b stop) (drop at s) ≡ None → found ≡ None
+  unfolding setting_read
+  setting_open e = rw (stop_none stop (drop at s) e)
 
-  pub setting_told : {r : Field} → found ≡ Some r → (f : ℕ → List ℕ → Settled) → then_setting stop most (drop at s) f ≡ f r.value (drop r.next s)
-  setting_told e f = setting_after most s f stop at ∙ ap (λ (r : FieldRead). after s r f) e
+  pub setting_ended : {end : ℕ} → position (λ b. eqb b stop) (drop at s) ≡ Some end
+      → found ≡ ended_at (at + end + 1) (written_in most (number_of (take end (drop at s))))
+  unfolding setting_read
+  setting_ended e = let told = stop_found stop (drop at s) e in rw (told.0, ← told.1)
+
+  pub setting_told : {r : Field ℕ} → found ≡ Some r → (f : ℕ → List ℕ → Settled) → then_setting stop most (drop at s) f ≡ f r.value (drop r.next s)
+  setting_told e f = setting_after most s f stop at ∙ ap (λ (r : FieldRead ℕ). after s r f) e
 
   pub setting_none : found ≡ None → (f : ℕ → List ℕ → Settled) → then_setting stop most (drop at s) f ≡ malformed
-  setting_none e f = setting_after most s f stop at ∙ ap (λ (r : FieldRead). after s r f) e
+  setting_none e f = setting_after most s f stop at ∙ ap (λ (r : FieldRead ℕ). after s r f) e
 
-  abbrev Ends : FieldRead → Type 0
+  abbrev Ends : FieldRead ℕ → Type 0
   Ends (Some r) = r.next ≤ length s
   Ends None = Unit {0}
 
@@ -90,5 +91,5 @@ module _ (stop most at : ℕ) (s : List ℕ) where
       go false e x = tt
 
   -- the place after a setting, counted from the end of the input
-  pub setting_place : {r : Field} → found ≡ Some r → length s - length (drop r.next s) ≡ r.next
+  pub setting_place : {r : Field ℕ} → found ≡ Some r → length s - length (drop r.next s) ≡ r.next
   setting_place {r} e = let h : r.next ≤ length s = subst Ends e ends in omega (arith, length-drop r.next s)

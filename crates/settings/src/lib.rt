@@ -1,14 +1,14 @@
 // The settings before a sheet: the first two lines of the input of a program. The format is our own: the Rust has no counterpart.
 #![tactic(auto)]
 
-ghost use Rattle.std.specs.Prelude.{◌≡◌, ◌≤◌, ◌<◌, length, drop, ok_or, IfSome};
+ghost use Rattle.std.specs.Prelude.{◌≡◌, drop, eqb, position, ok_or};
 ghost use Rattle.lists.specs.Refusals.{refusal};
 ghost use Rattle.lists.specs.declared.Reason.TheVariants.{Setting};
 ghost use Rattle.fields.specs.Numbers.{number_of};
 ghost use Rattle.settings.specs.Settings.{settings_of};
-ghost use Rattle.settings.specs.Reading.{stop_read, digits_in, written_in, setting_read};
+ghost use Rattle.settings.specs.Reading.{digits_in, written_in, setting_read};
 
-use fields::{Field, numbers};
+use fields::Field;
 use lists::{Reason, Refusal};
 
 // The three settings, and the place where the sheet starts.
@@ -25,17 +25,11 @@ const HEADING_BYTES: usize = 15;
 
 const MAX_RAW: u32 = 1;
 
-// The place of the first byte from a place on that is the given one.
-fn stop_at(bytes: &[u8], at: usize, stop: u8) -> Option<usize>
-    ensures value { result ≡ stop_read stop at (drop at bytes.now) }
-    ensures bounds { IfSome result (λ end. (at ≤ end) × (end < length bytes.now)) }
+// How many bytes stand before the first that is the given one, if one is.
+fn stop_in(rest: &[u8], stop: u8) -> Option<usize>
+    ensures { result ≡ position (λ b. eqb b stop) rest.now }
 {
-    for i in at..bytes.len() {
-        if bytes[i] == stop {
-            return Some(i);
-        }
-    }
-    None
+    rest.iter().position(|b| *b == stop)
 }
 
 // The value of a field of digits. Once it is above most, no further digit brings it back, so the reading stops there: any number of digits may follow.
@@ -47,7 +41,7 @@ fn digits_in(field: &[u8], most: u32) -> Option<u32>
         if !b.is_ascii_digit() {
             return None;
         }
-        value = numbers::grown(value, *b);
+        value = value * 10 + u64::from(*b - b'0');
         if value > most as u64 {
             return None;
         }
@@ -70,14 +64,15 @@ fn written_in(field: &[u8], most: u32) -> Option<u32>
 }
 
 // The setting from 0 to most at a place, and the place after the byte that ends it.
-fn setting_at(bytes: &[u8], at: usize, stop: u8, most: u32) -> Option<Field>
+fn setting_at(bytes: &[u8], at: usize, stop: u8, most: u32) -> Option<Field<u32>>
     ensures { result ≡ setting_read stop most at (drop at bytes.now) }
 {
-    let end = stop_at(bytes, at, stop)?;
-    let value = written_in(&bytes[at..end], most)?;
+    let rest = bytes.get(at..)?;
+    let end = stop_in(rest, stop)?;
+    let value = written_in(&rest[..end], most)?;
     Some(Field {
         value,
-        next: end + 1,
+        next: at + end + 1,
     })
 }
 

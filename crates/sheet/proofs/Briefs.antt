@@ -5,7 +5,6 @@ use mathlib.Core.List.{List}
 use Prim.Native.Nat.{ℕ, ◌≤◌}
 use native.Mathlib.Omega.{arith}
 use Rattle.kinds.specs.declared.Kind.{Kind}
-use Rattle.kinds.specs.Kinds.{kind_number}
 use Rattle.std.specs.Prelude.{Ok, Err}
 use Rattle.lists.specs.declared.Reason.{Reason}
 use Rattle.lists.specs.declared.Reason.TheVariants.{Nesting}
@@ -14,8 +13,9 @@ use Rattle.records.specs.declared.Kept.{Kept}
 use Rattle.line.specs.LineAt.{LineRead, line_at}
 use Rattle.line.specs.declared.Node.{Node}
 use Rattle.line.proofs.Told.{good_line}
+use Rattle.eights.specs.inner.Briefs.{BriefOf}
 use Rattle.eights.specs.declared.Brief.{Brief}
-use Rattle.sheet.specs.Steps.{breaks_nesting, judgement_of, BriefOf, Answers}
+use Rattle.sheet.specs.Steps.{breaks_nesting, judgement_of, Answers}
 
 -- a line as it is kept has its depth and its kind
 
@@ -52,7 +52,7 @@ module _ (chain : List Kind) (lines previous : ℕ) where
   unfolding judgement_of
   judged_faulty r why e = rw e
 
-  pub judged_sound : (r : LineRead) (v : Node) (b : Brief) (t : Bool) → r ≡ Ok v → BriefOf v b → breaks_nesting chain lines previous b.line.depth (kind_number b.line.kind) ≡ t
+  pub judged_sound : (r : LineRead) (v : Node) (b : Brief) (t : Bool) → r ≡ Ok v → BriefOf v b → breaks_nesting chain lines previous b.line.depth b.line.kind ≡ t
       → judgement_of chain lines previous r ≡ cond t (Err Nesting) (Ok v)
   unfolding judgement_of
   judged_sound r v b t e w q = rw (e, ← depth_of w, ← kind_of w, q)

@@ -1,27 +1,25 @@
 -- A sheet in which no table and no body is left empty: seen line by line, and the answer. Assumes nothing.
 use mathlib.Core.Path.{◌≡◌, sym, ◌∙◌}
-use mathlib.Core.Bool.{false, ◌||◌}
+use mathlib.Core.Bool.{false}
 use mathlib.Core.List.{List}
 use Prim.Native.Nat.{ℕ, zero, suc, ◌+◌, ◌-◌, ◌≤◌, ◌<◌}
 use native.Mathlib.Numerals.{add-one}
 use native.Mathlib.Omega.{arith}
 use native.Mathlib.Decide.{ℕ_discrete}
-use lib.Dec.{eqb}
-use lib.ListN.{length, get_or, set, take, length-map}
-use lib.Seq.{get_or-take, length-take-le, get_or-set_same, get_or-set_other}
+use lib.ListN.{length, get_or, set, length-map}
+use lib.Seq.{get_or-set_same, get_or-set_other}
 use borrow.Author.Tests.{lt-leb}
 use Rattle.std.specs.Prelude.{Ok}
 use Rattle.records.specs.Kept.{no_kept}
 use Rattle.records.specs.declared.Kept.{Kept}
-use Rattle.kinds.specs.Kinds.{kind_number, table_kind, body_kind}
+use Rattle.kinds.specs.Kinds.{needs_child}
 use Rattle.sheet.specs.Steps.{empty_at, FilledTo, lacks_child, NoneLacking, line_end, bare, bare_line}
 use Rattle.sheet.proofs.Ending.{EndsFrom, bare_empty, ends_start, ends_more, ends_all}
 
 module _ (ks : List Kept) where
   -- none is, where none lacks a child and the last is no table and no body
   pub none_empty : NoneLacking ks (length ks) → 0 < length ks
-      → (eqb (kind_number (get_or ks (length ks - 1) no_kept).kind) table_kind || eqb (kind_number (get_or ks (length ks - 1) no_kept).kind) body_kind) ≡ false
-      → FilledTo ks (length ks)
+      → needs_child (get_or ks (length ks - 1) no_kept).kind ≡ false → FilledTo ks (length ks)
   unfolding empty_at
   none_empty f some e i h = go (ℕ_discrete i (length ks - 1))
     where
@@ -52,9 +50,3 @@ none_more b {c} {n} k f e h p i g = rw p (go (ℕ_discrete (i + 1) n))
         rw (q, get_or-set_same b n k no_kept h, get_or-set_other b n i k no_kept (λ z. omega arith), ← last) (e (omega arith))
     go (no q) =
         rw (get_or-set_other b n i k no_kept (λ z. omega arith), get_or-set_other b n (i + 1) k no_kept (λ z. omega arith)) (f i (omega arith))
-
--- of the front of a list
-pub none_front : (b : List Kept) {n : ℕ} → n ≤ length b → NoneLacking b n → NoneLacking (take n b) (length (take n b))
-none_front b {n} h f i g =
-    let k : i + 1 < n = omega (arith, length-take-le n b h) in
-    rw (get_or-take n b i no_kept (omega arith), get_or-take n b (i + 1) no_kept k) (f i k)

@@ -18,19 +18,18 @@ use Rattle.lists.specs.Limits.{max_bytes, max_feeds, max_depth, depths}
 use Rattle.lists.specs.Refusals.{first_answer, refusal}
 use Rattle.kinds.specs.declared.Kind.{Kind}
 use Rattle.kinds.specs.declared.Kind.TheVariants.{Text}
-use Rattle.kinds.specs.Kinds.{kind_number}
 use Rattle.fields.specs.Lines.{Piece, feeds, pieces, node_pieces, heading_bytes}
 use Rattle.line.specs.Fields.{Line, no_line, read_line, is_unread, has_bad_byte, not_expression, out_of_bounds, or_none}
 use Rattle.line.specs.LineAt.{LineRead, piece_at, node_of, line_in, line_at}
 use Rattle.line.proofs.Pieces.{pieces_at, pieces_end, feeds_at}
 use Rattle.line.proofs.Told.{good_line}
 use Rattle.line.specs.declared.Node.{Node}
-use Rattle.eights.specs.inner.Briefs.{figures_of}
+use Rattle.eights.specs.inner.Briefs.{figures_of, BriefOf}
 use Rattle.eights.specs.declared.Brief.{Brief}
 use Rattle.sheet.specs.Nesting.{misplaced}
 use Rattle.sheet.specs.Sheet.{lines_checks, lines_of, sheet_lines, sheet_checks}
 use Rattle.sheet.specs.Reading.{reading_of, kept_of}
-use Rattle.sheet.specs.Steps.{breaks_nesting, judgement_of, BriefOf, end_checks, line_end, bare, Begun}
+use Rattle.sheet.specs.Steps.{breaks_nesting, judgement_of, end_checks, line_end, bare, Begun}
 use Rattle.sheet.proofs.Heading.{heading_long, heading_feeds}
 use Rattle.sheet.proofs.Earlier.{earlier, drop_here, drop_none, lines_drop, lines_length}
 use Rattle.sheet.proofs.Chain.{Linked, linked_none, linked_more, linked_told}
@@ -82,17 +81,17 @@ abbrev answered : Bool → Bool → Bool → Bool → Node → LineRead
 answered u y x z w = cond u (Err reason.Fields) (cond y (Err TextByte) (cond x (Err NoExpression) (cond z (Err OutOfBounds) (Ok w))))
 
 module _ (chain : List Kind) (n previous : ℕ) where
-  told_good : (r : LineRead) (v : Node) → judgement_of chain n previous r ≡ Ok v → (r ≡ Ok v) × (breaks_nesting chain n previous v.depth (kind_number v.kind) ≡ false)
+  told_good : (r : LineRead) (v : Node) → judgement_of chain n previous r ≡ Ok v → (r ≡ Ok v) × (breaks_nesting chain n previous v.depth v.kind ≡ false)
   unfolding judgement_of
   told_good (Err why) v e = let z : ◌≡◌ {A = ℕ} 0 1 = cc in absurd (omega arith)
-  told_good (Ok w) v e = at (breaks_nesting chain n previous w.depth (kind_number w.kind)) refl e
+  told_good (Ok w) v e = at (breaks_nesting chain n previous w.depth w.kind) refl e
     where
-      at : (m : Bool) → breaks_nesting chain n previous w.depth (kind_number w.kind) ≡ m → ◌≡◌ {A = LineRead} (cond m (Err Nesting) (Ok w)) (Ok v)
-          → (◌≡◌ {A = LineRead} (Ok w) (Ok v)) × (breaks_nesting chain n previous v.depth (kind_number v.kind) ≡ false)
+      at : (m : Bool) → breaks_nesting chain n previous w.depth w.kind ≡ m → ◌≡◌ {A = LineRead} (cond m (Err Nesting) (Ok w)) (Ok v)
+          → (◌≡◌ {A = LineRead} (Ok w) (Ok v)) × (breaks_nesting chain n previous v.depth v.kind ≡ false)
       at true q e = let z : ◌≡◌ {A = ℕ} 0 1 = cc in absurd (omega arith)
       at false q e = let f : w ≡ v = cc in (ap Ok f, rw f at q)
 
-  told_faulty : (u y x z m : Bool) (w : Node) (r : Result ℕ Refusal) (why : Reason) (line : ℕ) → breaks_nesting chain n previous w.depth (kind_number w.kind) ≡ m
+  told_faulty : (u y x z m : Bool) (w : Node) (r : Result ℕ Refusal) (why : Reason) (line : ℕ) → breaks_nesting chain n previous w.depth w.kind ≡ m
       → judgement_of chain n previous (answered u y x z w) ≡ Err why
       → cond u (Err (refusal reason.Fields line)) (cond y (Err (refusal TextByte line)) (cond x (Err (refusal NoExpression line))
       (cond z (Err (refusal OutOfBounds line)) (cond m (Err (refusal Nesting line)) r)))) ≡ Err (refusal why line)
@@ -102,12 +101,12 @@ module _ (chain : List Kind) (n previous : ℕ) where
   told_faulty false false true z m w r why line q e = let f : NoExpression ≡ why = cc in rw f
   told_faulty false false false true m w r why line q e = let f : OutOfBounds ≡ why = cc in rw f
   told_faulty false false false false true w r why line q e =
-      let g : ◌≡◌ {A = LineRead} (cond (breaks_nesting chain n previous w.depth (kind_number w.kind)) (Err Nesting) (Ok w)) (Err why) = e in
+      let g : ◌≡◌ {A = LineRead} (cond (breaks_nesting chain n previous w.depth w.kind) (Err Nesting) (Ok w)) (Err why) = e in
       let g' : ◌≡◌ {A = LineRead} (Err Nesting) (Err why) = rw q at g in
       let f : Nesting ≡ why = cc in
       rw f
   told_faulty false false false false false w r why line q e =
-      let g : ◌≡◌ {A = LineRead} (cond (breaks_nesting chain n previous w.depth (kind_number w.kind)) (Err Nesting) (Ok w)) (Err why) = e in
+      let g : ◌≡◌ {A = LineRead} (cond (breaks_nesting chain n previous w.depth w.kind) (Err Nesting) (Ok w)) (Err why) = e in
       let g' : ◌≡◌ {A = LineRead} (Ok w) (Err why) = rw q at g in
       let z : ◌≡◌ {A = ℕ} 0 1 = cc in
       absurd (omega arith)
@@ -151,7 +150,7 @@ module _ {s : List ℕ} {a b : List Kept} {chain : List Kind} {previous at n : �
   unfolding here lines_checks first_answer
   asked = t.answer ∙ rw rest
 
-  broken : breaks_nesting chain n previous here.depth (kind_number here.kind) ≡ misplaced (earlier n (sheet_lines s)) here
+  broken : breaks_nesting chain n previous here.depth here.kind ≡ misplaced (earlier n (sheet_lines s)) here
   unfolding here
   broken = linked_told t.linked here (piece_ranged (piece_at s at)).0.deep
 
@@ -175,7 +174,7 @@ module _ {s : List ℕ} {a b : List Kept} {chain : List Kind} {previous at n : �
   unfolding earlier
   earlier_here = rw (add-one n, line_here.1)
 
-  module _ (good : line_at s at ≡ Ok (node_of at (piece_at s at) here)) (fits : breaks_nesting chain n previous here.depth (kind_number here.kind) ≡ false)
+  module _ (good : line_at s at ≡ Ok (node_of at (piece_at s at) here)) (fits : breaks_nesting chain n previous here.depth here.kind ≡ false)
       (c : List Kept) (r : n < length a) (same : length c ≡ length b) (p : c ≡ set b n (kept_of here)) where
     more : ReadingLoop s a c (set chain here.depth here.kind) here.depth (at + length (piece_at s at).bytes + 1) (n + 1)
     unfolding here after line_at line_in
@@ -196,7 +195,7 @@ module _ {s : List ℕ} {a b : List Kept} {chain : List Kind} {previous at n : �
 
   -- a sound line is the one that stands at the place
   as_read : (v : Node) (G : Node → Type 0) → judgement_of chain n previous (line_at s at) ≡ Ok v
-      → (line_at s at ≡ Ok (node_of at (piece_at s at) here) → breaks_nesting chain n previous here.depth (kind_number here.kind) ≡ false → G (node_of at (piece_at s at) here))
+      → (line_at s at ≡ Ok (node_of at (piece_at s at) here) → breaks_nesting chain n previous here.depth here.kind ≡ false → G (node_of at (piece_at s at) here))
       → G v
   unfolding here line_at line_in
   as_read v G e k =

@@ -10,12 +10,12 @@ use Rattle.records.specs.declared.Kept.{Kept}
 use Rattle.text.specs.Decimal.{plain}
 use Rattle.kinds.specs.declared.Kind.{Kind}
 use Rattle.kinds.specs.declared.Kind.TheVariants.{Text}
-use Rattle.kinds.specs.Kinds.{kind_number, is_frame, may_hold, table_kind, body_kind}
+use Rattle.kinds.specs.Kinds.{is_frame, may_hold, needs_child}
 use Rattle.fields.specs.Lines.{feeds, headed}
 use Rattle.line.specs.Fields.{Line}
 use Rattle.line.specs.LineAt.{LineRead}
 use Rattle.line.specs.declared.Node.{Node}
-use Rattle.eights.specs.inner.Briefs.{figures_of}
+use Rattle.eights.specs.inner.Briefs.{BriefOf}
 use Rattle.eights.specs.declared.Brief.{Brief}
 use Rattle.sheet.specs.Sheet.{is_empty, empty_checks}
 
@@ -25,20 +25,15 @@ pub record AtLine (s : List ℕ) (at : ℕ) : Type 0 where
   pub inside : at < length s
 
 -- a line breaks the nesting after `lines` others, the last of them `previous` deep, where `chain` has the kind of the last line of each depth
-unfoldable pub breaks_nesting : List Kind → ℕ → ℕ → ℕ → ℕ → Bool
+unfoldable pub breaks_nesting : List Kind → ℕ → ℕ → ℕ → Kind → Bool
 breaks_nesting chain lines previous depth kind =
     cond (eqb lines 0) (not (eqb depth 0 && not (is_frame kind)))
-    (not ((leb 1 depth && leb depth (previous + 1)) && may_hold (kind_number (get_or chain (depth - 1) Text)) kind))
+    (not ((leb 1 depth && leb depth (previous + 1)) && may_hold (get_or chain (depth - 1) Text) kind))
 
 -- by a line alone, which may be none: why, or 4, or the line
 unfoldable pub judgement_of : List Kind → ℕ → ℕ → LineRead → LineRead
 judgement_of chain lines previous (Err why) = Err why
-judgement_of chain lines previous (Ok n) = cond (breaks_nesting chain lines previous n.depth (kind_number n.kind)) (Err Nesting) (Ok n)
-
--- a line as it is kept
-pub record BriefOf (node : Node) (b : Brief) : Type 0 where
-  pub kept : b.line ≡ figures_of node
-  pub next : b.next ≡ node.next
+judgement_of chain lines previous (Ok n) = cond (breaks_nesting chain lines previous n.depth n.kind) (Err Nesting) (Ok n)
 
 -- the code's answer: why the line is refused, or the line as it is kept
 pub record Answers (j : LineRead) (r : Result Brief Reason) : Type 0 where
@@ -62,16 +57,15 @@ bare ks = map bare_line ks
 -- the line at place i is a table or a body left empty
 unfoldable pub empty_at : List Kept → ℕ → Bool
 empty_at ks i =
-    (eqb (kind_number (get_or ks i no_kept).kind) table_kind || eqb (kind_number (get_or ks i no_kept).kind) body_kind)
-    && (leb (length ks) (i + 1) || leb (get_or ks (i + 1) no_kept).depth (get_or ks i no_kept).depth)
+    needs_child (get_or ks i no_kept).kind && (leb (length ks) (i + 1) || leb (get_or ks (i + 1) no_kept).depth (get_or ks i no_kept).depth)
 
 -- no line up to the place is so
 abbrev pub FilledTo : List Kept → ℕ → Type 0
 FilledTo ks end = (i : ℕ) → i < end → empty_at ks i ≡ false
 
--- a line is a table or a body, and the next one is no deeper
+-- a line needs a child, and the next one is no deeper
 abbrev pub lacks_child : Kept → Kept → Bool
-lacks_child here next = (eqb (kind_number here.kind) table_kind || eqb (kind_number here.kind) body_kind) && leb next.depth here.depth
+lacks_child here next = needs_child here.kind && leb next.depth here.depth
 
 -- of the first n lines none but the last may be so
 abbrev pub NoneLacking : List Kept → ℕ → Type 0

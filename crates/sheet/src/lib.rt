@@ -7,12 +7,11 @@ pub mod cursor; // cursor.rt: a record that holds the sheet and the current plac
 
 ghost use Rattle.std.specs.Prelude.{◌≡◌, true, false, ◌-◌, ◌≤◌, ◌<◌, length, get_or};
 ghost use Rattle.lists.specs.Limits.{max_lines, max_depth};
-ghost use Rattle.kinds.specs.Kinds.{kind_number};
-ghost use Rattle.records.specs.Kept.{OfItsKind, no_kept};
+ghost use Rattle.records.specs.Kept.{InRanges, no_kept};
 ghost use Rattle.line.specs.LineAt.{line_at};
-ghost use Rattle.eights.specs.inner.Briefs.{figures_of};
+ghost use Rattle.eights.specs.inner.Briefs.{figures_of, BriefOf};
 ghost use Rattle.sheet.specs.Reading.{Reads};
-ghost use Rattle.sheet.specs.Steps.{AtLine, BriefOf, judgement_of, Answers, empty_at, lacks_child, NoneLacking, line_end, bare, Begun, room_for};
+ghost use Rattle.sheet.specs.Steps.{AtLine, judgement_of, Answers, empty_at, lacks_child, NoneLacking, line_end, bare, Begun, room_for};
 
 use eights::Brief;
 use kinds::Kind;
@@ -21,9 +20,9 @@ use lists::{DEPTHS, Reason, Refusal};
 use records::Kept;
 use text::bytes::Classes;
 
-// What is kept of a line. No `From`: it asks that the line has the figures of its kind alone, each in its range.
+// What is kept of a line. No `From`: it asks that the line's depth and spans are in their ranges.
 fn brief(node: Node) -> Brief
-    requires { OfItsKind (figures_of node) }
+    requires { InRanges (figures_of node) }
     ensures { BriefOf node result }
 {
     Brief {

@@ -3,4 +3,3 @@ pub mod Openings
 pub mod Tables
 pub mod Early
 pub mod Never
-pub mod Written

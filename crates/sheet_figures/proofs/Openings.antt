@@ -15,14 +15,14 @@ use Rattle.sheet.specs.Steps.{room_for}
 use Rattle.sheet.proofs.First.{first_passes, first_carries}
 use Rattle.opening.specs.Opening.{kept_lines, open_checks, opened_of}
 use Rattle.opening.specs.inner.Opened.{Apt, Opened}
-use Rattle.opening.specs.inner.Measures.{LinesIn, Enough, EnoughIn}
+use Rattle.opening.specs.inner.Measures.{Enough}
 use Rattle.opening.proofs.Answers.{table_apt}
 use Rattle.opening.proofs.Ready.{kept_lined, kept_nests}
 use Rattle.opening.proofs.Opens.{opened_asked}
 use Rattle.opening.proofs.Passing.{Passed, passed}
-use Rattle.table.specs.inner.Asked.{Most}
+use Rattle.table.specs.inner.Asked.{Asked, Most}
 use Rattle.table.proofs.Rooms.{suffice_most, any_most}
-use Rattle.sheet_figures.specs.inner.Opened.{lines_in, AskedIn, MostIn, OpenedAt}
+use Rattle.sheet_figures.specs.inner.Opened.{lines_in, OpenedAt}
 
 -- ---- the checks
 
@@ -54,56 +54,46 @@ module _ (asked : Option ℕ) (s : List ℕ) where
   lines_few (Err why) e = omega arith
 
   -- the lines are the first records
-  pub lines_in_fits : {r : Result ℕ Refusal} {lines : List Kept} → Opened asked s r lines → room_for s ≤ length lines → LinesIn r lines
-  lines_in_fits w h n e = omega (arith, (passed asked s n (sym w.answer ∙ e)).room)
+  pub lines_in_fits : {r : Result ℕ Refusal} {lines : List Kept} {n : ℕ} → Opened asked s r lines → r ≡ Ok n → room_for s ≤ length lines → n ≤ length lines
+  lines_in_fits {n = n} w e h = omega (arith, (passed asked s n (sym w.answer ∙ e)).room)
 
 -- ---- the line asked for
 
-module _ {s : List ℕ} {line : ℕ} {r : Result ℕ Refusal} {lines : List Kept} (w : Opened (Some line) s r lines) where
-  pub opened_at : OpenedAt s line r lines
+module _ {s : List ℕ} {line : ℕ} {r : Result ℕ Refusal} {lines : List Kept} (w : Opened (Some line) s r lines) {n : ℕ} (e : r ≡ Ok n) where
+  pub opened_at : OpenedAt s line n lines
   opened_at = record {
-    answer = w.answer;
-    holds = w.holds;
-    sound = λ n e.
+    answer = sym w.answer ∙ e;
+    holds = w.holds n e;
+    sound =
         let t = table_apt (kept_lines s) line (opened_asked (Some line) s n (sym w.answer ∙ e) line refl) in
         (w.sound n e).at (line - 1) (omega (arith, t.from_one, t.within)) t.kind;
   }
 
-module _ {s : List ℕ} {line : ℕ} {r : Result ℕ Refusal} {lines : List Kept} (w : OpenedAt s line r lines) where
-  pub opened_passed : (n : ℕ) → r ≡ Ok n → Passed (Some line) s n
-  opened_passed n e = passed (Some line) s n (sym w.answer ∙ e)
+module _ {s : List ℕ} {line n : ℕ} {lines : List Kept} (w : OpenedAt s line n lines) where
+  pub opened_passed : Passed (Some line) s n
+  opened_passed = passed (Some line) s n w.answer
 
-  pub opened_apt : (n : ℕ) → r ≡ Ok n → Apt (kept_lines s) line
-  opened_apt n e = table_apt (kept_lines s) line (opened_asked (Some line) s n (sym w.answer ∙ e) line refl)
+  pub opened_apt : Apt (kept_lines s) line
+  opened_apt = table_apt (kept_lines s) line (opened_asked (Some line) s n w.answer line refl)
 
-  pub asked_in : room_for s ≤ length lines → AskedIn r lines line
-  asked_in h = record {
-    front = λ n e. omega (arith, (opened_passed n e).room);
-    asked = λ n e.
-        let t = opened_apt n e in
-        rw (w.holds n e)
-        (record {
-          from_one = t.from_one;
-          within = omega (arith, t.from_one, t.within);
-          kind = t.kind;
-          lined = kept_lined s n (opened_passed n e).reading;
-          nests = kept_nests s n (opened_passed n e).reading;
-          sound = w.sound n e;
-        });
-  }
+  pub opened_front : room_for s ≤ length lines → n ≤ length lines
+  opened_front h = omega (arith, opened_passed.room)
+
+  pub asked_lines : Asked (take n lines) line
+  asked_lines =
+      let t = opened_apt in
+      rw w.holds
+      (record {
+        from_one = t.from_one;
+        within = omega (arith, t.from_one, t.within);
+        kind = t.kind;
+        lined = kept_lined s n opened_passed.reading;
+        nests = kept_nests s n opened_passed.reading;
+        sound = w.sound;
+      })
 
 -- ---- records for its grid
 
-pub most_few : {read : Result ℕ Refusal} {lines : List Kept} {line most held : ℕ} → AskedIn read lines line → EnoughIn read lines most held → MostIn read lines line most held
-most_few {read} {lines} {line} {most} {held} a z n e = by (z n e)
-  where
-    by : Enough most held (take n lines) → Most most held (take n lines) line
-    by (inl s) = suffice_most (a.asked n e) s
-    by (inr m) = let t = any_most (a.asked n e) in record { entries_most = omega (arith, t.entries_most, m.0); lines_most = omega (arith, t.lines_most, m.1) }
-
-pub most_any : {read : Result ℕ Refusal} {lines : List Kept} {line : ℕ} → AskedIn read lines line → MostIn read lines line 8192 4096
-most_any a n e = any_most (a.asked n e)
-
--- where fewer do
-pub most_room : {read : Result ℕ Refusal} {lines : List Kept} {line e r e' r' : ℕ} → AskedIn read lines line → MostIn read lines line e r → e ≤ e' → r ≤ r' → MostIn read lines line e' r'
-most_room a m h g n e = record { entries_most = omega (arith, (m n e).entries_most); lines_most = omega (arith, (m n e).lines_most) }
+pub most_enough : {ks : List Kept} {line most held : ℕ} → Asked ks line → Enough most held ks → Most most held ks line
+most_enough a (inl s) = suffice_most a s
+most_enough a (inr m) = let t = any_most a in record { entries_most = omega (arith, t.entries_most, m.0); lines_most = omega (arith, t.lines_most, m.1) }

@@ -1,5 +1,5 @@
--- The steps of laying out columns, over plain lists: whole entries can be raised, the leasts that come of it are nowhere above the sizes, and so the
--- columns can be laid out. Assumes nothing.
+-- The steps of laying out columns, over plain lists: the leasts that come of raising whole entries are nowhere above the sizes, and so the columns can
+-- be laid out. Assumes nothing.
 use mathlib.Core.Path.{◌≡◌, sym, ◌∙◌}
 use mathlib.Core.List.{List, [], ◌∷◌, map}
 use Prim.Native.Nat.{ℕ, ◌≤◌}
@@ -13,10 +13,9 @@ use Rattle.columns.specs.Boxes.{Box, Measures}
 use Rattle.columns.specs.Columns.{size_of}
 use Rattle.columns.proofs.Largest.{largest_length, largest_least_size}
 use Rattle.cutting.specs.Cut.{Below}
-use Rattle.widths.specs.inner.Lay.{Layable, LaidOut}
-use Rattle.widths.specs.declared.Laid.{Laid}
+use Rattle.widths.specs.inner.Lay.{Layable}
 use Rattle.sizing.specs.Sizing.{entry_box, sizes_in, leasts_in}
-use Rattle.sizing.specs.inner.Room.{Whole, Entered, Raisable, Raised}
+use Rattle.sizing.specs.inner.Room.{Whole, Entered, Raised}
 
 whole_measures : (n : ℕ) (bs : List Box) → All (Whole n) bs → Measures bs
 unfolding Measures All
@@ -26,10 +25,6 @@ whole_measures n (b ∷ bs) a = (a.0.low, whole_measures n bs a.1)
 module _ {es : List Entry} {figures : List Estimate} {n : ℕ} (t : Entered es figures n) where
   pub below_in : Below (leasts_in es figures n) (sizes_in es figures n)
   below_in = largest_least_size (map (entry_box figures) es) n (whole_measures n _ t.whole)
-
-  -- what raising asks for
-  pub raisable : {cs cl : List ℕ} → length cs ≡ n → length cl ≡ n → Raisable es figures cs cl
-  raisable e f = record { entered = rw e t; leasts_length = f ∙ sym e }
 
   module _ {c : ℕ} (e : c ≡ n) {cs cl : List ℕ} (a : Raised es figures c cs cl) where
     of_sizes : cs ≡ sizes_in es figures n
@@ -47,8 +42,3 @@ module _ {es : List Entry} {figures : List Estimate} {n : ℕ} (t : Entered es f
           columns = record { leasts_length = low.0; wide_length = f ∙ sym count; few = omega (arith, count) };
           below = low;
         }
-
-    -- the answer
-    pub laid_columns : {raw width : ℕ} {column : List ℕ} {laid : Laid} → LaidOut cs cl raw width column laid →
-        LaidOut (sizes_in es figures n) (leasts_in es figures n) raw width column laid
-    laid_columns q = rw (of_sizes, of_leasts) at q

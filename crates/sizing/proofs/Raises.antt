@@ -1,11 +1,10 @@
 -- The loop that raises the columns' figures. What stands in the columns is the largest that the first i entries give; without an entry every column
 -- has 0. An entry without a size has no least either, and is passed. Assumes nothing.
-use mathlib.Core.Path.{◌≡◌, sym, ap, ap₂, ◌∙◌}
+use mathlib.Core.Path.{◌≡◌, sym, ap, ◌∙◌}
 use mathlib.Core.List.{List, [], ◌++◌, map}
 use Prim.Native.Nat.{ℕ, ◌+◌, ◌/◌, ◌≤◌, ◌<◌, max}
 use native.Mathlib.Omega.{arith}
 use lib.ListN.{length, get_or, take, drop, replicate, length-replicate, length-map, get_or-map}
-use lib.Seq.{take_all}
 use Rattle.lists.proofs.All.{at_all}
 use Rattle.text.specs.declared.Estimate.{Estimate}
 use Rattle.records.specs.Kept.{no_entry}
@@ -15,7 +14,7 @@ use Rattle.columns.specs.Columns.{size_of, least_of, largest}
 use Rattle.columns.proofs.Listed.{none}
 use Rattle.columns.proofs.Largest.{largest_length, largest_none, largest_skip, largest_turn}
 use Rattle.sizing.specs.Sizing.{figure_at, entry_box}
-use Rattle.sizing.specs.inner.Room.{Whole, Raisable, Raised}
+use Rattle.sizing.specs.inner.Room.{Whole, Raisable}
 
 pub record Sofar (es : List Entry) (figures : List Estimate) (n : ℕ) (sizes leasts : List ℕ) (i : ℕ) : Type 0 where
   pub at_most : i ≤ length es
@@ -43,14 +42,6 @@ module _ {es : List Entry} {figures : List Estimate} {sizes₀ leasts₀ : List 
 
     pub leasts_count : length leasts ≡ n
     leasts_count = largest_length least_of _ n leasts z.leasts_are
-
-    pub raise_stop : length es ≤ i → Raised es figures (length sizes₀) sizes leasts
-    raise_stop h =
-        let all = take_all i bs (omega (arith, length-map es (entry_box figures))) in
-        record {
-          sizes_are = z.sizes_are ∙ ap₂ (λ (xs : List Box) (m : ℕ). largest size_of xs m) all k;
-          leasts_are = z.leasts_are ∙ ap₂ (λ (xs : List Box) (m : ℕ). largest least_of xs m) all k;
-        }
 
     -- the entry at i and its figures
     module _ (h : i < length es) {e : Entry} (q : e ≡ get_or es i no_entry) {f : Estimate} (d : f ≡ figure_at figures e.cell) where

@@ -33,8 +33,7 @@ pub fn raise_columns(entries: &[Entry], figures: &[Estimate], sizes: &mut [u32],
 {
     sizes.fill(0);
     leasts.fill(0);
-    for i in 0..entries.len() {
-        let e = entries[i];
+    for e in entries {
         let f = figures_of(figures, e.cell);
         // without a size, as with every filler, there is nothing to raise: no least is above its size
         if f.size != 0 {
@@ -66,34 +65,6 @@ fn lay_in(
     widths::lay_columns(sizes, leasts, raw, width, column)
 }
 
-// The same in room that may be longer.
-fn lay_front(
-    entries: &[Entry],
-    figures: &[Estimate],
-    raw: u32,
-    width: u32,
-    sizes: &mut [u32],
-    leasts: &mut [u32],
-    column: &mut [u32],
-) -> Laid
-    requires entered { Entered entries.now figures.now (length column.old) }
-    requires column_len_bound { length column.old ≤ max_position }
-    requires sizes_in_bounds { length column.old ≤ length sizes.old }
-    requires leasts_in_bounds { length column.old ≤ length leasts.old }
-    ensures { LaidOut (sizes_in entries.now figures.now (length column.old)) (leasts_in entries.now figures.now (length column.old)) raw width column.new result }
-{
-    let c = column.len();
-    lay_in(
-        entries,
-        figures,
-        raw,
-        width,
-        &mut sizes[..c],
-        &mut leasts[..c],
-        column,
-    )
-}
-
 // The same in room of N places of its own.
 fn lay_sized<const N: usize>(
     entries: &[Entry],
@@ -109,13 +80,14 @@ fn lay_sized<const N: usize>(
 {
     let mut sizes = [0u32; N];
     let mut leasts = [0u32; N];
-    lay_front(
+    let c = column.len();
+    lay_in(
         entries,
         figures,
         raw,
         width,
-        &mut sizes,
-        &mut leasts,
+        &mut sizes[..c],
+        &mut leasts[..c],
         column,
     )
 }

@@ -4,31 +4,27 @@ use Rattle.lists.specs.declared.Refusal.{Refusal}
 use Rattle.std.specs.Prelude.{Result}
 use mathlib.Core.Path.{◌≡◌, sym, ap, ◌∙◌}
 use mathlib.Core.List.{List, map}
-use Prim.Native.Nat.{ℕ, suc, ◌+◌, ◌-◌, ◌≤◌}
+use Prim.Native.Nat.{ℕ, suc, ◌+◌, ◌≤◌}
 use native.Mathlib.Numerals.{add-one}
 use native.Mathlib.Omega.{arith}
 use lib.ListN.{length, take}
 use lib.Seq.{slice, take_all}
 use Rattle.lists.specs.Limits.{max_size, max_entries, max_lines}
-use Rattle.text.specs.declared.Estimate.{Estimate}
-use Rattle.records.specs.declared.Kept.{Kept}
-use Rattle.records.specs.declared.Entry as packed
+use Rattle.records.specs.declared.Entry as records
 use Rattle.columns.specs.Boxes.{Box, flat}
 use Rattle.cells.specs.Cells as cells
 use Rattle.cells.specs.Listed.{table_rows}
 use Rattle.grid.specs.Grid.{Entry, GridRow, grid_of, entries_of}
-use Rattle.grid.proofs.GridFacts.{grid_entries, grid_rows}
-use Rattle.grid.proofs.Rebuilt.{held_few}
+use Rattle.grid.proofs.GridFacts.{grid_entries}
 use Rattle.estimates.specs.Estimates.{box_of}
-use Rattle.gridding.specs.declared.Counts.{Counts}
 use Rattle.answers.specs.declared.Way.{Way}
-use Rattle.widths.specs.declared.Laid.{Laid}
 use Rattle.placing.specs.Place.{place_rows}
 use Rattle.placing.specs.inner.Rows.{Written}
 use Rattle.pointing.specs.Point.{placed}
 use Rattle.pointing.proofs.RowPart.{row_written}
 use Rattle.table.specs.Arranging.{ArrangedAt}
-use Rattle.table.specs.inner.Asked.{Asked}
+use Rattle.table.specs.declared.MeasuredTable.{MeasuredTable}
+use Rattle.table.specs.declared.Arrangement.{Arrangement}
 use Rattle.table.specs.inner.Room.{LayoutRoom}
 use Rattle.table.proofs.LayoutFitted.{layout_room}
 use Rattle.spots.specs.Rows.{start_in}
@@ -64,28 +60,22 @@ rows_told way ws width f g x wide w few room = record {
         ∙ start_boxes f g (length rows + length g)
         ∙ ap (λ (l : List GridRow). length (entries_of l)) (take_all (length rows + length g) g (omega arith))
 
-module _ {ks : List Kept} {line : ℕ} (a : Asked ks line) where
+module _ (k : MeasuredTable) where
   abbrev T : List cells.Row
-  T = table_rows ks (line - 1)
+  T = table_rows k.lines.now k.at
 
   pub arrange_room : {width : ℕ} {column x wide : List ℕ} → width ≤ max_size → max_lines ≤ length column → PlacesRoom x wide → LayoutRoom T width column x wide
-  arrange_room h c r = layout_room a h (record { column_room = c; x_room = r.x_room; wide_room = r.wide_room })
+  arrange_room h c r = layout_room k.known.sound h (record { column_room = c; x_room = r.x_room; wide_room = r.wide_room })
 
-  module _ {figures : List Estimate} {raw width : ℕ} {es : List packed.Entry} (rows : List RowEnd) {column x wide : List ℕ} {counts : Counts} {laid : Laid}
-      (m : ArrangedAt ks (line - 1) figures raw width es rows column x wide counts laid) where
-    pub has_rows : HasRows counts.rows rows (grid_of T)
-    has_rows = rw m.made.rows_are m.made.rows
-
-    pub rows_enough : max_lines ≤ length rows → counts.rows ≤ length rows
-    rows_enough h = omega (arith, m.made.rows_are, grid_rows T a.sound, held_few ks (line - 1), a.lined.short)
-
-    pub spot_made : {row : ℕ} {r : Result Span Refusal} → PlacesRoom x wide → ((g : List GridRow) → HasRows counts.rows rows g → r ≡ spot_in laid.way g row)
-        → SpotMade ks line figures raw width row r x wide
+  module _ {raw width : ℕ} {es : List records.Entry} {rows : List RowEnd} {column x wide : List ℕ} {a : Arrangement}
+      (m : ArrangedAt k.lines.now k.at k.figures.now raw width es rows column x wide a.counts a.laid) where
+    pub spot_made : {row : ℕ} {r : Result Span Refusal} → PlacesRoom x wide → ((g : List GridRow) → HasRows (take a.counts.rows rows) g → r ≡ spot_in a.laid.way g row)
+        → SpotMade k.lines.now k.at k.figures.now raw width row r x wide
     spot_made {row} room s = record {
       made = λ wrap f.
           let l = m.laid wrap f in
           record {
-            answer = s (grid_of T) has_rows ∙ ap (λ (w : Way). spot_in w (grid_of T) row) l.way_is;
-            told = rows_told _ _ width (box_of (line - 1 + 1) _) (grid_of T) x wide (record { x = l.xs_are; wide = l.wides_are }) (grid_entries T a.sound) room;
+            answer = s (grid_of T) (rw m.made.rows_are m.made.rows) ∙ ap (λ (w : Way). spot_in w (grid_of T) row) l.way_is;
+            told = rows_told _ _ width (box_of (k.at + 1) _) (grid_of T) x wide (record { x = l.xs_are; wide = l.wides_are }) (grid_entries T k.known.sound) room;
           };
     }

@@ -4,19 +4,20 @@ use Rattle.std.specs.Prelude.{Ok, Err}
 use mathlib.Core.Path.{◌≡◌, refl, sym, ap, ◌∙◌}
 use mathlib.Core.Bool.{true, false}
 use mathlib.Core.List.{List, [], ◌∷◌, map}
-use Prim.Native.Nat.{ℕ, zero, suc, ◌+◌, ◌-◌, ◌≤◌, ◌<◌}
+use Prim.Native.Nat.{ℕ, zero, suc, ◌+◌, ◌-◌, ◌≤◌, ◌<◌, min}
+use native.Mathlib.Decide.{dec_lt}
 use native.Mathlib.Nat.{not-suc-le-zero, le_of_suc-le-suc}
 use native.Mathlib.Numerals.{add-one}
 use native.Mathlib.Omega.{arith}
 use lib.ListN.{length, get_or, take, length-append, length-map}
-use lib.Seq.{length-take-le, take_all, get_or-take}
+use lib.Seq.{take_all}
 use borrow.Author.Tests.{le-leb, lt-leb}
 use Rattle.lists.specs.Refusals.{first_answer, refusal}
 use Rattle.records.specs.Kept.{no_row}
 use Rattle.records.specs.declared.RowEnd.{RowEnd}
 use Rattle.columns.specs.Boxes.{Box, flat}
 use Rattle.grid.specs.Grid.{Entry, GridRow, entries_of}
-use Rattle.gridding.specs.Packed.{ended_rows}
+use Rattle.gridding.specs.Records.{ended_rows}
 use Rattle.answers.specs.declared.Way.{Way}
 use Rattle.spots.specs.Rows.{start_in, goes_down}
 use Rattle.spots.specs.inner.Spots.{HasRows, span_with, spot_in}
@@ -68,41 +69,37 @@ unfolding ended_rows
 ended_length n [] = refl
 ended_length n (r ∷ g) = ap suc (ended_length (n + length r.entries) g)
 
-module _ (n : ℕ) (rows : List RowEnd) (room : n ≤ length rows) (g : List GridRow) (e : HasRows n rows g) where
-  pub row_total : n ≡ length g
-  row_total = sym (length-take-le n rows room) ∙ ap length e ∙ ended_length 0 g
+module _ (rows : List RowEnd) (g : List GridRow) (e : HasRows rows g) where
+  pub row_total : length rows ≡ length g
+  row_total = ap length e ∙ ended_length 0 g
 
   -- the end of row k is where the next one starts
-  end_is : (k : ℕ) → k < n → (get_or rows k no_row).end ≡ start_in g (suc k)
+  end_is : (k : ℕ) → k < length rows → (get_or rows k no_row).end ≡ start_in g (suc k)
   end_is k h =
-      ap (λ (r : RowEnd). r.end) (sym (get_or-take n rows k no_row h) ∙ ap (λ (rs : List RowEnd). get_or rs k no_row) e)
+      ap (λ (rs : List RowEnd). (get_or rs k no_row).end) e
       ∙ ended_at 0 g k (omega (arith, row_total))
       ∙ omega arith
 
+  -- past the last row all entries stand before
+  start_least : (k : ℕ) → start_in g (min k (length rows)) ≡ start_in g k
+  start_least k = go (dec_lt (length rows) k)
+    where
+      go : Dec (length rows < k) → start_in g (min k (length rows)) ≡ start_in g k
+      go (yes h) =
+          let m : min k (length rows) ≡ length rows = omega arith in
+          ap (λ (q : List GridRow). length (entries_of q))
+          (ap (λ (i : ℕ). take i g) m ∙ take_all (length rows) g (omega (arith, row_total)) ∙ sym (take_all k g (omega (arith, row_total))))
+      go (no h) = let m : min k (length rows) ≡ k = omega arith in ap (start_in g) m
+
   module _ (k : ℕ) where
-    pub before_none : k ≡ 0 → 0 ≡ start_in g k
+    pub before_none : min k (length rows) ≡ 0 → 0 ≡ start_in g k
     unfolding entries_of
-    before_none z = rw z
+    before_none z = sym (ap (start_in g) z) ∙ start_least k
 
-    pub before_row : 1 ≤ k → k ≤ n → (get_or rows (k - 1) no_row).end ≡ start_in g k
-    before_row p h =
-        let z : suc (k - 1) ≡ k = omega arith in
-        end_is (k - 1) (omega arith) ∙ ap (start_in g) z
-
-    -- past the last row
-    whole : n ≤ k → start_in g k ≡ start_in g n
-    whole h =
-        ap (λ (q : List GridRow). length (entries_of q))
-        (take_all k g (omega (arith, row_total)) ∙ sym (take_all n g (omega (arith, row_total))))
-
-    pub before_past : n < k → 1 ≤ n → (get_or rows (n - 1) no_row).end ≡ start_in g k
-    before_past h p =
-        let z : suc (n - 1) ≡ n = omega arith in
-        end_is (n - 1) (omega arith) ∙ ap (start_in g) z ∙ sym (whole (omega arith))
-
-    pub before_empty : n < k → n ≡ 0 → 0 ≡ start_in g k
-    unfolding entries_of
-    before_empty h z = (rw z) ∙ sym (whole (omega arith))
+    pub before_some : (min k (length rows) ≡ 0 → ⊥) → (get_or rows (min k (length rows) - 1) no_row).end ≡ start_in g k
+    before_some p =
+        let z : suc (min k (length rows) - 1) ≡ min k (length rows) = omega arith in
+        end_is (min k (length rows) - 1) (omega arith) ∙ ap (start_in g) z ∙ start_least k
 
 -- ---- the row
 

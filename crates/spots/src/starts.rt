@@ -17,36 +17,27 @@ fn is_down(way: Way) -> bool
     matches!(way, Way::Down)
 }
 
-// How many entries stand in the first k of n rows; all of them, if there are fewer rows.
-fn entries_before(rows: &[RowEnd], n: usize, k: usize) -> usize
-    requires { n ≤ length rows.now }
-    ensures { (g : List GridRow) → HasRows n rows.now g → result ≡ start_in g k }
+// How many entries stand in the first k rows; all of them, if there are fewer rows.
+fn entries_before(rows: &[RowEnd], k: usize) -> usize
+    ensures { (g : List GridRow) → HasRows rows.now g → result ≡ start_in g k }
 {
-    if k == 0 {
-        return 0;
-    }
-    if k <= n {
-        let row = rows[k - 1];
-        return row.end as usize;
-    }
+    let n = k.min(rows.len());
     if n == 0 {
         return 0;
     }
-    let row = rows[n - 1];
-    row.end as usize
+    rows[n - 1].end as usize
 }
 
-// The row of a table with n rows, unless the table goes down or has no such row.
-pub fn row_in(way: Way, rows: &[RowEnd], n: usize, row: u32) -> Result<Span, Refusal>
-    requires { n ≤ length rows.now }
-    ensures { (g : List GridRow) → HasRows n rows.now g → result ≡ spot_in way g row }
+// A row of the table, unless the table goes down or has no such row.
+pub fn row_in(way: Way, rows: &[RowEnd], row: u32) -> Result<Span, Refusal>
+    ensures { (g : List GridRow) → HasRows rows.now g → result ≡ spot_in way g row }
 {
     let k = row as usize;
-    if is_down(way) || n <= k {
+    if is_down(way) || rows.len() <= k {
         return Err(Reason::NoTable.at(0));
     }
-    let first = entries_before(rows, n, k);
-    let end = entries_before(rows, n, k + 1);
-    let next = entries_before(rows, n, k + 2);
+    let first = entries_before(rows, k);
+    let end = entries_before(rows, k + 1);
+    let next = entries_before(rows, k + 2);
     Ok(Span { first, end, next })
 }

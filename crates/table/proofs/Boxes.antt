@@ -18,15 +18,16 @@ use Rattle.columns.specs.Boxes.{Box, box, box_first, box_span, rows_by, BoxesTil
 use Rattle.grid.specs.Grid.{Entry, GridRow, entry, shown_line, entries_of}
 use Rattle.grid.specs.Facts.{EntriesTile}
 use Rattle.estimates.specs.Estimates.{Done, none, undone, est_of, box_of, box_row, box_rows}
-use Rattle.placing.specs.inner.Rows.{end_of, Ascends}
+use Rattle.placing.specs.inner.Rows.{Ascends}
+use Rattle.records.specs.Figures.{row_end}
 use Rattle.grid.specs.Judging.{shown}
-use Rattle.gridding.specs.Packed.{ended_rows}
+use Rattle.gridding.specs.Records.{ended_rows}
 use Rattle.sizing.specs.Sizing.{figure_at, entry_box}
 use Rattle.table.specs.inner.Grids.{RowTiles, Fits, Known, RowKnown}
 
 -- the rows' ends take a list of all entries apart into the grid's rows
 pub rows_apart : (f : Entry → Box) (n : ℕ) (g : List GridRow) →
-    rows_by n (map end_of (ended_rows n g)) (map f (entries_of g)) ≡ map (λ (r : GridRow). map f r.entries) g
+    rows_by n (map row_end (ended_rows n g)) (map f (entries_of g)) ≡ map (λ (r : GridRow). map f r.entries) g
 unfolding rows_by ended_rows entries_of
 rows_apart f n [] = refl
 rows_apart f n (r ∷ g) =
@@ -34,12 +35,12 @@ rows_apart f n (r ∷ g) =
     let a = map-append f r.entries (entries_of g) in
     ap₂ (λ (xs : List Box) (rest : List (List Box)). xs ∷ rest)
     (ap (take (n + length r.entries - n)) a ∙ take_at (map f r.entries) (map f (entries_of g)) (n + length r.entries - n) k)
-    (ap (λ (bs : List Box). rows_by (n + length r.entries) (map end_of (ended_rows (n + length r.entries) g)) bs)
+    (ap (λ (bs : List Box). rows_by (n + length r.entries) (map row_end (ended_rows (n + length r.entries) g)) bs)
     (ap (drop (n + length r.entries - n)) a ∙ drop_at (map f r.entries) (map f (entries_of g)) (n + length r.entries - n) k)
     ∙ rows_apart f (n + length r.entries) g)
 
 -- the rows' ends ascend to the number of entries
-pub ends_ascend : (n : ℕ) (g : List GridRow) → Ascends n (map end_of (ended_rows n g)) (n + length (entries_of g))
+pub ends_ascend : (n : ℕ) (g : List GridRow) → Ascends n (map row_end (ended_rows n g)) (n + length (entries_of g))
 unfolding Ascends ended_rows entries_of
 ends_ascend n [] = omega arith
 ends_ascend n (r ∷ g) =
@@ -114,9 +115,9 @@ module _ (all : List Done) (figures : List Estimate) (t : ℕ) where
 
   -- the boxes of a table's records are those of its grid with the lines after it
   pub boxes_of_grid : (g : List GridRow) → All (RowKnown t all figures) g →
-      rows_by 0 (map end_of (ended_rows 0 g)) (map (entry_box figures) (map shown (entries_of g))) ≡ box_rows t (drop t all) g
+      rows_by 0 (map row_end (ended_rows 0 g)) (map (entry_box figures) (map shown (entries_of g))) ≡ box_rows t (drop t all) g
   boxes_of_grid g l =
-      ap (rows_by 0 (map end_of (ended_rows 0 g))) (map-map (entry_box figures) shown (entries_of g))
+      ap (rows_by 0 (map row_end (ended_rows 0 g))) (map-map (entry_box figures) shown (entries_of g))
       ∙ rows_apart (box_shown figures) 0 g
       ∙ map_same _ (box_row t (drop t all)) g
       (all_weaken (RowKnown t all figures) _ (λ r a. map_same _ (box_of t (drop t all)) r.entries (all_weaken (Known t all figures) _ entry_box_lem r.entries a)) g l)

@@ -1,36 +1,40 @@
 -- The grid of a table of a measured sheet can be laid out, and what is laid out are the boxes of the definition. Its rows tile the columns, its cells
 -- are later lines, whose estimates stand among the figures, and no least passes its size. Assumes nothing.
 use mathlib.Core.Path.{◌≡◌, sym, ap, ◌∙◌}
-use mathlib.Core.List.{List, [], ◌∷◌, ◌++◌}
+use mathlib.Core.List.{List, [], ◌∷◌, ◌++◌, map}
 use Prim.Native.Nat.{ℕ, ◌+◌, ◌-◌, ◌≤◌, ◌<◌}
 use native.Mathlib.Omega.{arith}
-use lib.ListN.{length, get_or, take, get_or-map}
-use lib.Seq.{length-take-le, get_or-take}
+use lib.ListN.{length, get_or, take, replicate, length-replicate, get_or-map}
+use lib.Seq.{length-take-le, get_or-take, take_at}
 use Rattle.lists.specs.Lists.{All}
 use Rattle.lists.proofs.All.{all_weaken}
 use Rattle.text.specs.declared.Estimate.{Estimate}
+use Rattle.records.specs.Kept.{no_kept}
 use Rattle.records.specs.declared.Kept.{Kept}
-use Rattle.records.specs.declared.Entry as packed
+use Rattle.records.specs.declared.Entry as records
 use Rattle.records.specs.declared.RowEnd.{RowEnd}
 use Rattle.cells.specs.Cells as cells
 use Rattle.cells.specs.Listed.{table_rows}
 use Rattle.grid.specs.Grid.{Entry, GridRow, grid_of, columns_of, entries_of}
 use Rattle.grid.specs.Facts.{CellOf}
-use Rattle.positions.specs.Positions.{all_rows}
-use Rattle.grid.proofs.GridLists.{grid_count}
 use Rattle.grid.proofs.GridCells.{IsCell, entries_cells}
-use Rattle.grid.proofs.Rebuilt.{held_few}
-use Rattle.grid.proofs.GridFacts.{held_spanned, grid_tiles, grid_rows, grid_columns}
+use Rattle.grid.proofs.GridFacts.{held_spanned, grid_tiles, grid_columns}
 use Rattle.estimates.specs.Meets as meets
-use Rattle.estimates.specs.Estimates.{none, undone, est_of, estimates, measured}
-use Rattle.gridding.specs.Packed.{TableReady, TableMade}
+use Rattle.estimates.specs.Estimates.{Done, none, undone, est_of, estimates, measured}
+use Rattle.gridding.specs.Records.{TableMade}
+use Rattle.gridding.specs.Cut.{RecordsOf}
+use Rattle.gridding.proofs.Cut.{made_records}
 use Rattle.gridding.specs.declared.Counts.{Counts}
 use Rattle.widths.specs.declared.Laid.{Laid}
 use Rattle.table.specs.Laying.{box_rows_by, LaidTable}
+use Rattle.columns.specs.Boxes.{TilesAll, flat}
+use Rattle.sizing.specs.Sizing.{entry_box}
+use Rattle.sizing.specs.inner.Room.{Entered}
+use Rattle.table.proofs.Steps.{entered, rows_flat}
 use Rattle.table.specs.inner.Grids.{RowTiles, Known, RowKnown, Listed}
-use Rattle.table.proofs.Table.{table_rows_lem, table_layable, table_laid}
-use Rattle.table.specs.Arranging.{CellsAre, TableMeasured, AllMeasured, boxes_at, ArrangedAt}
-use Rattle.table.specs.inner.Room.{FrontLayable, LayoutRoom}
+use Rattle.table.proofs.Table.{entry_count, table_rows_lem, table_layable, table_laid}
+use Rattle.table.specs.Arranging.{CellsAre, TableMeasured, TableKnown, AllMeasured, boxes_at, ArrangedAt}
+use Rattle.table.specs.inner.Room.{LayableTable, LayoutRoom}
 
 -- what holds of all entries holds row by row
 rows_all : (P : Entry → Type 0) (g : List GridRow) → All P (entries_of g) → All (λ r. All P r.entries) g
@@ -42,8 +46,7 @@ rows_all P (r ∷ rs) a = let (b, c) = part r.entries a in (b, rows_all P rs c)
     part [] a = (tt, a)
     part (e ∷ es) a = let (b, c) = part es a.1 in ((a.0, b), c)
 
-module _ {ks : List Kept} {at : ℕ} {es₀ : List packed.Entry} {rs₀ : List RowEnd} (a : TableReady ks at es₀ rs₀)
-    {figures : List Estimate} (m : TableMeasured ks at figures) where
+module _ {ks : List Kept} {figures : List Estimate} {at : ℕ} (k : TableKnown ks figures at) where
   abbrev table : List cells.Row
   table = table_rows ks at
 
@@ -51,87 +54,88 @@ module _ {ks : List Kept} {at : ℕ} {es₀ : List packed.Entry} {rs₀ : List R
   g = grid_of table
 
   tiles : All (RowTiles (columns_of table)) g
-  tiles = grid_tiles table a.sound (held_spanned ks at)
+  tiles = grid_tiles table k.sound (held_spanned ks at)
 
-  -- its cells are later lines, and their estimates stand among the figures
-  known : (wrap : ℕ) → CellsAre wrap ks at figures → ((k : ℕ) → CellOf ks at k → (get_or (estimates wrap ks) k none).least ≤ (get_or (estimates wrap ks) k none).size)
-      → All (RowKnown (at + 1) (measured wrap 1 ks) figures) g
-  known wrap e f =
-      rows_all (Known (at + 1) (measured wrap 1 ks) figures) g
-      (all_weaken (IsCell ks at) (Known (at + 1) (measured wrap 1 ks) figures)
+  -- its cells are later lines, and so far as their estimates are those of a list, they stand among the figures
+  known_in : (all : List Done) → ((j : ℕ) → CellOf ks at j → get_or figures j none ≡ (get_or all j undone).est) → All (RowKnown (at + 1) all figures) g
+  known_in all e =
+      rows_all (Known (at + 1) all figures) g
+      (all_weaken (IsCell ks at) (Known (at + 1) all figures)
       (λ x p. record {
         later = λ h. omega (arith, (p h).1.before, (p h).0);
-        within = λ h. omega (arith, (p h).1.within, (p h).0, m.enough);
-        figure = λ h. e.cells (x.owner - 1) (p h).1 ∙ get_or-map est_of (measured wrap 1 ks) (x.owner - 1) undone;
-        fits = λ h. rw (get_or-map est_of (measured wrap 1 ks) (x.owner - 1) undone) at (f (x.owner - 1) (p h).1);
+        within = λ h. omega (arith, (p h).1.within, (p h).0, k.measured.enough);
+        figure = λ h. e (x.owner - 1) (p h).1;
+        fits = λ h. rw (← e (x.owner - 1) (p h).1) (k.measured.fits (x.owner - 1) (p h).1);
       })
-      (entries_of g) (entries_cells a.lined at a.within))
+      (entries_of g) (entries_cells k.lined at k.within))
 
-  -- at any wrap at which the figures are the cells' estimates: they are the same at the wrap at which they were measured
+  -- at any wrap at which the figures are the cells' estimates
   known_at : (wrap : ℕ) → CellsAre wrap ks at figures → All (RowKnown (at + 1) (measured wrap 1 ks) figures) g
-  known_at wrap e = known wrap e (λ k c. rw (sym (e.cells k c) ∙ m.cells_are.cells k c) (m.fits k c))
+  known_at wrap e = known_in (measured wrap 1 ks) (λ j c. e.cells j c ∙ get_or-map est_of (measured wrap 1 ks) j undone)
 
-  room : length (entries_of g) ≤ length es₀
-  unfolding grid_of
-  room = omega (arith, grid_count (all_rows table) (all_rows table), a.entry_room)
+  -- they are those of the figures themselves
+  abbrev done : Estimate → Done
+  done f = record { est = f; line = no_kept }
 
-  rows_few : length g ≤ length ks
-  rows_few = omega (arith, grid_rows table a.sound, held_few ks at)
+  known_here : All (RowKnown (at + 1) (map done figures) figures) g
+  known_here = known_in (map done figures) (λ j c. ap est_of (sym (get_or-map done figures j none)))
 
-  module _ {counts : Counts} {es : List packed.Entry} {rs : List RowEnd} (w : TableMade table counts es rs) where
-    listed : Listed g (take counts.entries es) (take counts.rows rs)
-    listed = record { entries = rw w.entries_are w.entries; rows = rw w.rows_are w.rows }
+  module _ {counts : Counts} {es : List records.Entry} {rs : List RowEnd} (w : TableMade table counts es rs)
+      {entries : List records.Entry} {rows : List RowEnd} {columns : ℕ} (p : RecordsOf counts es rs entries rows columns) where
+    listed : Listed g entries rows
+    listed = record { entries = (made_records w p).entries_are; rows = (made_records w p).rows_are }
 
-    -- the rows of its boxes are those of the definition
-    pub made_rows : (wrap : ℕ) → CellsAre wrap ks at figures → box_rows_by (take counts.rows rs) (take counts.entries es) figures ≡ boxes_at wrap ks at
-    made_rows wrap e = table_rows_lem (measured wrap 1 ks) figures listed (at + 1) (known_at wrap e)
+    entries_length : length entries ≡ counts.entries
+    entries_length = entry_count listed ∙ sym w.entries_are
 
     -- the table made can be laid out in the front of slices
-    pub made_front : {width : ℕ} {column x wide : List ℕ} → LayoutRoom table width column x wide
-        → length es ≡ length es₀ → length rs ≡ length rs₀
-        → FrontLayable counts.rows counts.entries counts.columns es rs figures width column x wide
-    made_front {width} {column} {x} {wide} r ee er =
-        record {
-          entries_in_fits = n;
-          rows_in_fits = o;
-          column_in = ci;
-          x_in = xi;
-          wide_in = wi;
-          table =
-              table_layable (measured m.wrap 1 ks) figures listed (at + 1) (known_at m.wrap m.cells_are) (columns_of table) tiles
-              (length-take-le counts.columns column ci ∙ w.columns_are)
-              (length-take-le counts.entries x xi ∙ sym (length-take-le counts.entries es n))
-              (length-take-le counts.entries wide wi ∙ sym (length-take-le counts.entries es n))
-              (grid_columns table a.sound) r.small;
-        }
-      where
-        n : counts.entries ≤ length es
-        n = omega (arith, w.entries_are, ee, room)
+    pub made_layable : {width : ℕ} {column x wide : List ℕ} → LayoutRoom table width column x wide
+        → LayableTable entries rows figures width (take counts.columns column) (take counts.entries x) (take counts.entries wide)
+    made_layable {column = column} {x = x} {wide = wide} r =
+        table_layable (map done figures) figures listed (at + 1) known_here (columns_of table) tiles
+        (length-take-le counts.columns column (omega (arith, w.columns_are, r.column_room)) ∙ w.columns_are)
+        (length-take-le counts.entries x (omega (arith, w.entries_are, r.x_room)) ∙ sym entries_length)
+        (length-take-le counts.entries wide (omega (arith, w.entries_are, r.wide_room)) ∙ sym entries_length)
+        (grid_columns table k.sound) r.small
 
-        o : counts.rows ≤ length rs
-        o = omega (arith, w.rows_are, er, rows_few, a.row_room)
+    layable_any : LayableTable entries rows figures 0 (replicate (columns_of table) 0) (replicate (length entries) 0) (replicate (length entries) 0)
+    layable_any =
+        let n = length-replicate {A = ℕ} (length entries) 0 in
+        table_layable (map done figures) figures listed (at + 1) known_here (columns_of table) tiles (length-replicate {A = ℕ} (columns_of table) 0) n n (grid_columns table k.sound) (omega arith)
 
-        ci : counts.columns ≤ length column
-        ci = omega (arith, w.columns_are, r.column_room)
+    columns_same : length {A = ℕ} (replicate (columns_of table) 0) ≡ columns
+    columns_same = length-replicate {A = ℕ} (columns_of table) 0 ∙ sym (made_records w p).columns_are
 
-        xi : counts.entries ≤ length x
-        xi = omega (arith, w.entries_are, r.x_room)
+    -- its entries are whole in its columns, and its rows tile them and hold every box
+    pub made_entered : Entered entries figures columns
+    made_entered = rw columns_same at (entered layable_any)
 
-        wi : counts.entries ≤ length wide
-        wi = omega (arith, w.entries_are, r.wide_room)
+    pub made_tiles : TilesAll columns (box_rows_by rows entries figures)
+    made_tiles = rw columns_same at layable_any.tiles
 
-    -- and what is laid out is the table of the definition
-    pub made_laid : {raw width : ℕ} {column x wide : List ℕ} {laid : Laid}
-        → LaidTable counts.columns (box_rows_by (take counts.rows rs) (take counts.entries es) figures) raw width
-        (take counts.columns column) (take counts.entries x) (take counts.entries wide) laid
-        → ArrangedAt ks at figures raw width es rs column x wide counts laid
-    made_laid {raw} {width} {column} {x} {wide} {laid} l =
-        record {
-          made = w;
-          laid = λ wrap e.
-              let q = table_laid (measured wrap 1 ks) figures listed (at + 1) (known_at wrap e) w.columns_are l in
-              rw (w.columns_are, w.entries_are) at q;
-        }
+    pub made_flat : flat (box_rows_by rows entries figures) ≡ map (entry_box figures) entries
+    made_flat = rows_flat layable_any
+
+    -- the rows of its boxes are those of the definition
+    pub made_rows : (wrap : ℕ) → CellsAre wrap ks at figures → box_rows_by rows entries figures ≡ boxes_at wrap ks at
+    made_rows wrap e = table_rows_lem (measured wrap 1 ks) figures listed (at + 1) (known_at wrap e)
+
+    -- and what is laid out there, before what else the slices hold, is the table of the definition
+    pub made_laid : {raw width : ℕ} {column₀ x₀ wide₀ column x wide : List ℕ} {laid : Laid} → LayoutRoom table width column₀ x₀ wide₀
+        → LaidTable (length (take counts.columns column₀)) (box_rows_by rows entries figures) raw width column x wide laid
+        → length column ≡ length (take counts.columns column₀) → length x ≡ length (take counts.entries x₀) → length wide ≡ length (take counts.entries wide₀)
+        → (u v z : List ℕ) → ArrangedAt ks at figures raw width es rs (column ++ u) (x ++ v) (wide ++ z) counts laid
+    made_laid {column₀ = column₀} {x₀ = x₀} {wide₀ = wide₀} {column = column} {x = x} {wide = wide} r l cs xs ws u v z = record {
+      made = w;
+      laid = λ wrap e.
+          let c = length-take-le counts.columns column₀ (omega (arith, w.columns_are, r.column_room)) in
+          let q = table_laid (measured wrap 1 ks) figures listed (at + 1) (known_at wrap e) (c ∙ w.columns_are) l in
+          rw (
+            take_at column u (columns_of table) (cs ∙ c ∙ w.columns_are),
+            take_at x v (length (entries_of g)) (xs ∙ length-take-le counts.entries x₀ (omega (arith, w.entries_are, r.x_room)) ∙ w.entries_are),
+            take_at wide z (length (entries_of g)) (ws ∙ length-take-le counts.entries wide₀ (omega (arith, w.entries_are, r.wide_room)) ∙ w.entries_are),
+          ) q;
+    }
 
 -- the lines as `opening::measuring::measure_sheet` leaves them (the fields of its LinesMeasured) are measured
 pub all_measured : (wrap : ℕ) (ks : List Kept) (figures : List Estimate) → take (length ks) figures ≡ estimates wrap ks → length ks ≤ length figures
@@ -143,4 +147,7 @@ pub all_cells : {ks : List Kept} {figures : List Estimate} (at wrap : ℕ) → t
 all_cells {ks} {figures} at wrap e = record { cells = λ k c. sym (get_or-take (length ks) figures k none c.within) ∙ ap (λ (fs : List Estimate). get_or fs k none) e }
 
 pub all_table : {ks : List Kept} {figures : List Estimate} (at : ℕ) → AllMeasured ks figures → TableMeasured ks at figures
-all_table at m = record { wrap = m.wrap; cells_are = all_cells at m.wrap m.figures_are; enough = m.enough; fits = λ k c. m.fits k c.within }
+all_table at m = record {
+  enough = m.enough;
+  fits = λ k c. rw ((all_cells at m.wrap m.figures_are).cells k c) (m.fits k c.within);
+}

@@ -2,7 +2,6 @@ pub mod Boxes
 pub mod Table
 pub mod Steps
 pub mod Grids
-pub mod Fronts
 pub mod Rooms
 pub mod LayoutFitted
 pub mod Cells

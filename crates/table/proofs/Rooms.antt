@@ -8,7 +8,10 @@ use Rattle.records.specs.declared.Entry.{Entry}
 use Rattle.records.specs.declared.RowEnd.{RowEnd}
 use Rattle.grid_bounds.specs.Sheets.{Suffice}
 use Rattle.grid_bounds.proofs.Sheets.{suffice_entries}
-use Rattle.gridding.specs.Packed.{TableReady}
+use Rattle.gridding.specs.Records.{TableReady}
+use Rattle.text.specs.declared.Estimate.{Estimate}
+use Rattle.table.specs.Arranging.{TableMeasured, TableKnown}
+use Rattle.table.specs.inner.Room.{GridRoom}
 use Rattle.table.specs.inner.Asked.{Asked, Most}
 
 -- as many as suffice
@@ -18,13 +21,24 @@ suffice_most {ks} {line} a z = record { entries_most = suffice_entries a.lined.s
 pub any_most : {ks : List Kept} {line : ℕ} → Asked ks line → Most 8192 4096 ks line
 any_most a = record { entries_most = a.sound.few; lines_most = a.lined.short }
 
--- its grid can be made where there is room for them
-pub table_ready : {ks : List Kept} {line e r : ℕ} → Asked ks line → Most e r ks line → (entries : List Entry) (rows : List RowEnd) → e ≤ length entries → r ≤ length rows
-    → TableReady ks (line - 1) entries rows
-table_ready a m entries rows h g = record {
-  within = a.within;
-  lined = a.lined;
-  sound = a.sound;
-  entry_room = omega (arith, m.entries_most);
-  row_room = omega (arith, m.lines_most);
+-- there is room for them
+pub grid_room : {ks : List Kept} {line e r : ℕ} → Most e r ks line → (entries : List Entry) (rows : List RowEnd) → e ≤ length entries → r ≤ length rows
+    → GridRoom ks (line - 1) entries rows
+grid_room m entries rows h g = record { entry_room = omega (arith, m.entries_most); row_room = omega (arith, m.lines_most) }
+
+-- and a grid can be made there
+pub table_ready : {ks : List Kept} {figures : List Estimate} {at : ℕ} {entries : List Entry} {rows : List RowEnd} → TableKnown ks figures at → GridRoom ks at entries rows
+    → TableReady ks at entries rows
+table_ready k r = record {
+  within = k.within;
+  lined = k.lined;
+  sound = k.sound;
+  entry_room = r.entry_room;
+  row_room = r.row_room;
 }
+
+pub asked_known : {ks : List Kept} {line : ℕ} {figures : List Estimate} → Asked ks line → TableMeasured ks (line - 1) figures → TableKnown ks figures (line - 1)
+asked_known a m = record { within = a.within; lined = a.lined; sound = a.sound; measured = m }
+
+pub asked_ready : {ks : List Kept} {line : ℕ} {entries : List Entry} {rows : List RowEnd} → Asked ks line → GridRoom ks (line - 1) entries rows → TableReady ks (line - 1) entries rows
+asked_ready a r = record { within = a.within; lined = a.lined; sound = a.sound; entry_room = r.entry_room; row_room = r.row_room }

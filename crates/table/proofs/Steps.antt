@@ -17,7 +17,8 @@ use Rattle.widths.specs.inner.Lay.{LaidOut}
 use Rattle.widths.specs.declared.Laid.{Laid}
 use Rattle.widths.proofs.Laying.{laid_length, laid_final}
 use Rattle.placing.specs.Place.{Placed, place_rows}
-use Rattle.placing.specs.inner.Rows.{bare_boxes, end_of, AllRows, Written}
+use Rattle.placing.specs.inner.Rows.{bare_boxes, AllRows, Written}
+use Rattle.records.specs.Figures.{row_end}
 use Rattle.placing.proofs.Bare.{bare, place_rows_bare, tiles_rows_bare}
 use Rattle.placing.proofs.Ready.{flat_rows}
 use Rattle.placing.proofs.Promise as promise
@@ -54,7 +55,7 @@ module _ {es : List Entry} {rs : List RowEnd} {figures : List Estimate} {width :
   -- the rows hold every box
   pub rows_flat : flat (box_rows_by rs es figures) ≡ map (entry_box figures) es
   unfolding box_rows_by
-  rows_flat = flat_rows 0 (length es) (map end_of rs) bs (omega (arith, length-map es (entry_box figures))) p.ascends
+  rows_flat = flat_rows 0 (length es) (map row_end rs) bs (omega (arith, length-map es (entry_box figures))) p.ascends
 
   -- what the columns ask for
   pub entered : Entered es figures n
@@ -75,12 +76,12 @@ module _ {es : List Entry} {rs : List RowEnd} {figures : List Estimate} {width :
           xs_length = p.xs_length;
           wides_length = p.wides_length;
           ascends = p.ascends;
-          tiles = rw (count, bared) (tiles_rows_bare n (map end_of rs) bs p.tiles);
+          tiles = rw (count, bared) (tiles_rows_bare n (map row_end rs) bs p.tiles);
           side = λ s. omega (arith, (laid_final q (below_in entered) s).fits, p.small);
         }
 
     -- the answer
-    pub laid_table : {xs wides : List ℕ} → Written (place_rows laid.way column width (rows_by 0 (map end_of rs) (bare_boxes es))) xs wides →
+    pub laid_table : {xs wides : List ℕ} → Written (place_rows laid.way column width (rows_by 0 (map row_end rs) (bare_boxes es))) xs wides →
         LaidTable n (box_rows_by rs es figures) raw width column xs wides laid
     unfolding box_rows_by
     laid_table w =
@@ -99,8 +100,8 @@ module _ {es : List Entry} {rs : List RowEnd} {figures : List Estimate} {width :
         column_is : column ≡ widths_in n rows raw width
         column_is = q.wide_are ∙ rw (way, rows_flat)
 
-        placed : place_rows laid.way column width (rows_by 0 (map end_of rs) (bare_boxes es)) ≡ places_in n rows raw width
+        placed : place_rows laid.way column width (rows_by 0 (map row_end rs) (bare_boxes es)) ≡ places_in n rows raw width
         placed =
-            ap (λ (xs : List Box). place_rows laid.way column width (rows_by 0 (map end_of rs) xs)) bared
-            ∙ place_rows_bare laid.way column width (map end_of rs) bs
+            ap (λ (xs : List Box). place_rows laid.way column width (rows_by 0 (map row_end rs) xs)) bared
+            ∙ place_rows_bare laid.way column width (map row_end rs) bs
             ∙ rw (way, column_is)

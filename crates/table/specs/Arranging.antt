@@ -7,9 +7,10 @@ use Rattle.records.specs.declared.RowEnd.{RowEnd}
 use Rattle.columns.specs.Boxes.{Box}
 use Rattle.cells.specs.Listed.{table_rows}
 use Rattle.grid.specs.Grid.{grid_of, columns_of, entries_of}
-use Rattle.grid.specs.Facts.{CellOf}
+use Rattle.grid.specs.Facts.{Sound, CellOf}
+use Rattle.grid.specs.Judging.{Lined}
 use Rattle.estimates.specs.Estimates.{none, estimates, measured, box_rows}
-use Rattle.gridding.specs.Packed.{TableMade}
+use Rattle.gridding.specs.Records.{TableMade}
 use Rattle.gridding.specs.declared.Counts.{Counts}
 use Rattle.widths.specs.declared.Laid.{Laid}
 use Rattle.table.specs.Laying.{LaidTable}
@@ -18,12 +19,17 @@ use Rattle.table.specs.Laying.{LaidTable}
 pub record CellsAre (wrap : ℕ) (ks : List Kept) (at : ℕ) (figures : List Estimate) : Type 0 where
   pub cells : (k : ℕ) → CellOf ks at k → get_or figures k none ≡ get_or (estimates wrap ks) k none
 
--- at some wrap, and no least passes its size
+-- there are figures of its cells, of which no least passes its size
 pub record TableMeasured (ks : List Kept) (at : ℕ) (figures : List Estimate) : Type 0 where
-  pub wrap : ℕ
-  pub cells_are : CellsAre wrap ks at figures
   pub enough : length ks ≤ length figures
-  pub fits : (k : ℕ) → CellOf ks at k → (get_or (estimates wrap ks) k none).least ≤ (get_or (estimates wrap ks) k none).size
+  pub fits : (k : ℕ) → CellOf ks at k → (get_or figures k none).least ≤ (get_or figures k none).size
+
+-- a table of an accepted sheet, with the figures of its cells
+pub record TableKnown (ks : List Kept) (figures : List Estimate) (at : ℕ) : Type 0 where
+  pub within : at < length ks
+  pub lined : Lined ks
+  pub sound : Sound (table_rows ks at)
+  pub measured : TableMeasured ks at figures
 
 -- the estimates of all lines stand in the front of the figures, at some wrap, and no least passes its size
 pub record AllMeasured (ks : List Kept) (figures : List Estimate) : Type 0 where

@@ -5,7 +5,7 @@ use Rattle.lists.specs.Lists.{sum}
 use Rattle.columns.specs.Boxes.{Box, box, rows_by, flat}
 use Rattle.columns.specs.Columns.{largest_at, up_to}
 use Rattle.estimates.specs.Estimates.{estimate}
-use Rattle.gridding.specs.Packed.{entry, row}
+use Rattle.gridding.specs.Records.{entry, row}
 use Rattle.cutting.specs.Cut.{pick, cut_once, cut_by, cut}
 use Rattle.widths.specs.Share.{share, shares_of}
 use Rattle.widths.specs.Widths.{way_of, final_widths}

@@ -9,13 +9,13 @@ use Rattle.widths.specs.Widths.{way_of, final_widths, table_width}
 use Rattle.answers.specs.declared.Way.{Way}
 use Rattle.widths.specs.declared.Laid.{Laid}
 use Rattle.placing.specs.Place.{Placed, place_rows}
-use Rattle.placing.specs.inner.Rows.{end_of}
+use Rattle.records.specs.Figures.{row_end}
 use Rattle.placing.specs.Promise.{Promised}
 use Rattle.sizing.specs.Sizing.{entry_box}
 
 -- the rows of the boxes of all entries
 unfoldable pub box_rows_by : List RowEnd → List Entry → List Estimate → List (List Box)
-box_rows_by rs es figures = rows_by 0 (map end_of rs) (map (entry_box figures) es)
+box_rows_by rs es figures = rows_by 0 (map row_end rs) (map (entry_box figures) es)
 
 -- the way of a table with these rows of boxes in so many columns, and its final widths
 abbrev pub way_in : ℕ → List (List Box) → ℕ → ℕ → Way

@@ -1,17 +1,25 @@
 // One table of a measured sheet laid out: its grid made, and laid out in the front of lent slices.
 #![tactic(auto)]
 
-ghost use Rattle.std.specs.Prelude.{length, take};
+ghost use Rattle.std.specs.Prelude.{length};
 ghost use Rattle.cells.specs.Listed.{table_rows};
-ghost use Rattle.gridding.specs.Packed.{TableReady};
 ghost use Rattle.table.specs.Laying.{box_rows_by, LaidTable};
-ghost use Rattle.table.specs.Arranging.{TableMeasured, ArrangedAt};
-ghost use Rattle.table.specs.inner.Room.{LayableTable, FrontLayable, LayoutRoom};
+ghost use Rattle.table.specs.Arranging.{TableKnown, ArrangedAt};
+ghost use Rattle.table.specs.inner.Room.{LayableTable, GridRoom, LayoutRoom};
 
-use gridding::Counts;
+use gridding::{Counts, Records};
 use records::{Entry, Kept, RowEnd};
 use text::Estimate;
 use widths::Laid;
+
+// A table of an accepted sheet: the sheet's lines, their estimates, of which those of the table's cells are measured, and the place of its line.
+#[derive(Clone, Copy)]
+pub struct MeasuredTable<'a> {
+    pub lines: &'a [Kept],
+    pub figures: &'a [Estimate],
+    pub at: usize,
+    pub ghost known: { TableKnown lines.now figures.now at },
+}
 
 // A table laid out: how many rows, entries and columns it has, its way and the width that it takes.
 #[derive(Clone, Copy)]
@@ -22,8 +30,7 @@ pub struct Arrangement {
 
 // Ports `render_table_tree`: the columns' widths, and then the place of each entry.
 pub fn lay(
-    entries: &[Entry],
-    rows: &[RowEnd],
+    grid: Records<'_>,
     figures: &[Estimate],
     raw: u32,
     width: u32,
@@ -31,49 +38,17 @@ pub fn lay(
     x: &mut [u32],
     wide: &mut [u32],
 ) -> Laid
-    requires { LayableTable entries.now rows.now figures.now width column.old x.old wide.old }
-    ensures { LaidTable (length column.old) (box_rows_by rows.now entries.now figures.now) raw width column.new x.new wide.new result }
+    requires { LayableTable grid.entries.now grid.rows.now figures.now width column.old x.old wide.old }
+    ensures { LaidTable (length column.old) (box_rows_by grid.entry.rows.now grid.entry.entries.now figures.now) raw width column.new x.new wide.new result }
 {
-    let laid = sizing::lay_columns(entries, figures, raw, width, column);
-    let way = laid.way;
-    placing::place(way, entries, rows, column, width, x, wide);
+    let laid = sizing::lay_columns(grid.entries, figures, raw, width, column);
+    placing::place(laid.way, grid.entries, grid.rows, column, width, x, wide);
     laid
 }
 
-// Lays out a table whose records stand in the front of the slices: so many rows, entries and columns of them.
-fn lay_front(
-    r: usize,
-    n: usize,
-    c: usize,
-    entries: &[Entry],
-    rows: &[RowEnd],
-    figures: &[Estimate],
-    raw: u32,
-    width: u32,
-    column: &mut [u32],
-    x: &mut [u32],
-    wide: &mut [u32],
-) -> Laid
-    requires { FrontLayable r n c entries.now rows.now figures.now width column.old x.old wide.old }
-    ensures { LaidTable c (box_rows_by (take r rows.now) (take n entries.now) figures.now) raw width (take c column.new) (take n x.new) (take n wide.new) result }
-{
-    lay(
-        &entries[..n],
-        &rows[..r],
-        figures,
-        raw,
-        width,
-        &mut column[..c],
-        &mut x[..n],
-        &mut wide[..n],
-    )
-}
-
-// The table at the place `at` of a measured sheet: its entries and rows as records, final widths, x and width of each entry.
+// Lays out a table in the front of the slices: its entries and rows as records, the columns' final widths, x and width of each entry.
 pub fn arrange(
-    lines: &[Kept],
-    figures: &[Estimate],
-    at: usize,
+    t: MeasuredTable<'_>,
     raw: u32,
     width: u32,
     entries: &mut [Entry],
@@ -82,15 +57,19 @@ pub fn arrange(
     x: &mut [u32],
     wide: &mut [u32],
 ) -> Arrangement
-    requires table_ready { TableReady lines.now at entries.old rows.old }
-    requires table_measured { TableMeasured lines.now at figures.now }
-    requires layout_room { LayoutRoom (table_rows lines.now at) width column.old x.old wide.old }
-    ensures { ArrangedAt lines.now at figures.now raw width entries.new rows.new column.new x.new wide.new result.counts result.laid }
+    requires grid_room { GridRoom t.lines.now t.at entries.old rows.old }
+    requires layout_room { LayoutRoom (table_rows t.lines.now t.at) width column.old x.old wide.old }
+    ensures { ArrangedAt t.entry.lines.now t.entry.at t.entry.figures.now raw width entries.new rows.new column.new x.new wide.new result.counts result.laid }
 {
-    let counts = grid_plain::make(lines, at, entries, rows);
-    let r = counts.rows;
-    let n = counts.entries;
-    let c = counts.columns;
-    let laid = lay_front(r, n, c, entries, rows, figures, raw, width, column, x, wide);
+    let counts = grid_plain::make(t.lines, t.at, entries, rows);
+    let laid = lay(
+        counts.records(entries, rows),
+        t.figures,
+        raw,
+        width,
+        &mut column[..counts.columns],
+        &mut x[..counts.entries],
+        &mut wide[..counts.entries],
+    );
     Arrangement { counts, laid }
 }

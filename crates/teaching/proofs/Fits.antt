@@ -69,7 +69,7 @@ tabled_fits n bs m = go (eqb n 0)
 
 leaf_fits : (wrap : ℕ) (l : Kept) → Fit (leaf_of wrap l)
 unfolding leaf_of
-leaf_fits wrap l = go (has_text (kind_number l.kind)) (eqb (kind_number l.kind) break_kind)
+leaf_fits wrap l = go (has_text l.kind) (eqb (kind_number l.kind) break_kind)
   where
     go : (a b : Bool) → Fit (cond a (text_estimate wrap l.own) (cond b (estimate 1 1 0) none))
     go true b = omega arith
@@ -98,7 +98,7 @@ holder_fits l c h = go (eqb (kind_number l.kind) link_kind)
 
 estimate_fits : (wrap t : ℕ) (l : Kept) (ls : List Kept) (rest : List Done) → All Fits rest → Fit (estimate_of wrap t l ls rest)
 unfolding estimate_of
-estimate_fits wrap t l ls rest f = go (is_leaf (kind_number l.kind)) (eqb (kind_number l.kind) body_kind || eqb (kind_number l.kind) row_kind) (eqb (kind_number l.kind) table_kind)
+estimate_fits wrap t l ls rest f = go (is_leaf l.kind) (eqb (kind_number l.kind) body_kind || eqb (kind_number l.kind) row_kind) (eqb (kind_number l.kind) table_kind)
   where
     n : ℕ
     n = columns_of (rows_under l.depth t ls)

@@ -20,6 +20,7 @@ use Rattle.estimates.proofs.Laws.{length_all, line_of, est_of}
 use Rattle.estimates.proofs.Nesting.{allowed}
 use Rattle.grid_bounds.specs.Sheets.{Nests}
 use Rattle.teaching.specs.Missing.{Inside, itself, below}
+use Rattle.kinds.specs.declared.Kind.{Kind}
 
 -- ---- a child's least width is among those that its parent gathers
 
@@ -58,11 +59,11 @@ holder_keeps l c = go (eqb (kind_number l.kind) link_kind)
 -- ---- the lines of a sheet
 
 -- a line that holds others, and is no part of a table but its cell
-record Holds (kind : ℕ) : Type 0 where
+record Holds (kind : Kind) : Type 0 where
   pub leaf : is_leaf kind ≡ false
-  pub body : kind ≡ body_kind → ⊥
-  pub row : kind ≡ row_kind → ⊥
-  pub table : kind ≡ table_kind → ⊥
+  pub body : kind_number kind ≡ body_kind → ⊥
+  pub row : kind_number kind ≡ row_kind → ⊥
+  pub table : kind_number kind ≡ table_kind → ⊥
 
 module _ (wrap : ℕ) (ks : List Kept) where
   abbrev es : List Done
@@ -72,13 +73,13 @@ module _ (wrap : ℕ) (ks : List Kept) where
   abbrev held : ℕ → Children
   held p = gather (line_at ks p).depth no_children (drop (suc p) es)
 
-  holder_is : (p : ℕ) → p < length ks → Holds (kind_number (line_at ks p).kind) → est_at es p ≡ holder_of (line_at ks p) (held p)
+  holder_is : (p : ℕ) → p < length ks → Holds (line_at ks p).kind → est_at es p ≡ holder_of (line_at ks p) (held p)
   unfolding estimate_of
   holder_is p h w =
       est_of wrap ks p h
       ∙ rw (w.leaf, ne_eqb (kind_number (line_at ks p).kind) body_kind w.body, ne_eqb (kind_number (line_at ks p).kind) row_kind w.row, ne_eqb (kind_number (line_at ks p).kind) table_kind w.table)
 
-  parent_least : (p i : ℕ) → Parent ks p i → Holds (kind_number (line_at ks p).kind) → (est_at es i).least ≤ (est_at es p).least
+  parent_least : (p i : ℕ) → Parent ks p i → Holds (line_at ks p).kind → (est_at es i).least ≤ (est_at es p).least
   parent_least p i r w =
       let h : p < length ks = omega (arith, r.before, r.within) in
       let k = i - suc p in
@@ -102,14 +103,14 @@ module _ (wrap : ℕ) (ks : List Kept) where
           )
 
   -- a line with text, and a link
-  text_least : (i : ℕ) → i < length ks → has_text (kind_number (line_at ks i).kind) ≡ true → (est_at es i).least ≡ min (est_at es i).size wrap
+  text_least : (i : ℕ) → i < length ks → has_text (line_at ks i).kind ≡ true → (est_at es i).least ≡ min (est_at es i).size wrap
   unfolding estimate_of leaf_of
   text_least i h t = rw (est_of wrap ks i h, t)
 
   link_least : (i : ℕ) → i < length ks → kind_number (line_at ks i).kind ≡ link_kind → 5 ≤ (est_at es i).least
   unfolding holder_of
   link_least i h e =
-      let w : Holds (kind_number (line_at ks i).kind) = rw e (record { leaf = refl; body = λ z. omega arith; row = λ z. omega arith; table = λ z. omega arith }) in
+      let w : Holds (line_at ks i).kind = record { leaf = rw e refl; body = λ z. omega arith; row = λ z. omega arith; table = λ z. omega arith } in
       rw (holder_is i h w, e) (omega arith)
 
   -- ---- from a cell down
@@ -121,7 +122,7 @@ module _ (wrap : ℕ) (ks : List Kept) where
     pub body : kind_number (line_at ks i).kind ≡ body_kind → ⊥
     pub row : kind_number (line_at ks i).kind ≡ row_kind → ⊥
 
-  no_frame : (k : ℕ) → is_frame k ≡ false → (k ≡ body_kind → ⊥) × (k ≡ row_kind → ⊥)
+  no_frame : (k : Kind) → is_frame k ≡ false → (kind_number k ≡ body_kind → ⊥) × (kind_number k ≡ row_kind → ⊥)
   no_frame k f = (λ e. true≢false (rw e at f), λ e. true≢false (rw e at f))
 
   pub inside_in : Nests ks → (c : ℕ) → c < length ks → kind_number (line_at ks c).kind ≡ cell_kind → (i : ℕ) → Inside ks c i → In c i
@@ -129,9 +130,9 @@ module _ (wrap : ℕ) (ks : List Kept) where
   inside_in z c h e _ (below p i s n r) =
       let q = inside_in z c h e p s in
       let a =
-      allowed (kind_number (line_at ks p).kind) (kind_number (line_at ks i).kind)
+      allowed (line_at ks p).kind (line_at ks i).kind
       (z.holds p i (record { before = r.before; within = r.within; deeper = r.deeper; between = r.between })) in
-      let f = no_frame (kind_number (line_at ks i).kind) (a.elsewhere n q.body q.row) in
+      let f = no_frame (line_at ks i).kind (a.elsewhere n q.body q.row) in
       record {
         within = r.within;
         least = omega (arith, q.least, parent_least p i r (record { leaf = a.holder; body = q.body; row = q.row; table = n }));
@@ -139,7 +140,7 @@ module _ (wrap : ℕ) (ks : List Kept) where
         row = f.1;
       }
 
-  pub text_in : (c i : ℕ) → In c i → has_text (kind_number (line_at ks i).kind) ≡ true → min (est_at es i).size wrap ≤ (est_at es c).least
+  pub text_in : (c i : ℕ) → In c i → has_text (line_at ks i).kind ≡ true → min (est_at es i).size wrap ≤ (est_at es c).least
   text_in c i q t = omega (arith, q.least, text_least i q.within t)
 
   pub link_in : (c i : ℕ) → In c i → kind_number (line_at ks i).kind ≡ link_kind → 5 ≤ (est_at es c).least

@@ -90,7 +90,7 @@ NeverMissing = (s : List ℕ) (line wrap raw width : ℕ) → TableIn s line →
 abbrev pub TextKeeps : Type 0
 TextKeeps = (s : List ℕ) (line wrap raw width : ℕ) → TableIn s line → Allowed wrap raw width → 1 ≤ width →
     (k i : ℕ) → k < entry_total s line → 1 ≤ cell_at s line k → Inside (kept_lines s) (cell_at s line k - 1) i →
-    has_text (kind_number (get_or (kept_lines s) i no_kept).kind) ≡ true →
+    has_text (get_or (kept_lines s) i no_kept).kind ≡ true →
     (entry_at s line wrap k).span ≤ (get_or (estimates wrap (kept_lines s)) i none).size → (entry_at s line wrap k).span ≤ wrap →
     0 < printed_at s line wrap raw width k
 

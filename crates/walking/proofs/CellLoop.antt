@@ -7,76 +7,70 @@ use Prim.Native.Nat.{ℕ, suc, ◌-◌, ◌≤◌, ◌<◌}
 use native.Mathlib.Decide.{ℕ_discrete}
 use native.Mathlib.Omega.{arith}
 use lib.Dec.{eqb}
-use lib.ListN.{length, get_or, take, drop, set, length-map, length-set, drop_of_length-le, get_or-map}
-use lib.Seq.{drop-cons, get_or-take, length-take-le, get_or-set_same, get_or-set_other}
+use lib.ListN.{length, get_or, drop, set, length-map, length-set, drop_of_length-le, get_or-map}
+use lib.Seq.{drop-cons, get_or-set_same, get_or-set_other}
 use borrow.Author.Tests.{eq-eqb, ne_eqb}
 use Rattle.std.specs.Prelude.{Option, None}
 use Rattle.lists.specs.Lists.{mem}
 use Rattle.records.specs.Kept.{no_entry}
 use Rattle.records.specs.declared.Entry.{Entry}
 use Rattle.passing.specs.Walk.{printed, printed_in}
-use Rattle.walking.specs.inner.Steps.{cell_in, printed_by, CellsFit}
+use Rattle.walking.specs.inner.Steps.{printed_by, CellsFit}
+use Rattle.records.specs.Figures.{entry_cell}
 
 -- ---- the loop
 
-pub record Sofar (n : ℕ) (es : List Entry) (wide : List ℕ) (ps₀ ps : List (Option ℕ)) (i : ℕ) : Type 0 where
-  pub at : i ≤ n
-  pub left : ps ≡ printed_by (drop i (map cell_in (take n es))) (drop i (take n wide)) ps₀
+pub record Sofar (es : List Entry) (wide : List ℕ) (ps₀ ps : List (Option ℕ)) (i : ℕ) : Type 0 where
+  pub at : i ≤ length es
+  pub left : ps ≡ printed_by (drop i (map entry_cell es)) (drop i wide) ps₀
 
-module _ {n : ℕ} {es : List Entry} {wide : List ℕ} {ps₀ : List (Option ℕ)} (f : CellsFit n es wide ps₀) where
+module _ {es : List Entry} {wide : List ℕ} {ps₀ : List (Option ℕ)} (f : CellsFit es wide ps₀) where
   abbrev cs : List ℕ
-  cs = map cell_in (take n es)
+  cs = map entry_cell es
 
-  abbrev vs : List ℕ
-  vs = take n wide
+  cells_count : length cs ≡ length es
+  cells_count = length-map es entry_cell
 
-  cells_count : length cs ≡ n
-  cells_count = length-map (take n es) cell_in ∙ length-take-le n es f.entries_in_fits
-
-  wides_count : length vs ≡ n
-  wides_count = length-take-le n wide f.wide_in
-
-  pub start : Sofar n es wide ps₀ ps₀ n
+  pub start : Sofar es wide ps₀ ps₀ (length es)
   unfolding printed_by
-  start = record { at = omega arith; left = sym (ap (λ (l : List ℕ). printed_by l (drop n vs) ps₀) (drop_of_length-le cs {i = n} (omega (arith, cells_count)))) }
+  start = record { at = omega arith; left = sym (ap (λ (l : List ℕ). printed_by l (drop (length es) wide) ps₀) (drop_of_length-le cs {i = length es} (omega (arith, cells_count)))) }
 
-  module _ {ps : List (Option ℕ)} {i : ℕ} (z : Sofar n es wide ps₀ ps i) where
-    pub stop : i ≤ 0 → ps ≡ printed_by (map cell_in (take n es)) (take n wide) ps₀
+  module _ {ps : List (Option ℕ)} {i : ℕ} (z : Sofar es wide ps₀ ps i) where
+    pub stop : i ≤ 0 → ps ≡ printed_by (map entry_cell es) wide ps₀
     stop h = let o : i ≡ 0 = omega arith in rw o at z.left
 
     module _ (h : 0 < i) (e : Entry) (q : e ≡ get_or es (i - 1) no_entry) where
-      within : i - 1 < n
+      within : i - 1 < length es
       within = omega (arith, z.at)
 
       cells_here : drop (i - 1) cs ≡ e.cell ∷ drop i cs
       cells_here =
           let s : suc (i - 1) ≡ i = omega arith in
           let w : i - 1 < length cs = omega (arith, within, cells_count) in
-          let c : get_or cs (i - 1) 0 ≡ e.cell = get_or-map cell_in (take n es) (i - 1) no_entry ∙ ap cell_in (get_or-take n es (i - 1) no_entry within ∙ sym q) in
+          let c : get_or cs (i - 1) 0 ≡ e.cell = get_or-map entry_cell es (i - 1) no_entry ∙ ap entry_cell (sym q) in
           drop-cons cs (i - 1) 0 w ∙ (λ j. c j ∷ drop (s j) cs)
 
-      wides_here : drop (i - 1) vs ≡ get_or wide (i - 1) 0 ∷ drop i vs
+      wides_here : drop (i - 1) wide ≡ get_or wide (i - 1) 0 ∷ drop i wide
       wides_here =
           let s : suc (i - 1) ≡ i = omega arith in
-          let w : i - 1 < length vs = omega (arith, within, wides_count) in
-          drop-cons vs (i - 1) 0 w ∙ (λ j. get_or-take n wide (i - 1) 0 within j ∷ drop (s j) vs)
+          drop-cons wide (i - 1) 0 (omega (arith, within, f.wide_in)) ∙ (λ j. get_or wide (i - 1) 0 ∷ drop (s j) wide)
 
-      next : printed_by (drop (i - 1) cs) (drop (i - 1) vs) ps₀ ≡ cond (eqb e.cell 0) ps (set ps (e.cell - 1) (printed (get_or wide (i - 1) 0)))
+      next : printed_by (drop (i - 1) cs) (drop (i - 1) wide) ps₀ ≡ cond (eqb e.cell 0) ps (set ps (e.cell - 1) (printed (get_or wide (i - 1) 0)))
       unfolding printed_by
       next =
           (λ j. printed_by (cells_here j) (wides_here j) ps₀)
           ∙ sym (ap (λ (l : List (Option ℕ)). cond (eqb e.cell 0) l (set l (e.cell - 1) (printed (get_or wide (i - 1) 0)))) z.left)
 
       pub turn_cell : (e.cell ≡ 0 → ⊥) → (p : Option ℕ) → p ≡ printed (get_or wide (i - 1) 0) → (ps' : List (Option ℕ)) → ps' ≡ set ps (e.cell - 1) p
-          → Sofar n es wide ps₀ ps' (i - 1)
+          → Sofar es wide ps₀ ps' (i - 1)
       turn_cell c p r ps' w = record { at = omega (arith, z.at); left = w ∙ ap (set ps (e.cell - 1)) r ∙ sym (rw (ne_eqb e.cell 0 c) at next) }
 
-      pub turn_filler : e.cell ≡ 0 → Sofar n es wide ps₀ ps (i - 1)
+      pub turn_filler : e.cell ≡ 0 → Sofar es wide ps₀ ps (i - 1)
       turn_filler c = record { at = omega (arith, z.at); left = sym (rw (eq-eqb e.cell 0 c) at next) }
 
       -- a cell has a place
       pub cell_place : (e.cell ≡ 0 → ⊥) → e.cell - 1 < length ps₀
-      cell_place c = omega (arith, f.room (i - 1) within, ap cell_in q, some e.cell c)
+      cell_place c = omega (arith, f.room (i - 1) within, ap entry_cell q, some e.cell c)
         where
           some : (m : ℕ) → (m ≡ 0 → ⊥) → 0 < m
           some m c = omega arith

@@ -8,7 +8,7 @@ use native.Mathlib.Numerals.{add-one}
 use native.Mathlib.Omega.{arith}
 use lib.Dec.{eqb}
 use lib.ListN.{length, get_or, take, length-map}
-use lib.Seq.{get_or-take, length-take-le}
+use lib.Seq.{length-take-le}
 use borrow.Author.Tests.{ne_eqb}
 use Rattle.lists.proofs.All.{at_all, all_map}
 use Rattle.lists.specs.Lists.{mem}
@@ -17,7 +17,7 @@ use Rattle.text.specs.declared.Estimate.{Estimate}
 use Rattle.kinds.specs.Kinds.{kind_number, table_kind}
 use Rattle.records.specs.Kept.{no_kept, no_entry}
 use Rattle.records.specs.declared.Kept.{Kept}
-use Rattle.records.specs.declared.Entry as packed
+use Rattle.records.specs.declared.Entry as records
 use Rattle.records.specs.declared.RowEnd.{RowEnd}
 use Rattle.cells.specs.Listed.{table_rows}
 use Rattle.grid.specs.Grid as grid
@@ -27,17 +27,17 @@ use Rattle.grid.specs.Judging.{shown}
 use Rattle.grid.proofs.Tiling.{not_true}
 use Rattle.grid.proofs.GridCells.{held_owners, owner_cell, entries_cells, IsCell}
 use Rattle.table.proofs.Cells.{shown_within}
-use Rattle.table.proofs.Grids.{all_cells}
+use Rattle.table.proofs.Grids.{all_cells, all_table}
 use Rattle.grid.proofs.CellLines.{cell_line_lem}
 use Rattle.grid.proofs.GridFacts.{grid_entries, grid_columns}
-use Rattle.gridding.specs.Packed.{TableReady}
 use Rattle.gridding.specs.declared.Counts.{Counts}
 use Rattle.widths.specs.declared.Laid.{Laid}
 use Rattle.table.specs.Laying.{places_in}
-use Rattle.table.specs.Arranging.{boxes_at, ArrangedAt}
-use Rattle.table.specs.inner.Room.{LayoutRoom}
+use Rattle.table.specs.Arranging.{TableKnown, boxes_at, ArrangedAt}
+use Rattle.table.specs.inner.Room.{GridRoom, LayoutRoom}
 use Rattle.passing.specs.Walk.{width_in, printed_in, cell_width}
-use Rattle.walking.specs.inner.Steps.{cell_in, printed_by, Walkable, Rooms, AtMost, HandReady, CellsFit, HandedOut}
+use Rattle.walking.specs.inner.Steps.{printed_by, Walkable, Rooms, AtMost, HandReady, CellsFit, HandedOut}
+use Rattle.records.specs.Figures.{entry_cell}
 use Rattle.walking.proofs.CellLoop.{place_other, place_cell}
 
 -- ---- the lines that entries show
@@ -52,8 +52,8 @@ shown_mem q (e ∷ es) = go e.filler (shown_mem q es)
     go true r = rw (ne_eqb (suc q) 0 (λ z. omega arith)) r
     go false r = ap (λ (b : Bool). eqb (suc q) e.owner || b) r
 
-cells_shown : (es : List Entry) → map cell_in (map shown es) ≡ map shown_line es
-cells_shown es = map-map cell_in shown es
+cells_shown : (es : List Entry) → map entry_cell (map shown es) ≡ map shown_line es
+cells_shown es = map-map entry_cell shown es
 
 -- ---- what is asked for
 
@@ -62,15 +62,12 @@ module _ {ks : List Kept} {figures : List Estimate} (p : Walkable ks figures) {t
     sound_here : Sound (table_rows ks t)
     sound_here = p.sound t h kind
 
-    module _ {entries : List packed.Entry} {rows : List RowEnd} {column x wide : List ℕ} (r : Rooms entries rows column x wide) where
-      pub table_ready : TableReady ks t entries rows
-      table_ready = record {
-        within = h;
-        lined = p.lined;
-        sound = sound_here;
-        entry_room = omega (arith, sound_here.few, r.entry_room);
-        row_room = omega (arith, p.lined.short, r.row_room);
-      }
+    pub table_known : TableKnown ks figures t
+    table_known = record { within = h; lined = p.lined; sound = sound_here; measured = all_table t p.measured }
+
+    module _ {entries : List records.Entry} {rows : List RowEnd} {column x wide : List ℕ} (r : Rooms entries rows column x wide) where
+      pub grid_room : GridRoom ks t entries rows
+      grid_room = record { entry_room = omega (arith, sound_here.few, r.entry_room); row_room = omega (arith, p.lined.short, r.row_room) }
 
       pub layout_room : {v : ℕ} → v ≤ max_size → LayoutRoom (table_rows ks t) v column x wide
       layout_room small = record {
@@ -80,12 +77,8 @@ module _ {ks : List Kept} {figures : List Estimate} (p : Walkable ks figures) {t
         small = small;
       }
 
-  -- the entries and their widths have places
-  pub cells_room : (kind : kind_number (get_or ks t no_kept).kind ≡ table_kind) (entries₀ entries : List packed.Entry) {rows : List RowEnd} {column x wide : List ℕ} → Rooms entries₀ rows column x wide
-      → length entries ≡ length entries₀ → length (grid.entries_of (grid_of (table_rows ks t))) ≤ length entries
-  cells_room kind entries₀ entries r e = omega (arith, grid_entries (table_rows ks t) (sound_here kind), r.entry_room)
-
-  pub wides_room : (kind : kind_number (get_or ks t no_kept).kind ≡ table_kind) {entries : List packed.Entry} {rows : List RowEnd} {column x : List ℕ} (wide₀ wide : List ℕ) → Rooms entries rows column x wide₀
+  -- their widths have places
+  pub wides_room : (kind : kind_number (get_or ks t no_kept).kind ≡ table_kind) {entries : List records.Entry} {rows : List RowEnd} {column x : List ℕ} (wide₀ wide : List ℕ) → Rooms entries rows column x wide₀
       → length wide ≡ length wide₀ → length (grid.entries_of (grid_of (table_rows ks t))) ≤ length wide
   wides_room kind wide₀ wide r e = omega (arith, grid_entries (table_rows ks t) (sound_here kind), r.wide_room)
 
@@ -94,28 +87,26 @@ module _ {ks : List Kept} {figures : List Estimate} (p : Walkable ks figures) {t
   abbrev es : List Entry
   es = grid.entries_of (grid_of (table_rows ks t))
 
-  module _ {raw v : ℕ} {qs : List packed.Entry} {rs : List RowEnd} {column x wide : List ℕ} {counts : Counts} {laid : Laid}
+  module _ {raw v : ℕ} {qs : List records.Entry} {rs : List RowEnd} {column x wide : List ℕ} {counts : Counts} {laid : Laid}
       (a : ArrangedAt ks t figures raw v qs rs column x wide counts laid) where
-    cells_are : map cell_in (take counts.entries qs) ≡ map shown_line es
-    cells_are = ap (λ (n : ℕ). map cell_in (take n qs)) a.made.entries_are ∙ ap (map cell_in) a.made.entries ∙ cells_shown es
+    cells_are : map entry_cell (take counts.entries qs) ≡ map shown_line es
+    cells_are = ap (λ (n : ℕ). map entry_cell (take n qs)) a.made.entries_are ∙ ap (map entry_cell) a.made.entries ∙ cells_shown es
 
-    pub cells_fit : (N : ℕ) (ps : List (Option ℕ)) → N ≡ counts.entries → length es ≤ length qs → length es ≤ length wide → length ks ≤ length ps → CellsFit N qs wide ps
-    cells_fit N ps e q w n = record {
-      entries_in_fits = omega (arith, a.made.entries_are);
-      wide_in = omega (arith, a.made.entries_are);
+    taken : take counts.entries qs ≡ map shown es
+    taken = ap (λ (n : ℕ). take n qs) a.made.entries_are ∙ a.made.entries
+
+    pub cells_fit : (ps : List (Option ℕ)) → length es ≤ length wide → length ks ≤ length ps → CellsFit (take counts.entries qs) (take counts.entries wide) ps
+    cells_fit ps w n = rw taken (record {
+      wide_in = omega (arith, length-map es shown, a.made.entries_are, length-take-le counts.entries wide (omega (arith, a.made.entries_are)));
       room = λ k l.
-          let b : k < length (map shown es) = omega (arith, length-map es shown, a.made.entries_are) in
-          let g : get_or qs k no_entry ≡ get_or (map shown es) k no_entry =
-          sym (get_or-take (length es) qs k no_entry (omega (arith, a.made.entries_are))) ∙ ap (λ (y : List packed.Entry). get_or y k no_entry) a.made.entries in
-          rw g
-          (at_all (λ y. y.cell ≤ length ps) no_entry (map shown es) k
-          (all_map (IsCell ks t) (λ y. y.cell ≤ length ps) shown (λ y. shown_within (length ps) ks t y n) es (entries_cells p.lined t h)) b);
-    }
+          at_all (λ y. y.cell ≤ length ps) no_entry (map shown es) k
+          (all_map (IsCell ks t) (λ y. y.cell ≤ length ps) shown (λ y. shown_within (length ps) ks t y n) es (entries_cells p.lined t h)) l;
+    })
 
     module _ (kind : kind_number (get_or ks t no_kept).kind ≡ table_kind) (N : ℕ) (e : N ≡ counts.entries) (ew : length es ≤ length wide) (ps₀ ps : List (Option ℕ))
-        (n : length ks ≤ length ps₀) (w : ps ≡ printed_by (map cell_in (take N qs)) (take N wide) ps₀) where
-      member : (i : ℕ) → mem (suc i) (map cell_in (take N qs)) ≡ mem (suc i) (cell_owners es)
-      member i = ap (mem (suc i)) (ap (λ (m : ℕ). map cell_in (take m qs)) e ∙ cells_are) ∙ shown_mem i es
+        (n : length ks ≤ length ps₀) (w : ps ≡ printed_by (map entry_cell (take N qs)) (take N wide) ps₀) where
+      member : (i : ℕ) → mem (suc i) (map entry_cell (take N qs)) ≡ mem (suc i) (cell_owners es)
+      member i = ap (mem (suc i)) (ap (λ (m : ℕ). map entry_cell (take m qs)) e ∙ cells_are) ∙ shown_mem i es
 
       is_cell : (i : ℕ) → CellOf ks t i → mem (suc i) (cell_owners es) ≡ true
       is_cell i c = ap (mem (suc i)) (held_owners p.lined t h) ∙ cell_line_lem ks t i c
@@ -133,16 +124,16 @@ module _ {ks : List Kept} {figures : List Estimate} (p : Walkable ks figures) {t
             let vs : take N wide ≡ map width_in (places_in (columns_of (table_rows ks t)) (boxes_at wrap ks t) raw v) =
             ap (λ (m : ℕ). take m wide) (e ∙ a.made.entries_are) ∙ l.wides_are in
             ap (λ (y : List (Option ℕ)). get_or y i None) w
-            ∙ place_cell (map cell_in (take N qs)) (take N wide) ps₀ i counts_same (member i ∙ is_cell i c.1) (omega (arith, c.1.within))
-            ∙ (λ j. printed_in ((ap (λ (m : ℕ). map cell_in (take m qs)) e ∙ cells_are) j) (vs j) (sym (add-one i) j));
-        other = λ i c. ap (λ (y : List (Option ℕ)). get_or y i None) w ∙ place_other (map cell_in (take N qs)) (take N wide) ps₀ i (member i ∙ no_cell i (λ o. c (kind, o)));
+            ∙ place_cell (map entry_cell (take N qs)) (take N wide) ps₀ i counts_same (member i ∙ is_cell i c.1) (omega (arith, c.1.within))
+            ∙ (λ j. printed_in ((ap (λ (m : ℕ). map entry_cell (take m qs)) e ∙ cells_are) j) (vs j) (sym (add-one i) j));
+        other = λ i c. ap (λ (y : List (Option ℕ)). get_or y i None) w ∙ place_other (map entry_cell (take N qs)) (take N wide) ps₀ i (member i ∙ no_cell i (λ o. c (kind, o)));
       }
         where
-          counts_same : length (take N wide) ≡ length (map cell_in (take N qs))
+          counts_same : length (take N wide) ≡ length (map entry_cell (take N qs))
           counts_same =
               length-take-le N wide (omega (arith, a.made.entries_are))
               ∙ e ∙ a.made.entries_are
-              ∙ sym (ap length (ap (λ (m : ℕ). map cell_in (take m qs)) e ∙ cells_are) ∙ length-map es shown_line)
+              ∙ sym (ap length (ap (λ (m : ℕ). map entry_cell (take m qs)) e ∙ cells_are) ∙ length-map es shown_line)
 
 -- the width of the line
 pub small_here : {ks : List Kept} {t : ℕ} {w : Option ℕ} {v : ℕ} → w ≡ Some v → HandReady ks t w → v ≤ max_size

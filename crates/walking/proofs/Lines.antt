@@ -20,6 +20,7 @@ use Rattle.estimates.specs.Sheet.{Sheet, line_at}
 use Rattle.estimates.proofs.Nesting.{Allowed, may, parent}
 use Rattle.passing.specs.Walk.{from_nearest, line_width, walk_to}
 use Rattle.walking.specs.inner.Steps.{CellIn}
+use Rattle.kinds.specs.declared.Kind.{Kind}
 
 -- ---- the front of a walk
 
@@ -94,15 +95,15 @@ one_table {ks} u t i a b = go (dec_lt u t) (dec_lt t u)
     go (no v) (no w) = omega arith
 
 -- what stands in what: bodies in tables, rows in bodies, cells in rows
-record Frames (a b : ℕ) : Type 0 where
-  pub body : b ≡ body_kind → a ≡ table_kind
-  pub row : b ≡ row_kind → a ≡ body_kind
-  pub cell : b ≡ cell_kind → a ≡ row_kind
+record Frames (a b : Kind) : Type 0 where
+  pub body : kind_number b ≡ body_kind → kind_number a ≡ table_kind
+  pub row : kind_number b ≡ row_kind → kind_number a ≡ body_kind
+  pub cell : kind_number b ≡ cell_kind → kind_number a ≡ row_kind
 
-frames : (a b : ℕ) → Allowed a b → Frames a b
-frames a b l = go (ℕ_discrete a table_kind) (ℕ_discrete a body_kind) (ℕ_discrete a row_kind)
+frames : (a b : Kind) → Allowed a b → Frames a b
+frames a b l = go (ℕ_discrete (kind_number a) table_kind) (ℕ_discrete (kind_number a) body_kind) (ℕ_discrete (kind_number a) row_kind)
   where
-    go : Dec (a ≡ table_kind) → Dec (a ≡ body_kind) → Dec (a ≡ row_kind) → Frames a b
+    go : Dec (kind_number a ≡ table_kind) → Dec (kind_number a ≡ body_kind) → Dec (kind_number a ≡ row_kind) → Frames a b
     go (yes t) q r = record { body = λ _. t; row = λ e. absurd (omega (arith, l.in_table t)); cell = λ e. absurd (omega (arith, l.in_table t)) }
     go (no t) (yes q) r = record { body = λ e. absurd (omega (arith, l.in_body q)); row = λ _. q; cell = λ e. absurd (omega (arith, l.in_body q)) }
     go (no t) (no q) (yes r) = record { body = λ e. absurd (omega (arith, l.in_row r)); row = λ e. absurd (omega (arith, l.in_row r)); cell = λ _. r }
@@ -116,21 +117,21 @@ pub record InTable (ks : List Kept) (i : ℕ) : Type 0 where
   pub cell : CellIn ks table i
 
 module _ {ks : List Kept} (w : Sheet ks) where
-  frame_parent : (i : ℕ) → i < length ks → is_frame (kind_number (line_at ks i).kind) ≡ true → (p : ℕ) × Parent ks p i
+  frame_parent : (i : ℕ) → i < length ks → is_frame (line_at ks i).kind ≡ true → (p : ℕ) × Parent ks p i
   frame_parent i h f = parent w i h (go (ℕ_discrete i 0))
     where
       go : Dec (i ≡ 0) → 0 < (line_at ks i).depth
-      go (yes e) = absurd (true≢false (sym f ∙ ap (λ (x : ℕ). is_frame (kind_number (line_at ks x).kind)) e ∙ w.root))
+      go (yes e) = absurd (true≢false (sym f ∙ ap (λ (x : ℕ). is_frame (line_at ks x).kind) e ∙ w.root))
       go (no e) = w.under i (omega arith) h
 
   pub cell_table : (i : ℕ) → i < length ks → kind_number (line_at ks i).kind ≡ cell_kind → InTable ks i
   cell_table i h e =
       let x = frame_parent i h (rw e refl) in
-      let xk = (frames (kind_number (line_at ks x.0).kind) (kind_number (line_at ks i).kind) (may w x.0 i x.1)).cell e in
+      let xk = (frames (line_at ks x.0).kind (line_at ks i).kind (may w x.0 i x.1)).cell e in
       let y = frame_parent x.0 (omega (arith, x.1.before)) (rw xk refl) in
-      let yk = (frames (kind_number (line_at ks y.0).kind) (kind_number (line_at ks x.0).kind) (may w y.0 x.0 y.1)).row xk in
+      let yk = (frames (line_at ks y.0).kind (line_at ks x.0).kind (may w y.0 x.0 y.1)).row xk in
       let z = frame_parent y.0 (omega (arith, x.1.before, y.1.before)) (rw yk refl) in
-      let zk = (frames (kind_number (line_at ks z.0).kind) (kind_number (line_at ks y.0).kind) (may w z.0 y.0 z.1)).body yk in
+      let zk = (frames (line_at ks z.0).kind (line_at ks y.0).kind (may w z.0 y.0 z.1)).body yk in
       record {
         table = z.0;
         cell = (

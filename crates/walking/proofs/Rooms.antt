@@ -11,7 +11,6 @@ use lib.Dec.{eqb}
 use lib.ListN.{length, get_or, take, replicate}
 use Rattle.lists.specs.Limits.{max_size, depths}
 use Rattle.text.specs.declared.Estimate.{Estimate}
-use Rattle.kinds.specs.Kinds.{kind_number}
 use Rattle.records.specs.Kept.{no_kept}
 use Rattle.records.specs.declared.Kept.{Kept}
 use Rattle.estimates.specs.Estimates.{none, estimates}
@@ -61,7 +60,7 @@ module _ (lines : List Kept) (figures : List Estimate) (walk₀ : List (Option �
         pub hand_ready : HandReady lines i w
         hand_ready = record { within = h; small = step_small p p.measured.wrap p.measured.figures_are small (z p p.measured.wrap p.measured.figures_are) h s }
 
-        module _ (b : Bool) (o : b ≡ (eqb overflow 0 && too_narrow (kind_number (get_or lines i no_kept).kind) (get_or figures i none) w)) where
+        module _ (b : Bool) (o : b ≡ (eqb overflow 0 && too_narrow (get_or lines i no_kept).kind (get_or figures i none) w)) where
           pub walked_refused : b ≡ true → (last : List (Option ℕ)) → Walked lines figures raw root overflow (Err (refusal TooNarrow (i + 1))) last
           walked_refused t last = record {
             answer = λ wrap same. turn_refused p wrap same small (z p wrap same) h s b o t;

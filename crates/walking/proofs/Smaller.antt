@@ -28,6 +28,7 @@ use Rattle.placing.specs.Place.{Placed, at, across, place_side, place_down, plac
 use Rattle.table.specs.Laying.{way_in, places_in}
 use Rattle.passing.specs.Walk.{takes_off, passed_on, printed_in, from_nearest}
 use Rattle.walking.specs.inner.Steps.{AtMost}
+use Rattle.kinds.specs.declared.Kind.{Kind}
 
 -- ---- widths
 
@@ -35,7 +36,7 @@ pub most_none : (m : ℕ) → AtMost m None
 unfolding AtMost
 most_none m = tt
 
-pub most_passed : (m kind : ℕ) (e : Estimate) (w : Option ℕ) → e.least ≤ m → AtMost m w → AtMost m (passed_on kind e w)
+pub most_passed : (m : ℕ) (kind : Kind) (e : Estimate) (w : Option ℕ) → e.least ≤ m → AtMost m w → AtMost m (passed_on kind e w)
 unfolding AtMost passed_on
 most_passed m kind e None l h = tt
 most_passed m kind e (Some w) l h = go (takes_off kind)

@@ -146,7 +146,7 @@ module _ {ks : List Kept} {figures : List Estimate} (p : Walkable ks figures) (w
         where
           passed_small : (k : ℕ) → k < i → AtMost max_size (passed_by wrap ks (W i) k)
           passed_small k l =
-              most_passed max_size (kind_number (get_or ks k no_kept).kind) (get_or (estimates wrap ks) k none) (get_or (W i) k None)
+              most_passed max_size (get_or ks k no_kept).kind (get_or (estimates wrap ks) k none) (get_or (W i) k None)
               (omega (arith, p.small k (omega arith), ap (λ (e : Estimate). e.least) (figure_at_lem k (omega arith)))) (z.small k)
 
           go : (a b : Bool) → eqb (kind_number here.kind) cell_kind ≡ b
@@ -162,11 +162,11 @@ module _ {ks : List Kept} {figures : List Estimate} (p : Walkable ks figures) (w
       abbrev rest : List Check
       rest = narrow_from wrap raw root overflow ks (length ks - (i + 1)) (i + 1)
 
-      here_narrow : (w : Option ℕ) → w ≡ own → narrow_at wrap raw root ks i ≡ too_narrow (kind_number here.kind) (get_or figures i none) w
+      here_narrow : (w : Option ℕ) → w ≡ own → narrow_at wrap raw root ks i ≡ too_narrow here.kind (get_or figures i none) w
       here_narrow w e =
-          (λ j. too_narrow (kind_number here.kind) (sym (figure_at_lem i h) j) ((walk_stays wrap raw root ks (length ks) (suc i) i (omega arith) h ∙ walk_last wrap raw root ks i ∙ sym e) j))
+          (λ j. too_narrow here.kind (sym (figure_at_lem i h) j) ((walk_stays wrap raw root ks (length ks) (suc i) i (omega arith) h ∙ walk_last wrap raw root ks i ∙ sym e) j))
 
-      verdict_here : (w : Option ℕ) → w ≡ own → (b : Bool) → b ≡ (eqb overflow 0 && too_narrow (kind_number here.kind) (get_or figures i none) w)
+      verdict_here : (w : Option ℕ) → w ≡ own → (b : Bool) → b ≡ (eqb overflow 0 && too_narrow here.kind (get_or figures i none) w)
           → verdict_of (narrow_checks wrap raw root overflow ks) ≡ cond b (Err (refusal TooNarrow (i + 1))) (verdict_of rest)
       unfolding narrow_from verdict_of first_answer
       verdict_here w e b f =
@@ -183,7 +183,7 @@ module _ {ks : List Kept} {figures : List Estimate} (p : Walkable ks figures) (w
         pub step_small : AtMost max_size w
         step_small = rw w_is own_small
 
-        pub turn_refused : (b : Bool) → b ≡ (eqb overflow 0 && too_narrow (kind_number (get_or ks i no_kept).kind) (get_or figures i none) w) → b ≡ true
+        pub turn_refused : (b : Bool) → b ≡ (eqb overflow 0 && too_narrow (get_or ks i no_kept).kind (get_or figures i none) w) → b ≡ true
             → Err (refusal TooNarrow (i + 1)) ≡ verdict_of (narrow_checks wrap raw root overflow ks)
         turn_refused b f t = sym (verdict_here w w_is b f ∙ rw t)
 
@@ -223,22 +223,22 @@ module _ {ks : List Kept} {figures : List Estimate} (p : Walkable ks figures) (w
           passes_next d l (yes e) =
               rw (eq-eqb here.depth d e)
               (ap (λ (y : List (Option ℕ)). get_or y d None) s.passes
-              ∙ ap (λ (x : ℕ). get_or (set qs here.depth (passed_on (kind_number here.kind) (get_or figures i none) w)) x None) (sym e)
-              ∙ get_or-set_same qs here.depth (passed_on (kind_number here.kind) (get_or figures i none) w) None (omega arith)
-              ∙ (λ n. passed_on (kind_number here.kind) (figure_at_lem i h n) (sym now_own n)))
+              ∙ ap (λ (x : ℕ). get_or (set qs here.depth (passed_on here.kind (get_or figures i none) w)) x None) (sym e)
+              ∙ get_or-set_same qs here.depth (passed_on here.kind (get_or figures i none) w) None (omega arith)
+              ∙ (λ n. passed_on here.kind (figure_at_lem i h n) (sym now_own n)))
           passes_next d l (no e) =
               rw (ne_eqb here.depth d e)
               (ap (λ (y : List (Option ℕ)). get_or y d None) s.passes
-              ∙ get_or-set_other qs here.depth d (passed_on (kind_number here.kind) (get_or figures i none) w) None (λ q. e (sym q))
+              ∙ get_or-set_other qs here.depth d (passed_on here.kind (get_or figures i none) w) None (λ q. e (sym q))
               ∙ z.passes d l
               ∙ (nearest_same (passed_by wrap ks (W i)) (passed_by wrap ks (W (suc i))) ks d i
-              (λ k m. ap (λ (v : Option ℕ). passed_on (kind_number (get_or ks k no_kept).kind) (get_or (estimates wrap ks) k none) v) (sym (walk_at wrap raw root ks i k (λ q. omega arith))))))
+              (λ k m. ap (λ (v : Option ℕ). passed_on (get_or ks k no_kept).kind (get_or (estimates wrap ks) k none) v) (sym (walk_at wrap raw root ks i k (λ q. omega arith))))))
 
           small_next : (k : ℕ) → Dec (k ≡ i) → AtMost max_size (get_or (W (suc i)) k None)
           small_next k (yes e) = rw (e, walk_last wrap raw root ks i) own_small
           small_next k (no e) = rw (walk_at wrap raw root ks i k e) (z.small k)
 
-          pub turn : (b : Bool) → b ≡ (eqb overflow 0 && too_narrow (kind_number (get_or ks i no_kept).kind) (get_or figures i none) w) → b ≡ false → Sofar raw root overflow ps₂ qs₁ (i + 1)
+          pub turn : (b : Bool) → b ≡ (eqb overflow 0 && too_narrow (get_or ks i no_kept).kind (get_or figures i none) w) → b ≡ false → Sofar raw root overflow ps₂ qs₁ (i + 1)
           turn b f t = record {
             at = omega arith;
             front = rw add-one (λ k l. front_next k l (ℕ_discrete k i));

@@ -1,18 +1,20 @@
 // What a table gives its cells: each printed one has its own width, and a missing one none.
-ghost use Rattle.std.specs.Prelude.{◌≡◌, map, ◌≤◌, length, take};
-ghost use Rattle.walking.specs.inner.Steps.{CellsFit, cell_in, printed_by, HandReady, HandedOut};
+ghost use Rattle.std.specs.Prelude.{◌≡◌, map, ◌≤◌, length};
+ghost use Rattle.walking.specs.inner.Steps.{CellsFit, printed_by, HandReady, HandedOut};
+ghost use Rattle.records.specs.Figures.{entry_cell};
 
 use super::{Measured, Scratch};
 use kinds::Kind;
 use records::{Entry, Kept};
+use table::MeasuredTable;
 use text::Estimate;
 
-// Writes the width of each of the first n entries to the place of its cell's line; a filler has none.
-fn print_cells(entries: &[Entry], wide: &[u32], n: usize, walk: &mut [Option<u32>])
-    requires { CellsFit n entries.now wide.now walk.old }
-    ensures { walk.new ≡ printed_by (map cell_in (take n entries.now)) (take n wide.now) walk.old }
+// Writes the width of each entry to the place of its cell's line; a filler has none.
+fn print_cells(entries: &[Entry], wide: &[u32], walk: &mut [Option<u32>])
+    requires { CellsFit entries.now wide.now walk.old }
+    ensures { walk.new ≡ printed_by (map entry_cell entries.now) wide.now walk.old }
 {
-    for k in (0..n).rev() {
+    for k in (0..entries.len()).rev() {
         let e = entries[k];
         if e.cell != 0 {
             let at = (e.cell - 1) as usize;
@@ -41,9 +43,12 @@ pub fn hand_out(
     let Some(v) = width else {
         return;
     };
-    let arranged = table::arrange(
-        m.lines, m.figures, at, raw, v, s.entries, s.rows, s.column, s.x, s.wide,
-    );
-    let counts = arranged.counts;
-    print_cells(s.entries, s.wide, counts.entries, walk);
+    let t = MeasuredTable {
+        lines: m.lines,
+        figures: m.figures,
+        at,
+    };
+    let arranged = table::arrange(t, raw, v, s.entries, s.rows, s.column, s.x, s.wide);
+    let n = arranged.counts.entries;
+    print_cells(&s.entries[..n], &s.wide[..n], walk);
 }

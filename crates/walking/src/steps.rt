@@ -1,7 +1,6 @@
 // The lines one after the other.
 ghost use Rattle.std.specs.Prelude.{◌≡◌, ◌&&◌, ◌≤◌, ◌<◌, ◌/◌, eqb, length, get_or};
 ghost use Rattle.lists.specs.Limits.{max_size};
-ghost use Rattle.kinds.specs.Kinds.{kind_number};
 ghost use Rattle.records.specs.Kept.{no_kept};
 ghost use Rattle.estimates.specs.Estimates.{none};
 ghost use Rattle.passing.specs.Walk.{too_narrow};
@@ -58,7 +57,7 @@ fn step(
 // Whether line i ends the walk: it is too narrow, and overflow is off.
 fn ends(m: Measured<'_>, i: usize, own: Option<u32>, overflow: u32) -> bool
     requires { (i < length m.lines.now) × (i < length m.figures.now) }
-    ensures { result ≡ (eqb overflow 0 && too_narrow (kind_number (get_or m.entry.lines.now i no_kept).kind) (get_or m.entry.figures.now i none) own) }
+    ensures { result ≡ (eqb overflow 0 && too_narrow (get_or m.entry.lines.now i no_kept).kind (get_or m.entry.figures.now i none) own) }
 {
     if overflow != 0 {
         return false;

@@ -1,7 +1,7 @@
 -- The call `walk`: what is found in the sheet is what it answers and leaves. Assumes nothing.
 use Rattle.records.specs.declared.Kept.{Kept}
 use Rattle.lists.specs.declared.Refusal.{Refusal}
-use Rattle.std.specs.Prelude.{Err, Ok, Result, Option, None, Some}
+use Rattle.std.specs.Prelude.{Err, Ok, Result, Option, MatchResult, None, Some}
 use Rattle.std.specs.Option.{is_some, unwrap_or}
 use mir.Val.{bool_byte}
 use mathlib.Core.Path.{◌≡◌, refl, sym, ap, ◌∙◌}
@@ -10,6 +10,7 @@ use mathlib.Core.List.{List, [], ◌∷◌, map}
 use Prim.Native.Nat.{ℕ, ◌≤◌}
 use native.Mathlib.Omega.{arith}
 use lib.ListN.{length, take}
+use lib.Seq.{length-take-le}
 use Rattle.lists.specs.Lists.{padded}
 use Rattle.lists.specs.Limits.{max_lines}
 use Rattle.lists.specs.Refusals.{Check, first_answer, verdict_of, passes, if_passes}
@@ -19,15 +20,17 @@ use Rattle.sheet.specs.Steps.{room_for}
 use Rattle.sheet.proofs.First.{first_passes, first_accepts, figures_fail, front_pass}
 use Rattle.opening.specs.Opening.{after_reading}
 use Rattle.arguments.specs.Arguments.{walk_arguments}
+use Rattle.arguments.specs.declared.Settings.{Settings}
+use Rattle.arguments.specs.Asked.{Asks, verdict_in}
+use Rattle.arguments.proofs.Opened.{opened}
 use Rattle.arguments.proofs.Shorter.{two_fit}
 use Rattle.sheet_figures.specs.inner.Opened.{lines_in}
 use Rattle.sheet_figures.specs.inner.Early.{early}
 use Rattle.sheet_figures.proofs.Early.{early_nines, none_nines, fits, leaving}
 use Rattle.passing.specs.Walk.{given_number, width_number}
-use Rattle.pacing.specs.Sheets.{walk_of}
 use Rattle.walks.specs.Walks.{walk_checks, walked_of, for_walk, WalkAnswer}
 use Rattle.pacing.specs.inner.Found.{walked_checks, SheetWalked}
-use Rattle.walks.specs.inner.Found.{TellRoom, WalkTold, WalkRoom, WalkFound}
+use Rattle.walks.specs.inner.Found.{WidthsWritten, WalkRoom, WalkFound}
 use Rattle.pacing.proofs.Opening.{opened_passed}
 
 -- ---- what is told
@@ -46,58 +49,60 @@ width_is (Some v) = refl
 module _ {asked : Option ℕ} {s : List ℕ} {wrap raw width overflow : ℕ} {r : Result ℕ Refusal} {lines : List Kept} {figures : List Estimate} {ps : List (Option ℕ)}
     (w : SheetWalked asked s wrap raw width overflow r lines figures ps) where
   -- there are no more lines than there is room for
-  pub lines_few : (lines_in r ≤ room_for s) × (lines_in r ≤ max_lines)
+  pub lines_few : {n : ℕ} → r ≡ Ok n → (n ≤ room_for s) × (n ≤ max_lines)
+  lines_few {n} e = let p = opened_passed (w.opened n e) n refl in (p.room, p.few)
+
+  pub walk_found : {n : ℕ} → r ≡ Ok n → n ≤ length ps → {given wide : List ℕ} → WidthsWritten (take n ps) given wide
+      → WalkFound (walked_checks asked s wrap raw width overflow) s wrap raw width (Ok n) given wide
   unfolding lines_in
-  lines_few = at r refl
-    where
-      at : (q : Result ℕ Refusal) → r ≡ q → (lines_in r ≤ room_for s) × (lines_in r ≤ max_lines)
-      at (Ok n) e = let p = opened_passed (w.opened n e) n refl in rw e (p.room, p.few)
-      at (Err why) e = rw e (omega arith, omega arith)
+  walk_found {n} e h {given} {wide} t =
+      let cs = walked_checks asked s wrap raw width overflow in
+      let p = (first_accepts Err (Ok (length (sheet_lines s))) (Ok n) cs (λ why d. let z : ◌≡◌ {A = ℕ} 0 1 = cc in omega arith) (sym w.answer ∙ e)).0 in
+      let l : n ≡ length (take n ps) = sym (length-take-le n ps h) in
+      record {
+        answer = sym e ∙ w.answer;
+        few = (lines_few e).1;
+        givens = front_pass given cs p l (t.givens ∙ ap (map given_number) (w.widths n e));
+        wides = front_pass wide cs p l (t.wides ∙ ap (map width_number) (w.widths n e));
+      }
 
-  abbrev cs : List Check
-  cs = walked_checks asked s wrap raw width overflow
-
-  -- one figure of all lines, where the sheet is accepted
-  front : (number : Option ℕ → ℕ) (n : ℕ) → n ≡ lines_in r → (slice : List ℕ) → take n slice ≡ map number (take n ps)
-      → take (lines_in r) slice ≡ if_passes cs (map number (walk_of s wrap raw width))
+  pub walk_refused : {why : Refusal} → r ≡ Err why → {given wide : List ℕ} → WalkFound (walked_checks asked s wrap raw width overflow) s wrap raw width (Err why) given wide
   unfolding lines_in
-  front number n e slice q = at r refl
+  walk_refused {why} e =
+      let cs = walked_checks asked s wrap raw width overflow in
+      let p = refuse (passes cs) refl in
+      record {
+        answer = sym e ∙ w.answer;
+        few = omega arith;
+        givens = sym (figures_fail cs _ p);
+        wides = sym (figures_fail cs _ p);
+      }
     where
-      at : (x : Result ℕ Refusal) → r ≡ x → take (lines_in r) slice ≡ if_passes cs (map number (walk_of s wrap raw width))
-      at (Ok k) f =
-          let p = (first_accepts Err (Ok (length (sheet_lines s))) (Ok k) cs (λ why d. let z : ◌≡◌ {A = ℕ} 0 1 = cc in omega arith) (sym w.answer ∙ f)).0 in
-          let i : n ≡ k = e ∙ ap lines_in f in
-          front_pass slice cs p (sym e) (q ∙ ap (λ (t : ℕ). map number (take t ps)) i ∙ ap (map number) (w.widths k f))
-      at (Err why) f = rw f (sym (figures_fail cs _ (refuse (passes cs) refl)))
-        where
-          refuse : (t : Bool) → passes cs ≡ t → t ≡ false
-          refuse true p = let z = sym (first_passes Err (Ok (length (sheet_lines s))) cs p) ∙ sym w.answer ∙ f in let y : ◌≡◌ {A = ℕ} 0 1 = cc in absurd (omega arith)
-          refuse false p = refl
-
-  pub walk_found : (n : ℕ) → n ≡ lines_in r → {given wide : List ℕ} → WalkTold n ps given wide → WalkFound cs s wrap raw width r given wide
-  walk_found n e {given} {wide} t = record {
-    answer = w.answer;
-    few = lines_few.1;
-    givens = front given_number n e given t.givens;
-    wides = front width_number n e wide t.wides;
-  }
-
--- places for all figures
-pub tell_room : {n : ℕ} (r : Result ℕ Refusal) (s : List ℕ) (walk : List (Option ℕ)) {given wide : List ℕ} → n ≡ lines_in r → (lines_in r ≤ room_for s) × (lines_in r ≤ max_lines) → room_for s ≤ length walk
-    → max_lines ≤ length given → max_lines ≤ length wide → TellRoom n walk given wide
-tell_room r s walk e l h a b = record { walk_in = omega (arith, e, l.0, h); given_in = omega (arith, e, l.1); wide_in = omega (arith, e, l.1) }
+      refuse : (t : Bool) → passes (walked_checks asked s wrap raw width overflow) ≡ t → t ≡ false
+      refuse true p =
+          let z = sym (first_passes Err (Ok (length (sheet_lines s))) (walked_checks asked s wrap raw width overflow) p) ∙ sym w.answer ∙ e in let y : ◌≡◌ {A = ℕ} 0 1 = cc in absurd (omega arith)
+      refuse false p = refl
 
 -- ---- refused for the arguments, or not
 
-pub walk_early : (why : Refusal) (cs : List Check) (s : List ℕ) (wrap raw width : ℕ) (given wide : List ℕ)
+walk_early : (why : Refusal) (cs : List Check) (s : List ℕ) (wrap raw width : ℕ) (given wide : List ℕ)
     → WalkFound (early (Err why) ∷ cs) s wrap raw width (Err why) given wide
 unfolding first_answer early if_passes lines_in
 walk_early why cs s wrap raw width given wide = record { answer = refl; few = omega arith; givens = refl; wides = refl }
 
-pub walk_late : {v : Result (Unit {0}) Refusal} {cs : List Check} {s : List ℕ} {wrap raw width : ℕ} {r : Result ℕ Refusal} {given wide : List ℕ} → v ≡ (Ok tt)
-    → WalkFound cs s wrap raw width r given wide → WalkFound (early v ∷ cs) s wrap raw width r given wide
+walk_late : {cs : List Check} {s : List ℕ} {wrap raw width : ℕ} {r : Result ℕ Refusal} {given wide : List ℕ}
+    → WalkFound cs s wrap raw width r given wide → WalkFound (early (Ok tt) ∷ cs) s wrap raw width r given wide
 unfolding first_answer early if_passes
-walk_late z f = rw z (record { answer = f.answer; few = f.few; givens = f.givens; wides = f.wides })
+walk_late f = record { answer = f.answer; few = f.few; givens = f.givens; wides = f.wides }
+
+pub walk_opened : {asked : Result Settings Refusal} {s : List ℕ} {wrap raw width overflow : ℕ} {r : Result ℕ Refusal} {given wide : List ℕ}
+    → Asks asked wrap raw width overflow
+    → MatchResult asked (λ g. WalkFound (walked_checks None s g.wrap g.raw g.width g.overflow) s g.wrap g.raw g.width r given wide) (λ why. r ≡ Err why)
+    → WalkFound (early (verdict_in asked) ∷ walked_checks None s wrap raw width overflow) s wrap raw width r given wide
+walk_opened {asked} {s} {wrap} {raw} {width} {overflow} {r} {given} {wide} =
+    let cs = walked_checks None s in
+    opened (λ v q. WalkFound (early v ∷ cs wrap raw width overflow) s wrap raw width q given wide) (λ p q l o. WalkFound (cs p q l o) s p q l r given wide)
+    asked (λ why. walk_early why (cs wrap raw width overflow) s wrap raw width given wide) walk_late
 
 -- where the arguments are not refused, each lent buffer has room
 fit : (wrap raw width overflow : ℕ) (v : Result (Unit {0}) Refusal) (a b : ℕ) → v ≡ verdict_of (walk_arguments wrap raw width overflow (a ∷ b ∷ [])) → v ≡ (Ok tt) → (max_lines ≤ a) × (max_lines ≤ b)

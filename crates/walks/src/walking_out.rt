@@ -1,22 +1,34 @@
 // The walk of a sheet, written to the lent buffers.
-ghost use Rattle.std.specs.Prelude.{◌≡◌, ℕ, ◌∷◌, None};
-ghost use Rattle.sheet_figures.specs.inner.Early.{early};
-ghost use Rattle.arguments.specs.Asked.{Asks, verdict_in};
+ghost use Rattle.std.specs.Prelude.{◌≡◌, ◌≤◌, length, MatchResult, None, Ok, Err};
+ghost use Rattle.arguments.specs.Asked.{verdict_in};
 ghost use Rattle.pacing.specs.inner.Found.{walked_checks};
-ghost use Rattle.walks.specs.inner.Found.{TellRoom, WalkTold, WalkRoom, WalkFound};
+ghost use Rattle.passing.specs.Walk.{given_number, width_number};
+ghost use Rattle.walks.specs.inner.Found.{WidthsWritten, WalkRoom, WalkFound};
 
 use arguments::Settings;
 use lists::{MAX_LINES, Refusal};
 
-// Whether each of the first n lines has a width, and which, each to its buffer.
-fn tell(n: usize, walk: &[Option<u32>], given: &mut [u32], wide: &mut [u32])
-    requires { TellRoom n walk.now given.old wide.old }
-    ensures { WalkTold n walk.now given.new wide.new }
+// Whether a line has a width: 1, or 0.
+fn given_number(w: Option<u32>) -> u32
+    ensures { result ≡ given_number w }
 {
-    for i in 0..n {
-        given[i] = u32::from(walk[i].is_some());
-        wide[i] = walk[i].unwrap_or(0);
-    }
+    u32::from(w.is_some())
+}
+
+// Which width it has, or 0.
+fn width_number(w: Option<u32>) -> u32
+    ensures { result ≡ width_number w }
+{
+    w.unwrap_or(0)
+}
+
+// Whether each line has a width, and which, in the front of the buffers.
+fn write_widths(walk: &[Option<u32>], given: &mut [u32], wide: &mut [u32])
+    requires { (length walk.now ≤ length given.old) × (length walk.now ≤ length wide.old) }
+    ensures { WidthsWritten walk.now given.new wide.new }
+{
+    lists::write_front(walk, |w| given_number(*w), given);
+    lists::write_front(walk, |w| width_number(*w), wide);
 }
 
 // The walk of a sheet. The first buffer is written last, and until then it is room to work in.
@@ -32,7 +44,7 @@ fn walk_out(
     let mut lines = [records::NO_LINE; MAX_LINES];
     let mut figures = [estimates::NONE; MAX_LINES];
     let mut walk = [None; MAX_LINES];
-    let read = pacing::walk_sheet(
+    let n = pacing::walk_sheet(
         sheet,
         None,
         settings,
@@ -40,12 +52,13 @@ fn walk_out(
         &mut figures,
         &mut walk,
         given,
-    );
-    tell(sheet_figures::line_count(read), &walk, given, wide);
-    read
+    )?;
+    write_widths(&walk[..n], given, wide);
+    Ok(n)
 }
 
 // The same, unless the arguments are refused.
+#[tactic(auto, unfolding(arguments::specs::Asked::verdict_in))]
 pub fn find_walk(
     sheet: &[u8],
     asked: Result<Settings, Refusal>,
@@ -53,8 +66,9 @@ pub fn find_walk(
     wide: &mut [u32],
 ) -> Result<usize, Refusal>
     requires { verdict_in asked ≡ Ok tt → WalkRoom given.old wide.old }
-    ensures { (wrap raw width overflow : ℕ) → Asks asked wrap raw width overflow
-        → WalkFound (early (verdict_in asked) ∷ walked_checks None sheet.now wrap raw width overflow) sheet.now wrap raw width result given.new wide.new }
+    ensures { MatchResult asked
+        (λ g. WalkFound (walked_checks None sheet.now g.wrap g.raw g.width g.overflow) sheet.now g.wrap g.raw g.width result given.new wide.new)
+        (λ why. result ≡ Err why) }
 {
     let settings = asked?;
     walk_out(sheet, settings, given, wide)

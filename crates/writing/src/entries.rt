@@ -1,12 +1,11 @@
-// The entries of a grid, row by row, with two figures of each. What is in the slices is not trusted: a place outside counts as 0.
+// The entries of a grid, row by row, with two figures of each. What is in the slices is not trusted: a figure or an entry outside counts as 0.
 use super::lines::{four, two};
 use printing::Output;
-use records::{Entry, NO_ENTRY, NO_ROW, RowEnd};
+use records::{Entry, NO_ENTRY, RowEnd};
 
-// The first so many rows of a grid, its entries, and two figures of each entry.
+// The rows of a grid, its entries, and two figures of each entry.
 #[derive(Clone, Copy)]
 pub struct Entries<'a> {
-    pub count: u32,
     pub rows: &'a [RowEnd],
     pub grid: &'a [Entry],
     pub start: &'a [u32],
@@ -18,11 +17,7 @@ pub fn number_at(values: &[u32], i: u32) -> u32 {
     values.get(i as usize).copied().unwrap_or(0)
 }
 
-// A row, and an entry, at a place of a grid.
-pub fn row_at(rows: &[RowEnd], i: u32) -> RowEnd {
-    rows.get(i as usize).copied().unwrap_or(NO_ROW)
-}
-
+// The entry at a place of a grid.
 pub fn entry_at(grid: &[Entry], e: u32) -> Entry {
     grid.get(e as usize).copied().unwrap_or(NO_ENTRY)
 }
@@ -38,11 +33,10 @@ impl Entries<'_> {
         }
     }
 
-    // Puts the entries of so many rows: those of a row end where it says, and the next row's begin there.
+    // Puts the entries of all rows: those of a row end where it says, and the next row's begin there.
     pub fn put(&self, out: &mut Output) {
         let mut from = 0;
-        for i in 0..self.count {
-            let row = row_at(self.rows, i);
+        for row in self.rows {
             for e in from..row.end {
                 self.put_one(out, row.line, e);
             }
@@ -51,17 +45,16 @@ impl Entries<'_> {
     }
 }
 
-// Puts the line and the end of each of so many rows.
-pub fn row_ends(out: &mut Output, rows: &[RowEnd], count: u32) {
-    for i in 0..count {
-        let row = row_at(rows, i);
+// Puts the line and the end of each row.
+pub fn row_ends(out: &mut Output, rows: &[RowEnd]) {
+    for row in rows {
         two(out, row.line, row.end);
     }
 }
 
-// Puts a line for each of the first numbers of a buffer: its place, from 0 on, and the number.
-pub fn numbered(out: &mut Output, values: &[u32], count: u32) {
-    for j in 0..count {
-        two(out, j, number_at(values, j));
+// Puts a line for each number: its place, from 0 on, and the number.
+pub fn numbered(out: &mut Output, values: &[u32]) {
+    for (j, n) in (0..u32::MAX).zip(values) {
+        two(out, j, *n);
     }
 }

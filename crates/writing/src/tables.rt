@@ -27,9 +27,9 @@ pub fn heading(out: &mut Output, line: u32, way: Way, columns: u32, width: u32) 
 }
 
 // Puts the columns' widths, and each entry that is printed with its start and its width.
-pub fn cells(out: &mut Output, columns: u32, column: &[u32], entries: Entries) {
+pub fn cells(out: &mut Output, column: &[u32], entries: Entries) {
     words(out, b"column width\n");
-    numbered(out, column, columns);
+    numbered(out, column);
     words(out, b"row cell x width\n");
     entries.put(out);
 }

@@ -17,17 +17,17 @@ pub record LinesRoom (size least prefix : List ℕ) : Type 0 where
   pub least_room : max_lines ≤ length least
   pub prefix_room : max_lines ≤ length prefix
 
--- there are so many figures, and places for them
-pub record FiguresFit (n : ℕ) (figures : List Estimate) (size least prefix : List ℕ) : Type 0 where
-  pub figures_in : n ≤ length figures
-  pub size_in : n ≤ length size
-  pub least_in : n ≤ length least
-  pub prefix_in : n ≤ length prefix
+-- there are places for the figures of all lines
+pub record FiguresFit (figures : List Estimate) (size least prefix : List ℕ) : Type 0 where
+  pub sizes_fit : length figures ≤ length size
+  pub leasts_fit : length figures ≤ length least
+  pub prefixes_fit : length figures ≤ length prefix
 
-pub record FiguresTold (n : ℕ) (fs : List Estimate) (size least prefix : List ℕ) : Type 0 where
-  pub sizes : take n size ≡ map line_size (take n fs)
-  pub leasts : take n least ≡ map line_least (take n fs)
-  pub prefixes : take n prefix ≡ map line_prefix (take n fs)
+-- they stand in front
+pub record FiguresWritten (fs : List Estimate) (size least prefix : List ℕ) : Type 0 where
+  pub sizes : take (length fs) size ≡ map line_size fs
+  pub leasts : take (length fs) least ≡ map line_least fs
+  pub prefixes : take (length fs) prefix ≡ map line_prefix fs
 
 -- the estimates, or the first refusal; the figures stand in the first places
 pub record EstimatesFound (cs : List Check) (s : List ℕ) (wrap : ℕ) (r : Result ℕ Refusal) (size least prefix : List ℕ) : Type 0 where
@@ -38,6 +38,7 @@ pub record EstimatesFound (cs : List Check) (s : List ℕ) (wrap : ℕ) (r : Res
   pub prefixes : take (lines_in r) prefix ≡ if_passes cs (map line_prefix (estimates wrap (kept_lines s)))
   pub sound : passes cs ≡ true → AllBounded (estimates wrap (kept_lines s))
 
--- the same if short arrays did
-pub record EstimatesTried (cs : List Check) (s : List ℕ) (wrap : ℕ) (t : Option (Result ℕ Refusal)) (size least prefix : List ℕ) : Type 0 where
-  pub found : (r : Result ℕ Refusal) → t ≡ Some r → EstimatesFound cs s wrap r size least prefix
+-- the same if the arrays did
+pub record EstimatesTried (cs : List Check) (s : List ℕ) (wrap : ℕ) (t : Result (Option ℕ) Refusal) (size least prefix : List ℕ) : Type 0 where
+  pub found : (n : ℕ) → t ≡ Ok (Some n) → EstimatesFound cs s wrap (Ok n) size least prefix
+  pub refused : (why : Refusal) → t ≡ Err why → EstimatesFound cs s wrap (Err why) size least prefix

@@ -34,8 +34,9 @@ pub record GridFound (cs : List Check) (s : List ℕ) (line : ℕ) (r : Result G
   pub firsts : take (entries_in r) first' ≡ if_passes cs (map first_of (entries_of (rows_at s line)))
   pub spans : take (entries_in r) span ≡ if_passes cs (map span_of (entries_of (rows_at s line)))
   pub row_lines : take (rows_in r) row ≡ if_passes cs (map row_line (rows_at s line))
-  pub row_ends_fits : take (rows_in r) end ≡ if_passes cs (row_ends 0 (rows_at s line))
+  pub row_ends_are : take (rows_in r) end ≡ if_passes cs (row_ends 0 (rows_at s line))
 
--- the same if short arrays did
-pub record GridTried (cs : List Check) (s : List ℕ) (line : ℕ) (t : Option (Result Grid Refusal)) (cell first' span row end : List ℕ) : Type 0 where
-  pub found : (r : Result Grid Refusal) → t ≡ Some r → GridFound cs s line r cell first' span row end
+-- the same if the arrays did
+pub record GridTried (cs : List Check) (s : List ℕ) (line : ℕ) (t : Result (Option Grid) Refusal) (cell first' span row end : List ℕ) : Type 0 where
+  pub found : (r : Grid) → t ≡ Ok (Some r) → GridFound cs s line (Ok r) cell first' span row end
+  pub refused : (why : Refusal) → t ≡ Err why → GridFound cs s line (Err why) cell first' span row end

@@ -30,6 +30,7 @@ pub record LayoutFound (cs : List Check) (s : List ℕ) (line wrap raw width : �
   pub promised : passes cs ≡ true →
       Promised (columns_at s line) (boxes_at s line wrap) raw width (way_at s line wrap raw width) (widths_at s line wrap raw width)
 
--- the same if short arrays did
-pub record LayoutTried (cs : List Check) (s : List ℕ) (line wrap raw width : ℕ) (t : Option (Result Layout Refusal)) (column x wide : List ℕ) : Type 0 where
-  pub found : (r : Result Layout Refusal) → t ≡ Some r → LayoutFound cs s line wrap raw width r column x wide
+-- the same if the arrays did
+pub record LayoutTried (cs : List Check) (s : List ℕ) (line wrap raw width : ℕ) (t : Result (Option Layout) Refusal) (column x wide : List ℕ) : Type 0 where
+  pub found : (r : Layout) → t ≡ Ok (Some r) → LayoutFound cs s line wrap raw width (Ok r) column x wide
+  pub refused : (why : Refusal) → t ≡ Err why → LayoutFound cs s line wrap raw width (Err why) column x wide

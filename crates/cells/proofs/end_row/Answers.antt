@@ -2,7 +2,7 @@
 use mathlib.Core.Path.{refl}
 use lib.Seq.{map-set, map-set_same}
 use Rattle.records.specs.Kept.{no_row}
-use Rattle.cells.specs.Held.{row_line, row_end}
+use Rattle.records.specs.Figures.{row_line, row_end}
 use Rattle.cells.proofs.end_row.Goals as goal
 
 pub returns : goal.returns

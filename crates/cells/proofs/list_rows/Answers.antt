@@ -9,7 +9,8 @@ use native.Mathlib.Omega.{arith}
 use lib.ListN.{get_or, set, get_or-eq_default}
 use Rattle.records.specs.Kept.{no_kept}
 use Rattle.records.specs.declared.Kept.{Kept}
-use Rattle.cells.specs.Held.{cell_by, held_line, held_span, held_rows, lines_of, spans_of, rowspans_of, row_line, row_end, row_lines_of, row_ends_of}
+use Rattle.cells.specs.Held.{cell_by, held_line, held_span, held_rows, lines_of, spans_of, rowspans_of}
+use Rattle.records.specs.Figures.{row_line, row_end, row_lines_of, row_ends_of}
 use Rattle.cells.proofs.Figures.{map_set, length_figures, figure_put, figures_still}
 use Rattle.cells.proofs.Listing.{Room, list_start, list_room, body_held, body_rows, list_stop, list_body, list_row, list_cell, list_deeper}
 use Rattle.cells.proofs.list_rows.Goals as goal

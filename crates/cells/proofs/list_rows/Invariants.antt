@@ -3,7 +3,8 @@
 -- line resolves the last body, a row line adds a row to it, a cell line a cell to its last row, and a deeper line nothing. A cell line
 -- finds a row, since a line is at most one deeper than the line before it. Assumes nothing.
 -- from the loop's head: the lines, and what is known of the table's line
-use Rattle.cells.specs.Held.{lines_of, spans_of, rowspans_of, row_lines_of, row_ends_of}
+use Rattle.cells.specs.Held.{lines_of, spans_of, rowspans_of}
+use Rattle.records.specs.Figures.{row_lines_of, row_ends_of}
 use Rattle.cells.proofs.Listing.{Listing}
 use Rattle.cells.proofs.list_rows.Given as goal
 

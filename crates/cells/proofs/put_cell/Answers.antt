@@ -1,17 +1,10 @@
 -- `cells::put_cell` meets its contract. Assumes nothing.
 use mathlib.Core.Path.{refl}
 use mathlib.Core.List.{[], ◌∷◌}
-use lib.ListN.{length-set}
 use Rattle.cells.specs.Held.{cell_by}
 use Rattle.records.proofs.Records.{of_set}
 use borrow.Author.Rules.{rules}
 use Rattle.cells.proofs.put_cell.Goals as goal
-
-pub bounds-cells-at-2 : goal.bounds-cells-at-2
-bounds-cells-at-2 c = simp length-set (search rules)
-
-pub bounds-cells-at-3 : goal.bounds-cells-at-3
-bounds-cells-at-3 c = simp length-set (search rules)
 
 pub returns : goal.returns
 returns c = of_set 3 cell_by c.args.cells.now c.args.i (c.args.c.line ∷ c.args.c.span ∷ c.args.c.rows ∷ []) refl (search rules)

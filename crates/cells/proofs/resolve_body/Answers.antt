@@ -2,7 +2,7 @@
 use mathlib.Core.Path.{◌≡◌, sym}
 use Prim.Native.Nat.{◌-◌}
 use lib.ListN.{take, drop}
-use Rattle.cells.specs.Held.{row_end, row_ends_of}
+use Rattle.records.specs.Figures.{row_end, row_ends_of}
 use Rattle.cells.specs.Spans.{part}
 use Rattle.cells.proofs.Figures.{part_map}
 use Rattle.cells.proofs.resolve_body.Goals as goal

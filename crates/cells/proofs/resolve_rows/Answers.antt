@@ -6,7 +6,7 @@ use Prim.Native.Nat.{◌*◌, ◌≤◌, ◌<◌}
 use native.Mathlib.Omega.{arith}
 use lib.ListN.{length, get_or, length-map, get_or-map}
 use Rattle.records.specs.Kept.{no_row}
-use Rattle.cells.specs.Held.{row_end, row_ends_of}
+use Rattle.records.specs.Figures.{row_end, row_ends_of}
 use Rattle.cells.specs.Spans.{last_end}
 use Rattle.cells.proofs.Bodies.{row_ends_fits}
 use Rattle.cells.proofs.Resolving.{stop, row_in, here_narrow, here_lacks, turn}

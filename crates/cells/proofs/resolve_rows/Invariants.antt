@@ -1,6 +1,6 @@
 -- `cells::resolve_rows` meets its contract. The loop's invariant (`Sofar`): the cells before `from` are resolved and those from there on are as they
 -- were; with the rows from row j on resolved they are the whole body resolved. No row's sum passes `most`, so the difference is one. Assumes nothing.
-use Rattle.cells.specs.Held.{row_ends_of}
+use Rattle.records.specs.Figures.{row_ends_of}
 use Rattle.cells.proofs.Resolving.{Sofar}
 use Rattle.cells.proofs.resolve_rows.Given as goal
 

@@ -21,9 +21,6 @@ more c h = sum_more (spans_of c.args.cells.now) c.loop-i.i (omega (arith, length
 read : (c : After-cell_at-c) → get_or (spans_of c.args.cells.now) c.loop-i.i 0 ≡ c.cell_at-c.result.span
 read c = figure_at_lem 3 cell_by held_span c.args.cells.now c.loop-i.i c.loop-i-test.true ∙ sym (ap held_span c.cell_at-c.ensures)
 
-pub loop-i-init : goal.loop-i-init
-loop-i-init c = omega arith
-
 pub overflow_add-sum : goal.overflow_add-sum
 overflow_add-sum c =
     let l = c.loop-i in

@@ -1,9 +1,10 @@
 -- `cells::widest_row` meets its contract. The loop's invariant, `Widening`: the larger of what is found and of the largest sum of the rows
 -- from row j on is the body's largest sum, and `from` is where row j begins. Each row's cells lie within the body's (`row_ends_fits`), so the
 -- parts of the slice are within it. Assumes nothing.
-use Rattle.cells.specs.Held.{spans_of, row_ends_of}
+use Rattle.cells.specs.Held.{spans_of}
+use Rattle.records.specs.Figures.{row_ends_of}
 use Rattle.cells.proofs.Bodies.{Widening}
 use Rattle.cells.proofs.widest_row.Given as goal
 
-abbrev pub invariant-loop-j : goal.invariant-loop-j
-invariant-loop-j l = Widening l.first (row_ends_of l.rows) (spans_of l.cells) l.most l.from l.j
+abbrev pub invariant-loop-row : goal.invariant-loop-row
+invariant-loop-row l = Widening l.first (row_ends_of l.rows) (spans_of l.cells) l.most l.from l.row-index

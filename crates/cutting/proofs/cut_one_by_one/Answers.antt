@@ -1,7 +1,6 @@
 -- `cutting::cut_one_by_one` meets its contract. The loop's invariant: cutting what stands there now ends where cutting the widths at the start ends,
 -- and what is left of the sum is theirs. In a turn one is taken from the column picked, which is one step of the cutting; after the turns the
 -- cutting is over. Assumes nothing.
-use mathlib.Core.Path.{refl}
 use Prim.Native.Nat.{◌+◌, ◌-◌}
 use native.Mathlib.Omega.{arith}
 use Rattle.cutting.proofs.Kept.{Turn, kept_end, kept_turn}
@@ -16,14 +15,6 @@ turn c =
     let h = c.loop in
     kept_turn c.args.leasts.now c.args.wide.now c.args.room h.wide (c.args.room + c.args.all - h.counter) h.invariant c.pick_column-p.result
     c.pick_column-p.ensures c.requires.roomy.enough (omega arith)
-
-pub loop-init : goal.loop-init
-loop-init c =
-    let p = c.requires in
-    (p.roomy.above, omega (arith, p.summed.is), refl, refl)
-
-pub pick_column-p-requires : goal.pick_column-p-requires
-pick_column-p-requires c = c.loop.invariant.0
 
 pub offset_bounds-wide-p : goal.offset_bounds-wide-p
 offset_bounds-wide-p c = omega (arith, (turn (goal.at.offset_bounds-wide-p c).After-pick_column-p).1)

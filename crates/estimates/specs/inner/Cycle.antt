@@ -72,11 +72,11 @@ pub record FilledAt (ls : List Kept) (i : ℕ) (r : Bool) : Type 0 where
 
 -- a line that `node` takes: no body, row or cell
 abbrev pub Plain : Kept → Type 0
-Plain l = is_frame (kind_number l.kind) ≡ false
+Plain l = is_frame l.kind ≡ false
 
 -- a line whose children `cell` combines
 pub record Holder (l : Kept) : Type 0 where
-  pub leaf : is_leaf (kind_number l.kind) ≡ false
+  pub leaf : is_leaf l.kind ≡ false
   pub table : kind_number l.kind ≡ table_kind → ⊥
   pub body : kind_number l.kind ≡ body_kind → ⊥
   pub row : kind_number l.kind ≡ row_kind → ⊥

@@ -1,5 +1,5 @@
 -- A table's estimate by the entries of its grid, as records: what it reads, and what it makes of it. These are definitions; nothing is assumed.
-use Rattle.std.specs.Prelude.{◌≡◌, cond, List, [], ◌∷◌, map, ℕ, ◌+◌, ◌-◌, ◌*◌, ◌/◌, ◌≤◌, ◌<◌, ◌^◌, eqb, length, get_or, take}
+use Rattle.std.specs.Prelude.{◌≡◌, cond, List, [], ◌∷◌, map, ℕ, ◌+◌, ◌-◌, ◌*◌, ◌/◌, ◌≤◌, ◌<◌, ◌^◌, eqb, length, get_or}
 use Rattle.lists.specs.Lists.{sum}
 use Rattle.lists.specs.Limits.{max_position}
 use Rattle.text.specs.declared.Estimate.{Estimate}
@@ -56,15 +56,14 @@ pub record EntryFits (es : List Estimate) (columns : ℕ) (e : Entry) : Type 0 w
   pub measured : e.cell ≤ length es
   pub sound : (e.cell ≡ 0 → ⊥) → (get_or es (e.cell - 1) none).least ≤ (get_or es (e.cell - 1) none).size
 
--- the first n entries, in slices
-pub record SpreadReady (entries : List Entry) (n : ℕ) (figures : List Estimate) (columns : ℕ) : Type 0 where
-  pub within : n ≤ length entries
-  pub fit : (k : ℕ) → k < n → EntryFits figures columns (get_or entries k no_entry)
-  pub room : spread_cells (entry_boxes figures (take n entries)) + max_position ≤ 2 ^ 32
+-- what entries come to together fits 32 bits, with the gaps between columns
+pub record SpreadReady (entries : List Entry) (figures : List Estimate) (columns : ℕ) : Type 0 where
+  pub fit : (k : ℕ) → k < length entries → EntryFits figures columns (get_or entries k no_entry)
+  pub room : spread_cells (entry_boxes figures entries) + max_position ≤ 2 ^ 32
 
 -- besides, there is scratch for the columns
-pub record TabulateReady (entries : List Entry) (n columns : ℕ) (figures : List Estimate) (scratch : ℕ) : Type 0 where
-  pub spread : SpreadReady entries n figures columns
+pub record TabulateReady (entries : List Entry) (columns : ℕ) (figures : List Estimate) (scratch : ℕ) : Type 0 where
+  pub spread : SpreadReady entries figures columns
   pub few : columns ≤ max_position
   pub room : max_position ≤ scratch
 

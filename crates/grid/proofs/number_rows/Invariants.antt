@@ -3,10 +3,10 @@
 -- `renumber`: at edges one row's records more are written, else the rows are refused. Assumes nothing.
 use mathlib.Core.Path.{◌≡◌}
 use lib.ListN.{length}
-use Rattle.cells.specs.Held.{row_ends_of, entry_cells_of, entry_spans_of}
+use Rattle.records.specs.Figures.{row_ends_of, entry_cells_of, entry_spans_of}
 use Rattle.edges.specs.Edges.{is_edge}
 use Rattle.grid.proofs.NumberLoop.{Sofar}
 use Rattle.grid.proofs.number_rows.Given as goal
 
-abbrev pub invariant-loop-r : goal.invariant-loop-r
-invariant-loop-r l = Sofar (is_edge l.numbers.words) (entry_spans_of l.initial.entries) (entry_cells_of l.initial.entries) (row_ends_of l.rows) l.initial.entries l.entries l.columns l.start l.r × (length l.entries ≡ length l.initial.entries)
+abbrev pub invariant-loop-row : goal.invariant-loop-row
+invariant-loop-row l = Sofar (is_edge l.numbers.words) (entry_spans_of l.initial.entries) (entry_cells_of l.initial.entries) (row_ends_of l.rows) l.initial.entries l.entries l.columns l.start l.row-index × (length l.entries ≡ length l.initial.entries)

@@ -10,7 +10,8 @@ use lib.Seq.{length-take-le}
 use Rattle.std.proofs.lemmas.List.{take-map}
 use Rattle.records.specs.declared.RowEnd.{RowEnd}
 use Rattle.cells.specs.declared.Cell.{Cell}
-use Rattle.cells.specs.Held.{figures, cell_by, held_line, held_span, held_rows, row_line, row_end, row_lines_of, entry_cell, entry_span}
+use Rattle.cells.specs.Held.{figures, cell_by, held_line, held_span, held_rows}
+use Rattle.records.specs.Figures.{row_line, row_end, row_lines_of, entry_cell, entry_span}
 use Rattle.cells.specs.Listed.{all_cells, table_rows}
 use Rattle.cells.proofs.Figures.{length_figures, figures_take}
 use Rattle.rows.specs.inner.Overhangs.{hung_left, hung_at, hung_span}

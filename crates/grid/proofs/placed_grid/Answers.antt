@@ -6,7 +6,7 @@ use Prim.Native.Nat.{ℕ}
 use lib.ListN.{take}
 use Rattle.std.proofs.lemmas.List.{take-map}
 use Rattle.records.specs.declared.Entry.{Entry}
-use Rattle.cells.specs.Held.{row_end, row_ends_of, entry_cell, entry_span}
+use Rattle.records.specs.Figures.{row_end, row_ends_of, entry_cell, entry_span}
 use Rattle.grid.proofs.Seven.{never_missing}
 use Rattle.grid.proofs.NumberLoop.{numbered_front}
 use Rattle.grid.proofs.placed_grid.Goals as goal

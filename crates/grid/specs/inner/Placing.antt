@@ -1,7 +1,7 @@
 -- Rows by positions in slices, and what numbering them takes and gives. These are definitions; nothing is assumed.
 use Rattle.std.specs.Prelude.{◌≡◌, Bool, List, ◌∷◌, map, ℕ, ◌/◌, ◌≤◌, length, take, Some}
 use Rattle.lists.specs.Lists.{mem}
-use Rattle.records.specs.declared.Entry as packed
+use Rattle.records.specs.declared.Entry as records
 use Rattle.records.specs.declared.RowEnd.{RowEnd}
 use Rattle.edges.specs.Edges.{rows_from, rows_ends, RowsFit}
 use Rattle.cells.specs.Cells as cells
@@ -26,7 +26,7 @@ pub record RowsReady (rows entries : ℕ) (wide ends : List ℕ) : Type 0 where
   pub fit : RowsFit 0 (take rows ends) (take entries wide)
 
 -- what becomes of them in columns, of which there are so many
-abbrev pub PlacedNumbered : ℕ → ℕ → List ℕ → List ℕ → List ℕ → ℕ → List packed.Entry → Type 0
+abbrev pub PlacedNumbered : ℕ → ℕ → List ℕ → List ℕ → List ℕ → ℕ → List records.Entry → Type 0
 PlacedNumbered rows entries wide line ends columns es =
     RowsNumbered (edge_of_rows (rows_from 0 (take rows ends) (take entries wide))) (rows_from 0 (take rows ends) (take entries wide)) (take entries line) (Some columns) es
 
@@ -46,16 +46,16 @@ abbrev pub grid_line : GridRow → ℕ
 grid_line r = r.line
 
 -- the counts of the grid are these, its entries stand in the first records, and its rows in the first places of two slices
-pub record GridStands (table : List cells.Row) (rows n columns : ℕ) (es : List packed.Entry) (row end : List ℕ) : Type 0 where
+pub record GridStands (table : List cells.Row) (rows n columns : ℕ) (es : List records.Entry) (row end : List ℕ) : Type 0 where
   pub rows_are : rows ≡ length (grid_of table)
   pub entries_are : n ≡ length (entries_of (grid_of table))
   pub columns_are : columns ≡ columns_of table
   pub entries : take (length (entries_of (grid_of table))) es ≡ map shown (entries_of (grid_of table))
   pub row_lines : take (length (grid_of table)) row ≡ map grid_line (grid_of table)
-  pub row_ends_fits : take (length (grid_of table)) end ≡ row_ends 0 (grid_of table)
+  pub row_ends : take (length (grid_of table)) end ≡ row_ends 0 (grid_of table)
 
 -- the lent slices have a record for each entry, and for each of n lines
-pub record Room (n entries : ℕ) (cells overhang : List ℕ) (next : List Overhang) (es : List packed.Entry) (rows : List RowEnd) : Type 0 where
+pub record Room (n entries : ℕ) (cells overhang : List ℕ) (next : List Overhang) (es : List records.Entry) (rows : List RowEnd) : Type 0 where
   pub cell_room : n ≤ length cells / 3
   pub overhang_room : n ≤ length overhang / 3
   pub next_room : n ≤ length next

@@ -9,7 +9,7 @@ use Rattle.records.specs.declared.RowEnd.{RowEnd}
 use Rattle.cells.specs.Cells.{Cell, Frame, frame}
 use Rattle.cells.specs.Cells as cells
 use Rattle.gridding.specs.declared.Counts.{Counts}
-use Rattle.gridding.specs.Packed.{shown, TableMade}
+use Rattle.gridding.specs.Records.{shown, TableMade}
 use Rattle.grid_plain.specs.declared.RowCells.{RowCells}
 use Rattle.grid_plain.specs.Plain.{Plain, plain_entries}
 

@@ -1,26 +1,21 @@
--- `line::unreadable` meets its contract: the kind decides first; then the line feed is there where the line ends before the sheet does.
+-- `line::unreadable` meets its contract: the kind decides first; then the line feed is there where the search for one finds it.
 -- Assumes nothing.
 use mathlib.Core.Path.{sym, ◌∙◌}
-use native.Mathlib.Omega.{arith}
 use Rattle.line.specs.Reading.{refused_at}
-use Rattle.line.proofs.Pieces.{piece_length, piece_ended, fed_there, fed_nowhere}
+use Rattle.line.proofs.Pieces.{fed_found}
 use Rattle.line.proofs.unreadable.Goals as goal
-use Rattle.line.proofs.unreadable.Goals.{else-has_text-via-then-has_text+else-line_end-bytes, else-has_text-via-else-has_text}
+use Rattle.line.proofs.unreadable.Goals.{else-has_text-via-then-has_text+else-contains, else-has_text-via-else-has_text}
 
-pub returns-then-line_end-bytes : goal.returns-then-line_end-bytes
+pub returns-then-contains : goal.returns-then-contains
 unfolding refused_at
-returns-then-line_end-bytes c =
-    let a = c.args in
-    let there = fed_there a.bytes.now a.at (omega arith) (omega (arith, c.line_end.ensures, piece_length a.bytes.now a.at)) in
-    rw (sym c.has_text.ensures ∙ c.if-has_text.true, piece_ended a.bytes.now a.at ∙ there)
+returns-then-contains c =
+    rw (sym c.has_text.ensures ∙ c.if-has_text.true, sym (fed_found c.args.bytes.now c.args.at) ∙ sym c.contains.ensures.value ∙ c.if-contains.true)
 
 pub returns-else-has_text : goal.returns-else-has_text
 unfolding refused_at
 returns-else-has_text c =
-    let a = c.args in
     elim c.else-has_text.branch [
-      | else-has_text-via-then-has_text+else-line_end-bytes w ↦
-          let none = fed_nowhere a.bytes.now a.at (omega arith) (omega (arith, w.line_end.ensures, w.if-line_end-bytes.false, piece_length a.bytes.now a.at)) in
-          rw (sym c.has_text.ensures ∙ w.if-has_text.true, piece_ended a.bytes.now a.at ∙ none)
+      | else-has_text-via-then-has_text+else-contains w ↦
+          rw (sym c.has_text.ensures ∙ w.if-has_text.true, sym (fed_found c.args.bytes.now c.args.at) ∙ sym w.contains.ensures.value ∙ w.if-contains.false)
       | else-has_text-via-else-has_text w ↦ rw (sym c.has_text.ensures ∙ w.if-has_text.false)
     ]

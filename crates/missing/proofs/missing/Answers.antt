@@ -3,7 +3,7 @@
 use Rattle.std.proofs.Common.{rules}
 use native.Mathlib.Omega.{arith}
 use Rattle.missing.specs.inner.Found.{missed_total, column_total}
-use Rattle.missing.proofs.Calls.{missing_fit, missing_rooms, missing_answered}
+use Rattle.missing.proofs.Calls.{missing_opened, missing_fit, missing_rooms, missing_answered}
 use Rattle.missing.proofs.missing.Goals as goal
 
 pub find_missing-found-requires : goal.find_missing-found-requires
@@ -13,15 +13,15 @@ find_missing-found-requires c =
 
 pub keep_front-requires : goal.keep_front-requires
 unfolding missed_total
-keep_front-requires c = grind (arith, (missing_rooms c.of_missing-asked.ensures.verdict (c.find_missing-found.ensures _ _ _ c.of_missing-asked.ensures.asks)).0, c.find_missing-found.auto.entry)
+keep_front-requires c = grind (arith, (missing_rooms c.of_missing-asked.ensures.verdict (missing_opened c.of_missing-asked.ensures.asks c.find_missing-found.ensures)).0, c.find_missing-found.auto.entry)
 
 pub keep_front-requires-2 : goal.keep_front-requires-2
 unfolding column_total
-keep_front-requires-2 c = grind (arith, (missing_rooms c.of_missing-asked.ensures.verdict (c.find_missing-found.ensures _ _ _ c.of_missing-asked.ensures.asks)).1, c.find_missing-found.auto.cause)
+keep_front-requires-2 c = grind (arith, (missing_rooms c.of_missing-asked.ensures.verdict (missing_opened c.of_missing-asked.ensures.asks c.find_missing-found.ensures)).1, c.find_missing-found.auto.cause)
 
 pub returns : goal.returns
 unfolding missed_total column_total
 returns c =
     let f = c.find_missing-found in
-    missing_answered c.of_missing-asked.ensures.verdict (c.find_missing-found.ensures _ _ _ c.of_missing-asked.ensures.asks) (search rules) (search rules)
+    missing_answered c.of_missing-asked.ensures.verdict (missing_opened c.of_missing-asked.ensures.asks c.find_missing-found.ensures) (search rules) (search rules)
     c.find_missing-found.auto.entry c.find_missing-found.auto.cause c.keep_front.ensures c.keep_front-2.ensures

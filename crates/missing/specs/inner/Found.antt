@@ -2,7 +2,7 @@
 use Rattle.answers.specs.Answers.{causes_with}
 use Rattle.answers.specs.declared.Causes.{Causes}
 use Rattle.lists.specs.declared.Refusal.{Refusal}
-use Rattle.std.specs.Prelude.{◌≡◌, List, ℕ, ◌-◌, ◌≤◌, length, take, Err, Ok, Result}
+use Rattle.std.specs.Prelude.{◌≡◌, List, ℕ, ◌≤◌, length, take, Err, Ok, Result}
 use Rattle.lists.specs.Limits.{max_lines, max_entries}
 use Rattle.lists.specs.Refusals.{Check, first_answer, if_passes}
 use Rattle.text.specs.declared.Estimate.{Estimate}
@@ -32,23 +32,17 @@ column_total (Ok t) = t.columns
 column_total (Err why) = 0
 
 -- of a table with these rows of boxes in so many columns: the answer, and what stands in the first places
-pub record TableTold (columns : ℕ) (rows : List (List Box)) (raw width : ℕ) (r : Result Causes Refusal) (entry cause : List ℕ) : Type 0 where
-  pub answer : r ≡ Ok (causes_with (length (missing_from 0 (places_in columns rows raw width))) columns)
-  pub entries : take (missed_total r) entry ≡ missing_from 0 (places_in columns rows raw width)
-  pub causes : take (column_total r) cause
+pub record TableTold (columns : ℕ) (rows : List (List Box)) (raw width : ℕ) (r : Causes) (entry cause : List ℕ) : Type 0 where
+  pub answer : r ≡ causes_with (length (missing_from 0 (places_in columns rows raw width))) columns
+  pub entries : take r.count entry ≡ missing_from 0 (places_in columns rows raw width)
+  pub causes : take r.columns cause
       ≡ causes (largest size_of (flat rows) columns) (largest least_of (flat rows) columns) (widths_in columns rows raw width) width
 
--- of the table in a line, at the wrap of the estimates
-pub record MissingMade (ks : List Kept) (line : ℕ) (figures : List Estimate) (raw width : ℕ) (r : Result Causes Refusal) (entry cause : List ℕ) : Type 0 where
-  pub few_entries : missed_total r ≤ max_entries
-  pub few_columns : column_total r ≤ max_lines
-  pub told : (wrap : ℕ) → CellsAre wrap ks (line - 1) figures
-      → TableTold (columns_of (table_rows ks (line - 1))) (boxes_at wrap ks (line - 1)) raw width r entry cause
-
--- the refusal handed up, or those of the lines that were read
-pub record MissingRead (read : Result ℕ Refusal) (lines : List Kept) (line : ℕ) (figures : List Estimate) (raw width : ℕ) (r : Result Causes Refusal) (entry cause : List ℕ) : Type 0 where
-  pub refused : (why : Refusal) → read ≡ Err why → r ≡ Err why
-  pub made : (n : ℕ) → read ≡ Ok n → MissingMade (take n lines) line figures raw width r entry cause
+-- of the table at a place, at the wrap of the estimates
+pub record MissingMade (ks : List Kept) (at : ℕ) (figures : List Estimate) (raw width : ℕ) (r : Causes) (entry cause : List ℕ) : Type 0 where
+  pub few_entries : r.count ≤ max_entries
+  pub few_columns : r.columns ≤ max_lines
+  pub told : (wrap : ℕ) → CellsAre wrap ks at figures → TableTold (columns_of (table_rows ks at)) (boxes_at wrap ks at) raw width r entry cause
 
 -- found in the sheet, or the first refusal; the figures stand in the first places
 pub record MissingFound (cs : List Check) (s : List ℕ) (line wrap raw width : ℕ) (r : Result Causes Refusal) (entry cause : List ℕ) : Type 0 where

@@ -3,41 +3,22 @@ use Rattle.answers.specs.Answers.{nested_with}
 use Rattle.answers.specs.declared.Layout.{Layout}
 use Rattle.answers.specs.declared.Nested.{Nested}
 use Rattle.lists.specs.declared.Refusal.{Refusal}
-use Rattle.std.specs.Prelude.{◌≡◌, true, List, ℕ, ◌-◌, ◌≤◌, ◌<◌, length, get_or, take, Err, Ok, Option, Result, None, Some}
+use Rattle.std.specs.Prelude.{◌≡◌, true, List, ℕ, ◌≤◌, take, Err, Ok, Option, Result, None, Some}
 use Rattle.lists.specs.Limits.{max_lines, max_entries}
 use Rattle.lists.specs.Refusals.{Check, first_answer, passes, if_passes}
 use Rattle.records.specs.declared.Kept.{Kept}
 use Rattle.text.specs.declared.Estimate.{Estimate}
 use Rattle.placing.specs.Promise.{Promised}
 use Rattle.sheet_figures.specs.Figures.{columns_at, boxes_at, way_at, widths_at}
-use Rattle.call_layout.specs.inner.Read.{LayoutRead}
+use Rattle.call_layout.specs.inner.Made.{LayoutMade}
 use Rattle.nested.specs.Nested.{width_to, told_at, columns_for, xs_for, wides_for}
 
--- the width at a line's place, if the sheet was read
-unfoldable pub width_for : Result ℕ Refusal → ℕ → List (Option ℕ) → Option ℕ
-width_for (Ok n) line ps = get_or ps (line - 1) None
-width_for (Err why) line ps = None
-
--- the line has a place
-pub record PlaceIn (read : Result ℕ Refusal) (line : ℕ) (walk : List (Option ℕ)) : Type 0 where
-  pub from_one : (n : ℕ) → read ≡ Ok n → 1 ≤ line
-  pub within : (n : ℕ) → read ≡ Ok n → line - 1 < length walk
-
--- a table laid out at the width at, or none
-unfoldable pub nest_in : ℕ → Result Layout Refusal → Result (Option Nested) Refusal
-nest_in at (Ok t) = Ok (Some (nested_with at t))
-nest_in at (Err why) = Err why
-
-unfoldable pub without_in : Result ℕ Refusal → Result (Option Nested) Refusal
-without_in (Ok n) = Ok None
-without_in (Err why) = Err why
-
--- what is laid out at this width
-pub record NestRead (read : Result ℕ Refusal) (w : Option ℕ) (lines : List Kept) (line : ℕ) (figures : List Estimate) (raw : ℕ) (r : Result (Option Nested) Refusal) (column x wide : List ℕ) : Type 0 where
-  pub without : w ≡ None → r ≡ without_in read
-  pub arranged : (v : ℕ) → w ≡ Some v → Result Layout Refusal
-  pub answer : (v : ℕ) (e : w ≡ Some v) → r ≡ nest_in v (arranged v e)
-  pub laid : (v : ℕ) (e : w ≡ Some v) → LayoutRead read lines line figures raw v (arranged v e) column x wide
+-- what is laid out of the table at a place, at this width
+pub record NestMade (ks : List Kept) (at : ℕ) (figures : List Estimate) (raw : ℕ) (w : Option ℕ) (r : Option Nested) (column x wide : List ℕ) : Type 0 where
+  pub without : w ≡ None → r ≡ None
+  pub layout : (v : ℕ) → w ≡ Some v → Layout
+  pub answer : (v : ℕ) (e : w ≡ Some v) → r ≡ Some (nested_with v (layout v e))
+  pub laid : (v : ℕ) (e : w ≡ Some v) → LayoutMade ks at figures raw v (layout v e) column x wide
 
 -- how many columns and entries it has
 unfoldable pub columns_in : Result (Option Nested) Refusal → ℕ

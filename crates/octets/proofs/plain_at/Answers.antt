@@ -5,7 +5,7 @@ use lib.ListN.{take, drop, length-drop}
 use Rattle.lists.specs.Lists.{All}
 use Rattle.octets.specs.inner.Digits.{Low}
 use Rattle.octets.specs.inner.Plain.{plain_sum, plain_gap}
-use Rattle.octets.proofs.Answers.{low_of, low_le, front_more}
+use Rattle.octets.proofs.Answers.{low_of, front_more}
 use Rattle.octets.proofs.plain_at.Goals as goal
 use Rattle.octets.proofs.plain_at.Goals.{Else-tops-ne0}
 
@@ -15,13 +15,6 @@ low c = let e = c.eight-w.ensures in low_of _ e.octets (sym (c.tops.ensures.digi
 pub returns-then-tops-ne0 : goal.returns-then-tops-ne0
 unfolding All plain_sum plain_gap
 returns-then-tops-ne0 c = record { inside = omega arith; few = omega arith; plain = tt; size = refl; last = refl; small = omega arith; one = c.requires.gap_bound }
-
-pub plain_of-requires : goal.plain_of-requires
-plain_of-requires c =
-    record {
-      w_le_all_low = omega (arith, low_le _ (low (goal.at.plain_of-requires c).Else-tops-ne0), c.eight-w.ensures.is);
-      gap_bound = c.requires.gap_bound;
-    }
 
 pub returns : goal.returns
 returns c =

@@ -1,6 +1,6 @@
 -- What measuring an opened sheet takes and promises. These are definitions; nothing is assumed.
 use Rattle.lists.specs.declared.Refusal.{Refusal}
-use Rattle.std.specs.Prelude.{◌≡◌, ◌⊎◌, List, ℕ, ◌-◌, ◌≤◌, ◌<◌, length, get_or, take, Ok, Result, Option, Some, None}
+use Rattle.std.specs.Prelude.{◌≡◌, ◌⊎◌, List, ℕ, ◌-◌, ◌≤◌, ◌<◌, length, get_or, take, Ok, Result, Option, Some, IsSome}
 use Rattle.lists.specs.Limits.{max_position, max_entries, max_lines}
 use Rattle.text.specs.declared.Estimate.{Estimate}
 use Rattle.records.specs.declared.Kept.{Kept}
@@ -11,9 +11,9 @@ use Rattle.grid.specs.Judging.{Lined}
 use Rattle.grid_bounds.specs.Sheets.{Nests, AllSound, Suffice}
 use Rattle.estimates.specs.Estimates.{none, estimates}
 use Rattle.estimates.specs.Sheet as estimates
-use Rattle.estimates.specs.Meets.{Bounded, Lent, Measured, CellsMeasured}
+use Rattle.estimates.specs.Meets.{Bounded}
 use Rattle.opening.specs.Opening.{kept_lines}
-use Rattle.opening.specs.inner.Opened.{Apt, Opened}
+use Rattle.opening.specs.inner.Opened.{Opened}
 
 -- ---- the lines of an opened sheet
 
@@ -25,42 +25,19 @@ pub record Measurable (ks : List Kept) (fs : List Estimate) : Type 0 where
   pub sound : AllSound ks
   pub results : length ks ≤ length fs
 
--- a line below which alone is measured is a table
-pub record InScope (below : Option ℕ) (ks : List Kept) : Type 0 where
-  pub table : (line : ℕ) → below ≡ Some line → Apt ks line
-
-pub record ScopeMeasured (below : Option ℕ) (wrap : ℕ) (ks : List Kept) (b c : List Estimate) : Type 0 where
-  pub sheet : below ≡ None → Measured wrap ks b c
-  pub table : (line : ℕ) → below ≡ Some line → CellsMeasured wrap ks (line - 1) b c
-
--- ---- the lines that were read
-
--- they are the first of the records
-abbrev pub LinesIn : Result ℕ Refusal → List Kept → Type 0
-LinesIn r lines = (n : ℕ) → r ≡ Ok n → n ≤ length lines
-
 -- so many records of entries and of rows do for any table of the lines: as many as all cells ask for, or as many as a table may have
 abbrev pub Enough : ℕ → ℕ → List Kept → Type 0
 Enough entries rows ks = Suffice entries rows ks ⊎ ((max_entries ≤ entries) × (max_lines ≤ rows))
 
--- they do for those that were read
-abbrev pub EnoughIn : Result ℕ Refusal → List Kept → ℕ → ℕ → Type 0
-EnoughIn r lines entries rows = (n : ℕ) → r ≡ Ok n → Enough entries rows (take n lines)
+-- something is found, or the sheet is refused
+abbrev pub Decided : {A : Type 0} → Result (Option A) Refusal → Type 0
+Decided {A} r = (t : Option A) → r ≡ Ok t → IsSome t
 
 -- scratch for any table
 pub record ScratchForAny (leasts : List ℕ) (entries : List Entry) (rows : List RowEnd) : Type 0 where
   pub leasts_room : max_position ≤ length leasts
   pub entries_room : max_entries ≤ length entries
   pub rows_room : max_lines ≤ length rows
-
--- what measuring them takes, and promises
-pub record ReadLent (r : Result ℕ Refusal) (below : Option ℕ) (lines : List Kept) (fs : List Estimate) (leasts : List ℕ) (es : List Entry) (rs : List RowEnd) : Type 0 where
-  pub front : LinesIn r lines
-  pub lent : (n : ℕ) → r ≡ Ok n → Lent (take n lines) fs leasts es rs
-  pub scope : (n : ℕ) → r ≡ Ok n → InScope below (take n lines)
-
-abbrev pub ReadMeasured : Result ℕ Refusal → Option ℕ → ℕ → List Kept → List Estimate → List Estimate → Type 0
-ReadMeasured r below wrap lines b c = (n : ℕ) → r ≡ Ok n → ScopeMeasured below wrap (take n lines) b c
 
 -- ---- a sheet
 
@@ -78,6 +55,7 @@ pub record CellsKnown (wrap : ℕ) (ks : List Kept) (at : ℕ) (fs : List Estima
   pub cells : (k : ℕ) → CellOf ks at k → get_or fs k none ≡ get_or (estimates wrap ks) k none
   pub sound : (k : ℕ) → CellOf ks at k → Bounded (get_or (estimates wrap ks) k none)
 
-pub record TableMeasured (s : List ℕ) (line wrap : ℕ) (r : Result ℕ Refusal) (lines : List Kept) (figures : List Estimate) : Type 0 where
+-- a sheet opened for the table in a line, and what lies below that table measured
+pub record BelowMeasured (s : List ℕ) (line wrap : ℕ) (r : Result ℕ Refusal) (lines : List Kept) (figures : List Estimate) : Type 0 where
   pub opened : Opened (Some line) s r lines
   pub measured : (n : ℕ) → r ≡ Ok n → CellsKnown wrap (kept_lines s) (line - 1) figures

@@ -1,7 +1,7 @@
 -- A sheet opened, measured and walked, by its bytes. These are definitions; nothing is assumed.
 use Rattle.records.specs.declared.Kept.{Kept}
 use Rattle.lists.specs.declared.Refusal.{Refusal}
-use Rattle.std.specs.Prelude.{◌≡◌, List, ◌++◌, ℕ, ◌≤◌, ◌<◌, length, get_or, take, Err, Ok, Result, None, Option}
+use Rattle.std.specs.Prelude.{◌≡◌, List, ◌++◌, ℕ, ◌<◌, length, get_or, take, Err, Ok, Result, None, Option}
 use Rattle.lists.specs.Limits.{max_size}
 use Rattle.lists.specs.Refusals.{Check, first_answer}
 use Rattle.kinds.specs.Kinds.{kind_number, table_kind}
@@ -10,12 +10,11 @@ use Rattle.records.specs.Kept.{no_kept}
 use Rattle.sheet.specs.Sheet.{sheet_lines}
 use Rattle.cells.specs.Listed.{table_rows}
 use Rattle.grid.specs.Facts.{Sound}
-use Rattle.estimates.specs.Estimates.{estimates}
 use Rattle.estimates.specs.Sheet.{Sheet}
 use Rattle.opening.specs.Opening.{kept_lines, open_checks, opened_of}
 use Rattle.opening.specs.inner.Measures.{LinesMeasured}
-use Rattle.passing.specs.Walk.{walk, narrow_checks}
-use Rattle.walking.specs.inner.Steps.{AtMost, Walkable}
+use Rattle.passing.specs.Walk.{narrow_checks}
+use Rattle.walking.specs.inner.Steps.{AtMost}
 use Rattle.pacing.specs.Sheets.{walk_of}
 
 -- ---- a sheet opened and measured
@@ -26,22 +25,6 @@ pub record SheetOpened (asked : Option ℕ) (s : List ℕ) (wrap : ℕ) (r : Res
   pub sheet : (n : ℕ) → r ≡ Ok n → Sheet (kept_lines s)
   pub sound : (n : ℕ) → r ≡ Ok n → (t : ℕ) → t < length (kept_lines s) → kind_number (get_or (kept_lines s) t no_kept).kind ≡ table_kind → Sound (table_rows (kept_lines s) t)
   pub measured : (n : ℕ) → r ≡ Ok n → LinesMeasured wrap (kept_lines s) figures
-
--- what walking its lines takes
-pub record ReadWalkable (read : Result ℕ Refusal) (lines : List Kept) (figures : List Estimate) (ps : List (Option ℕ)) : Type 0 where
-  pub front : (n : ℕ) → read ≡ Ok n → n ≤ length lines
-  pub walkable : (n : ℕ) → read ≡ Ok n → Walkable (take n lines) figures
-  pub room : (n : ℕ) → read ≡ Ok n → n ≤ length ps
-
--- the refusal handed up; or 12; or the widths of the lines that were read
-pub record WalkRead (read : Result ℕ Refusal) (lines : List Kept) (figures : List Estimate) (raw width overflow : ℕ) (r : Result ℕ Refusal) (ps : List (Option ℕ)) : Type 0 where
-  pub refused : (why : Refusal) → read ≡ Err why → r ≡ Err why
-  pub answer : (n : ℕ) → read ≡ Ok n → (wrap : ℕ) → take n figures ≡ estimates wrap (take n lines)
-      → r ≡ first_answer Err (Ok n) (narrow_checks wrap raw width overflow (take n lines))
-  pub widths : (n : ℕ) → read ≡ Ok n → (wrap : ℕ) → take n figures ≡ estimates wrap (take n lines)
-      → r ≡ Ok n → take n ps ≡ walk wrap raw width (take n lines)
-  pub small : (n : ℕ) → read ≡ Ok n → (wrap : ℕ) → take n figures ≡ estimates wrap (take n lines)
-      → r ≡ Ok n → (k : ℕ) → AtMost max_size (get_or (walk wrap raw width (take n lines)) k None)
 
 -- ---- a sheet walked
 

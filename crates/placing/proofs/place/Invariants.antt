@@ -4,5 +4,5 @@
 use Rattle.placing.proofs.RowsLoop.{Rows}
 use Rattle.placing.proofs.place.Given as goal
 
-abbrev pub invariant-loop-r : goal.invariant-loop-r
-invariant-loop-r l = Rows l.way l.entries l.rows l.ws l.width l.x l.wide l.from l.r
+abbrev pub invariant-loop-row : goal.invariant-loop-row
+invariant-loop-row l = Rows l.way l.entries l.rows l.ws l.width l.x l.wide l.from l.row-index

@@ -1,10 +1,7 @@
 -- `placing::place_row` meets its contract: the arm tells the way; sideways a row that tiles the columns has what is asked for, and down the two
 -- figures that fill the slices are those of every entry. Assumes nothing.
-use Rattle.placing.proofs.RowLoop.{row_side, placed_side, placed_down}
+use Rattle.placing.proofs.RowLoop.{placed_side, placed_down}
 use Rattle.placing.proofs.place_row.Goals as goal
-
-pub place_side_row-requires : goal.place_side_row-requires
-place_side_row-requires c = row_side _ _ _ _ _ c.requires c.in-Sideways.is
 
 pub returns-in-Sideways : goal.returns-in-Sideways
 returns-in-Sideways c = placed_side _ _ _ _ _ _ c.in-Sideways.is c.place_side_row.ensures

@@ -9,6 +9,7 @@ use Rattle.cutting.specs.Cut.{gaps}
 use Rattle.answers.specs.declared.Way.{Way}
 use Rattle.answers.specs.declared.Way.TheVariants.{Sideways}
 use Rattle.placing.specs.Place.{Placed}
+use Rattle.records.specs.Figures.{row_end}
 
 -- sideways, the width of an entry whose columns sum to q, and where the next one starts if it stands at x: one case of place_side
 abbrev pub own : ℕ → ℕ → ℕ
@@ -23,10 +24,6 @@ bare_box e = box e.first e.span 0 0
 
 abbrev pub bare_boxes : List Entry → List Box
 bare_boxes es = map bare_box es
-
--- how many entries there are up to and including a row
-abbrev pub end_of : RowEnd → ℕ
-end_of r = r.end
 
 -- a row sideways: a place for each entry; the entries tile the columns; widths and gaps are no wider than a table may lie
 pub record SideRow (es : List Entry) (ws xs wides : List ℕ) : Type 0 where
@@ -51,8 +48,8 @@ Ascends a (e ∷ ends) n = (a ≤ e) × Ascends e ends n
 pub record AllRows (way : Way) (es : List Entry) (rs : List RowEnd) (ws xs wides : List ℕ) : Type 0 where
   pub xs_length : length xs ≡ length es
   pub wides_length : length wides ≡ length es
-  pub ascends : Ascends 0 (map end_of rs) (length es)
-  pub tiles : TilesAll (length ws) (rows_by 0 (map end_of rs) (bare_boxes es))
+  pub ascends : Ascends 0 (map row_end rs) (length es)
+  pub tiles : TilesAll (length ws) (rows_by 0 (map row_end rs) (bare_boxes es))
   pub side : way ≡ Sideways → sum ws + gaps (length ws) ≤ max_size
 
 -- x and width of each entry, written to two slices

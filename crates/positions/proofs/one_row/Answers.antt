@@ -8,7 +8,8 @@ use lib.ListN.{length, take, drop, length-drop, length-map}
 use lib.Seq.{length-take-le}
 use Rattle.records.specs.declared.Entry.{Entry}
 use Rattle.cells.specs.declared.Cell.{Cell}
-use Rattle.cells.specs.Held.{figures, cell_by, held_line, held_span, held_rows, lines_of, spans_of, rowspans_of, entry_cell, entry_span}
+use Rattle.cells.specs.Held.{figures, cell_by, held_line, held_span, held_rows, lines_of, spans_of, rowspans_of}
+use Rattle.records.specs.Figures.{entry_cell, entry_span}
 use Rattle.cells.specs.Spans.{part}
 use Rattle.cells.proofs.Figures.{length_figures, figures_part}
 use Rattle.rows.specs.inner.Overhangs.{third, lefts_in, ats_in, wides_in}

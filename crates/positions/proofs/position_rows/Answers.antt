@@ -7,7 +7,7 @@ use Prim.Native.Nat.{◌<◌}
 use native.Mathlib.Omega.{arith}
 use lib.ListN.{length, get_or, length-map, get_or-map}
 use Rattle.records.specs.Kept.{no_row}
-use Rattle.cells.specs.Held.{row_end, row_ends_of, entry_cell, entry_span}
+use Rattle.records.specs.Figures.{row_end, row_ends_of, entry_cell, entry_span}
 use Rattle.cells.proofs.Figures.{maps_still}
 use Rattle.rows.specs.inner.Overhangs.{hung_left, hung_at, hung_span}
 use Rattle.positions.proofs.RowsLoop.{end_kept, start_bounds, start, stop, cells_in_lem, few_entries, ready, small, turn, turn_bounds}

@@ -3,7 +3,8 @@
 -- the rows that are left say where their cells end. A turn merges the next row. Assumes nothing.
 use mathlib.Core.List.{List}
 use Prim.Native.Nat.{ℕ}
-use Rattle.cells.specs.Held.{lines_of, spans_of, rowspans_of, row_ends_of, entry_cells_of, entry_spans_of}
+use Rattle.cells.specs.Held.{lines_of, spans_of, rowspans_of}
+use Rattle.records.specs.Figures.{row_ends_of, entry_cells_of, entry_spans_of}
 use Rattle.rows.specs.inner.Overhangs.{lefts_of, ats_of, wides_of, lefts_in, ats_in, wides_in}
 use Rattle.positions.proofs.RowsLoop.{Bounds, Sofar, Held}
 use Rattle.positions.proofs.position_rows.Given as goal

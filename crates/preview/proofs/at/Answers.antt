@@ -2,6 +2,7 @@
 -- Assumes nothing.
 use mathlib.Core.Path.{◌∙◌}
 use native.Mathlib.Omega.{arith}
+use Rattle.spots.proofs.Early.{spot_opened}
 use Rattle.preview.proofs.Calls.{spot_fits, pointed_said}
 use Rattle.preview.proofs.at.Goals as goal
 
@@ -9,7 +10,7 @@ pub find-spot-requires : goal.find-spot-requires
 find-spot-requires c = record { x_room = omega arith; wide_room = omega arith }
 
 pub point_in-requires : goal.point_in-requires
-point_in-requires c = spot_fits _ (c.find-spot.ensures _ _ _ c.of_pointing-asked.ensures.asks)
+point_in-requires c = spot_fits _ (spot_opened c.of_pointing-asked.ensures.asks c.find-spot.ensures)
 
 pub returns : goal.returns
-returns c = c.point_in.ensures ∙ pointed_said _ (c.find-spot.ensures _ _ _ c.of_pointing-asked.ensures.asks) c.args.x c.of_pointing-asked.ensures.verdict
+returns c = c.point_in.ensures ∙ pointed_said _ (spot_opened c.of_pointing-asked.ensures.asks c.find-spot.ensures) c.args.x c.of_pointing-asked.ensures.verdict

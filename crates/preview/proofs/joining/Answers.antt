@@ -2,6 +2,7 @@
 -- Assumes nothing.
 use mathlib.Core.Path.{◌∙◌}
 use native.Mathlib.Omega.{arith}
+use Rattle.spots.proofs.Early.{spot_opened}
 use Rattle.preview.proofs.Calls.{spot_fits, joined_said}
 use Rattle.preview.proofs.joining.Goals as goal
 
@@ -9,7 +10,7 @@ pub find-spot-requires : goal.find-spot-requires
 find-spot-requires c = record { x_room = omega arith; wide_room = omega arith }
 
 pub join_in-requires : goal.join_in-requires
-join_in-requires c = spot_fits _ (c.find-spot.ensures _ _ _ c.of_pointing-asked.ensures.asks)
+join_in-requires c = spot_fits _ (spot_opened c.of_pointing-asked.ensures.asks c.find-spot.ensures)
 
 pub returns : goal.returns
-returns c = c.join_in.ensures ∙ joined_said _ (c.find-spot.ensures _ _ _ c.of_pointing-asked.ensures.asks) c.args.x c.of_pointing-asked.ensures.verdict
+returns c = c.join_in.ensures ∙ joined_said _ (spot_opened c.of_pointing-asked.ensures.asks c.find-spot.ensures) c.args.x c.of_pointing-asked.ensures.verdict

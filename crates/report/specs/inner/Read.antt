@@ -1,12 +1,9 @@
 -- The records that a sheet was read into, the widths of its lines, and its tables. These are definitions; nothing is assumed.
-use Rattle.lists.specs.declared.Refusal.{Refusal}
-use Rattle.std.specs.Prelude.{◌≡◌, List, ℕ, ◌≤◌, ◌<◌, length, get_or, take, Ok, Result, Option, None, Some}
-use Rattle.lists.specs.Limits.{max_lines, max_size}
+use Rattle.std.specs.Prelude.{◌≡◌, List, ℕ, ◌≤◌, ◌<◌, length, get_or, Option, None, Some}
+use Rattle.lists.specs.Limits.{max_size}
 use Rattle.kinds.specs.Kinds.{kind_number, table_kind}
-use Rattle.text.specs.declared.Estimate.{Estimate}
 use Rattle.records.specs.Kept.{no_kept}
 use Rattle.records.specs.declared.Kept.{Kept}
-use Rattle.walking.specs.inner.Steps.{Walkable}
 
 -- the line at a place is a table
 pub record TableAt (ks : List Kept) (at : ℕ) : Type 0 where
@@ -17,10 +14,3 @@ pub record TableAt (ks : List Kept) (at : ℕ) : Type 0 where
 pub record WalkNarrow (n : ℕ) (walk : List (Option ℕ)) : Type 0 where
   pub room : n ≤ length walk
   pub small : (k width : ℕ) → k < n → get_or walk k None ≡ Some width → width ≤ max_size
-
--- if the sheet is accepted, its lines are the first records, and they can be listed
-pub record ReadListable (read : Result ℕ Refusal) (lines : List Kept) (figures : List Estimate) (walk : List (Option ℕ)) : Type 0 where
-  pub front : (n : ℕ) → read ≡ Ok n → n ≤ length lines
-  pub few : (n : ℕ) → read ≡ Ok n → n ≤ max_lines
-  pub walkable : (n : ℕ) → read ≡ Ok n → Walkable (take n lines) figures
-  pub narrow : (n : ℕ) → read ≡ Ok n → WalkNarrow n walk

@@ -1,19 +1,18 @@
--- `report_causes::told` meets its contract: the missing ones are few (`front_few`). Assumes nothing.
-use mathlib.Core.Path.{sym}
+-- `report_causes::told` meets its contract: the missing ones are few (`missing_few`). Assumes nothing.
 use native.Mathlib.Omega.{arith}
 use lib.Seq.{length-take-le}
-use Rattle.causes.proofs.Told.{front_few, causes_ready}
+use Rattle.causes.proofs.Told.{missing_few}
 use Rattle.report_causes.proofs.told.Goals as goal
 
-pub slice_bounds-columns-end : goal.slice_bounds-columns-end
-slice_bounds-columns-end c = sym (length-take-le _ _ c.requires.entries_in_fits)
+pub explain-count-requires : goal.explain-count-requires
+explain-count-requires c = rw (length-take-le _ c.args.cause.now c.requires.cause_in) c.requires.explainable
 
 pub columns-requires : goal.columns-requires
-columns-requires c =
-    let pre = c.requires in record {
-      entered = rw (length-take-le _ _ pre.cause_in) at (causes_ready pre).0;
-      c_le_max_position = pre.columns_few;
-    }
+columns-requires c = record { entered = c.requires.explainable.entered; column_len_bound = c.requires.explainable.columns_few }
 
-pub overflow_cast-missed : goal.overflow_cast-missed
-overflow_cast-missed c = omega (arith, front_few c.requires c.explain_front-count.ensures, c.requires.entries_few)
+pub invariant_of-missed : goal.invariant_of-missed
+invariant_of-missed c =
+    let p = c.requires.explainable in
+    let r = rw (length-take-le _ c.args.cause.now c.requires.cause_in) at c.explain-count.ensures in
+    let f = missing_few p r in
+    record { few = omega (arith, f, p.entries_few, length-take-le c.explain-count.result c.explain-count.new.entry (omega (arith, f, p.entry_in, c.explain-count.auto.entry))) }

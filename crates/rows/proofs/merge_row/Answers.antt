@@ -7,7 +7,8 @@ use mathlib.Core.List.{List}
 use Prim.Native.Nat.{◌+◌, ◌/◌, ◌<◌}
 use native.Mathlib.Omega.{arith}
 use lib.ListN.{length, length-map}
-use Rattle.cells.specs.Held.{cell_by, held_line, entry_cell}
+use Rattle.cells.specs.Held.{cell_by, held_line}
+use Rattle.records.specs.Figures.{entry_cell}
 use Rattle.cells.proofs.Figures.{length_figures}
 use Rattle.rows.specs.Row.{Item, hanging, row_from, row_of, nexts}
 use Rattle.rows.specs.inner.Overhangs.{hung_left}

@@ -2,7 +2,8 @@
 -- column on with what is left of the cells and of what hangs, are the whole row; they are written into the lent records, and end at the
 -- column. A turn puts the next entry: the first hanging one where `due` says so, else the next cell; either is the head of the rest's
 -- definition, and ends within position 4,096, since the whole row does. Assumes nothing.
-use Rattle.cells.specs.Held.{lines_of, spans_of, rowspans_of, entry_cells_of, entry_spans_of}
+use Rattle.cells.specs.Held.{lines_of, spans_of, rowspans_of}
+use Rattle.records.specs.Figures.{entry_cells_of, entry_spans_of}
 use Rattle.rows.specs.Row.{cells_of, hanging}
 use Rattle.rows.specs.inner.Overhangs.{lefts_of, ats_of, wides_of}
 use Rattle.rows.proofs.MergeLoop.{Sofar}

@@ -1,6 +1,6 @@
 -- `put` meets its contract: an entry that takes more than one row leaves one hanging, any other none. Assumes nothing.
 use native.Mathlib.Omega.{arith}
-use Rattle.cells.specs.Held.{entry_cell, entry_span}
+use Rattle.records.specs.Figures.{entry_cell, entry_span}
 use Rattle.cells.proofs.Figures.{map_set}
 use Rattle.rows.specs.inner.Overhangs.{hung_left, hung_at, hung_span}
 use Rattle.rows.proofs.Steps.{put_more, put_none}

@@ -3,10 +3,6 @@
 use Rattle.std.specs.Prelude.{List, map, ℕ, ◌*◌, ◌/◌, length, get_or, take, drop}
 use Rattle.rows.specs.declared.Overhang.{Overhang}
 
--- what stands in a list past its end
-abbrev pub no_overhang : Overhang
-no_overhang = record { left = 0; at = 0; span = 0 }
-
 -- the rows that they take, their positions and their spans
 abbrev pub hung_left : Overhang → ℕ
 hung_left o = o.left

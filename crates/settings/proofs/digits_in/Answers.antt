@@ -1,6 +1,6 @@
 -- `settings::digits_in` meets its contract: each way out of a turn, and the turn itself, is a law on the bytes from the place on. Assumes nothing.
 use mathlib.Core.Path.{sym, ap, ◌∙◌}
-use Prim.Native.Nat.{ℕ, ◌+◌}
+use Prim.Native.Nat.{ℕ, ◌+◌, ◌*◌}
 use native.Mathlib.Omega.{arith}
 use lib.ListN.{drop}
 use Rattle.settings.specs.Reading.{digits_in}
@@ -28,7 +28,7 @@ loop-b-preserved c =
       omega arith,
       l.invariant.1
           ∙ digits_more _ l.value l.b-index _ c.loop-b-test.true (sym c.is_ascii_digit.ensures.value ∙ c.if-not-is_ascii_digit.false) (omega arith)
-          ∙ ap (λ (v : ℕ). digits_in a.most v (drop (l.b-index + 1) a.field.now)) (sym c.grown-value.ensures),
+          ∙ ap (λ (d : ℕ). digits_in a.most (l.value * 10 + d) (drop (l.b-index + 1) a.field.now)) (sym c.from.ensures),
     )
 
 pub returns : goal.returns

@@ -6,22 +6,20 @@ use mathlib.Core.Path.{◌≡◌, refl, sym, ◌∙◌}
 use Prim.Native.Nat.{◌≤◌, ◌<◌}
 use native.Mathlib.Omega.{arith}
 use lib.ListN.{length, length-set}
-use lib.Seq.{length-take-le}
-use borrow.Author.Rules.{rules}
 use Rattle.std.specs.Prelude.{Ok}
 use Rattle.lists.specs.Limits.{max_depth}
 use Rattle.line.specs.LineAt.{line_at}
 use Rattle.line.specs.declared.Node.{Node}
-use Rattle.sheet.specs.Steps.{judgement_of, BriefOf}
+use Rattle.eights.specs.inner.Briefs.{BriefOf}
+use Rattle.sheet.specs.Steps.{judgement_of}
 use Rattle.sheet.proofs.Heading.{refused_reads}
-use Rattle.sheet.proofs.Filling.{none_more, none_front}
+use Rattle.sheet.proofs.Filling.{none_more}
 use Rattle.sheet.proofs.Accepted.{accepted_passed}
 use Rattle.sheet.proofs.Turns.{NextLine, turns_start, turns_refuse, turns_next, turns_more, turns_end, turns_stored}
 use Rattle.sheet.proofs.read_lines.Goals as goal
 use Rattle.sheet.proofs.read_lines.Goals.{In-Ok}
 
 -- what is known of a sound line before it is kept
-
 known : (c : In-Ok) → (node : Node) × (judgement_of c.loop-at.chain c.loop-at.n c.loop-at.previous (line_at c.args.bytes.now c.loop-at.at) ≡ Ok node) × BriefOf node c.in-Ok.b
 known c = c.judge.ensures.kept _ c.in-Ok.is
 
@@ -45,9 +43,6 @@ bounds-lines-n c =
     let l = next-line (goal.at.bounds-lines-n c).In-Ok in
     omega (arith, l.few, c.loop-at.invariant.0.same, c.requires.bytes_bound)
 
-pub overflow_add-n : goal.overflow_add-n
-overflow_add-n c = record { fits = omega (arith, c.loop-at.invariant.0.few, c.requires.begun.few) }
-
 pub loop-at-smaller : goal.loop-at-smaller
 loop-at-smaller c =
     let l = next-line (goal.at.loop-at-smaller c).In-Ok in
@@ -62,17 +57,6 @@ loop-at-preserved c =
           let s = c.still_filled-filled.ensures e in
           none_more c.loop-at.lines c.in-Ok.b.line (c.loop-at.invariant.1 s.0) s.1 (omega (arith, room, c.loop-at.invariant.0.same)) refl,
     )
-
-pub slice_bounds-finish-end-2 : goal.slice_bounds-finish-end-2
-slice_bounds-finish-end-2 c = sym (length-take-le _ _ (search rules))
-
-pub finish-requires : goal.finish-requires
-finish-requires c =
-    let v = c.loop-at in
-    let h : v.n ≤ length v.lines = search rules in record {
-      lines_len_bound = omega (arith, length-take-le v.n v.lines h);
-      none_lacking = λ e. none_front v.lines h (v.invariant.1 e);
-    }
 
 pub returns : goal.returns
 returns c =

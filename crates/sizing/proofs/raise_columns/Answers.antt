@@ -9,60 +9,48 @@ use Rattle.std.proofs.Common.{rules}
 use Rattle.records.specs.Kept.{no_entry}
 use Rattle.columns.specs.Boxes.{box}
 use Rattle.sizing.specs.inner.Room.{Whole}
-use Rattle.sizing.proofs.Raises.{raise_start, sizes_count, leasts_count, entry_whole, raise_skip, raise_turn, raise_stop}
+use Rattle.sizing.proofs.Raises.{raise_start, sizes_count, leasts_count, entry_whole, raise_skip, raise_turn}
 use Rattle.sizing.proofs.raise_columns.Goals as goal
 use Rattle.sizing.proofs.raise_columns.Goals.{After-figures_of-f, then-f-ne0, else-f-ne0}
 
 -- it has a column and ends within the columns
-whole : (c : After-figures_of-f) → let e = get_or c.args.entries.now c.loop-i.i no_entry in
+whole : (c : After-figures_of-f) → let e = get_or c.args.entries.now c.loop-e.e-index no_entry in
     let f = c.figures_of-f.result in
     Whole (length c.args.sizes.now) (box e.first e.span f.size f.least)
 whole c =
-    entry_whole c.requires refl c.loop-i.invariant c.loop-i-test.true refl
+    entry_whole c.requires refl c.loop-e.invariant c.loop-e-test.true refl
     c.figures_of-f.ensures
 
-pub loop-i-init : goal.loop-i-init
-loop-i-init c =
+pub loop-e-init : goal.loop-e-init
+loop-e-init c =
     let sizes : c.fill.new.self ≡ replicate (length c.args.sizes.now) 0 = search rules in
     let leasts : c.fill-2.new.self ≡ replicate (length c.args.leasts.now) 0 = search rules in
     raise_start c.requires refl sizes leasts
 
-pub overflow_add-to : goal.overflow_add-to
-overflow_add-to c = omega (arith, (whole (goal.at.overflow_add-to c).After-figures_of-f).ends)
-
-pub offset_bounds-sizes-from : goal.offset_bounds-sizes-from
-offset_bounds-sizes-from c = omega (arith, (whole (goal.at.offset_bounds-sizes-from c).After-figures_of-f).ends)
-
 pub slice_bounds-raise-end : goal.slice_bounds-raise-end
 slice_bounds-raise-end c =
-    omega (arith, (whole (goal.at.slice_bounds-raise-end c).After-figures_of-f).ends, sizes_count c.requires refl c.loop-i.invariant)
+    omega (arith, (whole (goal.at.slice_bounds-raise-end c).After-figures_of-f).ends, sizes_count c.requires refl c.loop-e.invariant)
 
 pub nonzero_div-f : goal.nonzero_div-f
 nonzero_div-f c = (whole (goal.at.nonzero_div-f c).After-figures_of-f).some
 
-pub offset_bounds-leasts-from : goal.offset_bounds-leasts-from
-offset_bounds-leasts-from c = omega (arith, (whole (goal.at.offset_bounds-leasts-from c).After-figures_of-f).ends)
-
 pub slice_bounds-raise-end-then-f-ne0 : goal.slice_bounds-raise-end-then-f-ne0
 slice_bounds-raise-end-then-f-ne0 c =
-    omega (arith, (whole (goal.at.slice_bounds-raise-end-then-f-ne0 c).After-figures_of-f).ends, leasts_count c.requires refl c.loop-i.invariant)
+    omega (arith, (whole (goal.at.slice_bounds-raise-end-then-f-ne0 c).After-figures_of-f).ends, leasts_count c.requires refl c.loop-e.invariant)
 
 pub nonzero_div-f-then-f-ne0 : goal.nonzero_div-f-then-f-ne0
 nonzero_div-f-then-f-ne0 c = (whole (goal.at.nonzero_div-f-then-f-ne0 c).After-figures_of-f).some
 
-pub loop-i-preserved : goal.loop-i-preserved
-loop-i-preserved c =
-    let e = get_or c.args.entries.now c.loop-i.i no_entry in
+pub loop-e-preserved : goal.loop-e-preserved
+loop-e-preserved c =
+    let e = get_or c.args.entries.now c.loop-e.e-index no_entry in
     let a = e.first in
     let k = e.span in
     elim c.if-f-ne0.branch [
       | then-f-ne0 w ↦
           rw (w.sizes-is, w.leasts-is)
-          (raise_turn c.requires refl c.loop-i.invariant c.loop-i-test.true refl c.figures_of-f.ensures a (a + k - a) refl (omega arith) w.raise.ensures w.raise-then-f-ne0.ensures)
+          (raise_turn c.requires refl c.loop-e.invariant c.loop-e-test.true refl c.figures_of-f.ensures a (a + k - a) refl (omega arith) w.raise.ensures w.raise-then-f-ne0.ensures)
       | else-f-ne0 w ↦
           rw (w.sizes-is, w.leasts-is)
-          (raise_skip c.requires refl c.loop-i.invariant c.loop-i-test.true refl c.figures_of-f.ensures w.if-f-ne0.false)
+          (raise_skip c.requires refl c.loop-e.invariant c.loop-e-test.true refl c.figures_of-f.ensures w.if-f-ne0.false)
     ]
-
-pub returns : goal.returns
-returns c = raise_stop c.requires refl c.loop-i.invariant (omega (arith, c.loop-i-test.false))

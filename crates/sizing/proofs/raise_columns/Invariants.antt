@@ -5,5 +5,5 @@ use lib.ListN.{length}
 use Rattle.sizing.proofs.Raises.{Sofar}
 use Rattle.sizing.proofs.raise_columns.Given as goal
 
-abbrev pub invariant-loop-i : goal.invariant-loop-i
-invariant-loop-i l = Sofar l.entries l.figures (length l.fn.sizes) l.sizes l.leasts l.i
+abbrev pub invariant-loop-e : goal.invariant-loop-e
+invariant-loop-e l = Sofar l.entries l.figures (length l.fn.sizes) l.sizes l.leasts l.e-index

@@ -1,27 +1,49 @@
 -- `spots::find_sheet` meets its contract: no sheet has more lines, and no table more entries, than the arrays have room for. Assumes nothing.
+use Rattle.std.proofs.Common.{rules, ◌≡◌, Err}
+use mathlib.Core.Path.{sym, ◌∙◌}
 use native.Mathlib.Omega.{arith}
-use Rattle.sheet_figures.proofs.Openings.{asked_in}
-use Rattle.sheet_figures.proofs.Tables.{lines_of, measured_in}
-use Rattle.spots.proofs.Read.{spot_found}
+use lib.Seq.{length-take-le}
+use Rattle.table.proofs.Rooms.{any_most, grid_room}
+use Rattle.sheet_figures.specs.inner.Opened.{LinesOf}
+use Rattle.sheet_figures.proofs.Openings.{opened_apt, opened_front, asked_lines}
+use Rattle.sheet_figures.proofs.Tables.{lines_of, table_known}
+use Rattle.spots.proofs.Read.{spot_found, spot_refused}
 use Rattle.spots.proofs.find_sheet.Goals as goal
+use Rattle.spots.proofs.find_sheet.Goals.{In_ok-n}
 
-pub measure_table-read-requires : goal.measure_table-read-requires
-measure_table-read-requires c =
-    record {
-      bytes_bound = omega arith;
-      bytes_in_bounds = omega arith;
-      scratch_for_any = record { leasts_room = omega arith; entries_room = omega arith; rows_room = omega arith };
-    }
+pub measure_table-requires : goal.measure_table-requires
+measure_table-requires c = record {
+  bytes_bound = omega arith;
+  bytes_in_bounds = omega arith;
+  scratch_for_any = record { leasts_room = omega arith; entries_room = omega arith; rows_room = omega arith };
+}
 
-pub find_read-requires : goal.find_read-requires
-find_read-requires c =
-    let w = lines_of c.measure_table-read.ensures in record {
-      asked_in = asked_in w.opened (omega arith);
-      max_entries_in_bounds = (omega arith, omega arith);
-      max_lines_in_bounds = omega arith;
-      measured_in = measured_in w (omega arith);
-      places_room = c.requires;
-    }
+pub returns-in_err-n : goal.returns-in_err-n
+returns-in_err-n c =
+    let q : c.from_residual.result ≡ Err c.in_err-n.field-0.0 = search rules in
+    rw q (spot_refused (sym c.measure_table.ensures.opened.answer ∙ c.in_err-n.was))
+
+opened : (c : In_ok-n) → LinesOf c.args.sheet.now c.args.line c.args.settings.wrap c.in_ok-n.n c.measure_table.new.lines c.measure_table.new.figures
+opened c = lines_of c.measure_table.ensures c.in_ok-n.was
+
+pub slice_bounds-lines-end : goal.slice_bounds-lines-end
+slice_bounds-lines-end c = opened_front (opened (goal.at.slice_bounds-lines-end c).In_ok-n).opened (omega arith)
+
+pub slice_bounds-t-end : goal.slice_bounds-t-end
+slice_bounds-t-end c = sym (length-take-le _ _ (opened_front (opened (goal.at.slice_bounds-t-end c).In_ok-n).opened (omega arith)))
+
+pub overflow_sub-t : goal.overflow_sub-t
+overflow_sub-t c = (opened_apt (opened (goal.at.overflow_sub-t c).In_ok-n).opened).from_one
+
+pub invariant_of-t : goal.invariant_of-t
+invariant_of-t c = record { known = table_known (opened (goal.at.invariant_of-t c).In_ok-n) (omega arith) }
+
+pub find_row-requires : goal.find_row-requires
+find_row-requires c = record {
+  grid_room = grid_room (any_most (asked_lines (opened (goal.at.find_row-requires c).In_ok-n).opened)) _ _ (omega arith) (omega arith);
+  max_lines_in_bounds = omega arith;
+  places_room = c.requires;
+}
 
 pub returns : goal.returns
-returns c = spot_found (lines_of c.measure_table-read.ensures) c.find_read.ensures
+returns c = spot_found (opened (goal.at.returns c).In_ok-n) c.find_row.ensures

@@ -1,6 +1,6 @@
 -- Where a row stands among the entries of its table, and what stands in two slices of all placed entries. These are definitions; nothing is assumed.
 use Rattle.lists.specs.declared.Refusal.{Refusal}
-use Rattle.std.specs.Prelude.{◌≡◌, true, List, [], ◌∷◌, ℕ, ◌+◌, ◌-◌, ◌≤◌, length, get_or, take, Err, Ok, Result}
+use Rattle.std.specs.Prelude.{◌≡◌, true, List, [], ◌∷◌, ℕ, ◌+◌, ◌≤◌, length, get_or, Err, Ok, Result}
 use Rattle.std.proofs.Math.Seq.{slice}
 use Rattle.lists.specs.Limits.{max_entries}
 use Rattle.lists.specs.Refusals.{Check, first_answer, passes}
@@ -10,7 +10,7 @@ use Rattle.records.specs.declared.RowEnd.{RowEnd}
 use Rattle.columns.specs.Boxes.{Box}
 use Rattle.cells.specs.Listed.{table_rows}
 use Rattle.grid.specs.Grid.{GridRow, grid_of, columns_of}
-use Rattle.gridding.specs.Packed.{ended_rows}
+use Rattle.gridding.specs.Records.{ended_rows}
 use Rattle.answers.specs.declared.Way.{Way}
 use Rattle.placing.specs.Place.{place_row}
 use Rattle.table.specs.Laying.{way_in, widths_in}
@@ -21,9 +21,9 @@ use Rattle.sheet_figures.specs.Figures.{rows_at, boxes_at, way_at, widths_at}
 use Rattle.spots.specs.Rows.{start_in, row_check}
 use Rattle.spots.specs.declared.Span.{Span}
 
--- the first rows of the records are those of a grid
-abbrev pub HasRows : ℕ → List RowEnd → List GridRow → Type 0
-HasRows n rows g = take n rows ≡ ended_rows 0 g
+-- the records are those of a grid's rows
+abbrev pub HasRows : List RowEnd → List GridRow → Type 0
+HasRows rows g = rows ≡ ended_rows 0 g
 
 abbrev pub span_with : (first end next : ℕ) → Span
 span_with first end next = record { first = first; end = end; next = next }
@@ -43,19 +43,14 @@ pub record RowsTold (way : Way) (ws : List ℕ) (width : ℕ) (g : List GridRow)
   pub slices : (k : ℕ) → InSlices (start_in g k) (start_in g (k + 1)) x wide
   pub few : (k : ℕ) → start_in g k ≤ max_entries
 
--- of the table in a line, at the wrap of the estimates
+-- of a table, at the wrap of the estimates
 pub record SpotTold (columns : ℕ) (g : List GridRow) (rows : List (List Box)) (raw width row : ℕ) (r : Result Span Refusal) (x wide : List ℕ) : Type 0 where
   pub answer : r ≡ spot_in (way_in columns rows raw width) g row
   pub told : RowsTold (way_in columns rows raw width) (widths_in columns rows raw width) width g rows x wide
 
-pub record SpotMade (ks : List Kept) (line : ℕ) (figures : List Estimate) (raw width row : ℕ) (r : Result Span Refusal) (x wide : List ℕ) : Type 0 where
-  pub made : (wrap : ℕ) → table.CellsAre wrap ks (line - 1) figures
-      → SpotTold (columns_of (table_rows ks (line - 1))) (grid_of (table_rows ks (line - 1))) (table.boxes_at wrap ks (line - 1)) raw width row r x wide
-
--- the refusal handed up, or that of the lines that were read
-pub record SpotRead (read : Result ℕ Refusal) (lines : List Kept) (line : ℕ) (figures : List Estimate) (raw width row : ℕ) (r : Result Span Refusal) (x wide : List ℕ) : Type 0 where
-  pub refused : (why : Refusal) → read ≡ Err why → r ≡ Err why
-  pub made : (n : ℕ) → read ≡ Ok n → SpotMade (take n lines) line figures raw width row r x wide
+pub record SpotMade (ks : List Kept) (at : ℕ) (figures : List Estimate) (raw width row : ℕ) (r : Result Span Refusal) (x wide : List ℕ) : Type 0 where
+  pub made : (wrap : ℕ) → table.CellsAre wrap ks at figures
+      → SpotTold (columns_of (table_rows ks at)) (grid_of (table_rows ks at)) (table.boxes_at wrap ks at) raw width row r x wide
 
 -- found in the sheet, or the first refusal
 pub record SpotFound (cs : List Check) (s : List ℕ) (line wrap raw width row : ℕ) (r : Result Span Refusal) (x wide : List ℕ) : Type 0 where

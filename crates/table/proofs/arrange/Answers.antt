@@ -1,12 +1,16 @@
 -- `table::arrange` meets its contract: the grid that is made can be laid out, and what is laid out is the table of the definition, by the laws of
 -- Grids. Assumes nothing.
-use Rattle.table.proofs.Grids.{made_front, made_laid}
+use Rattle.gridding.proofs.Cut.{made_within}
+use Rattle.table.proofs.Grids.{made_layable, made_laid}
 use Rattle.table.proofs.arrange.Goals as goal
 
-pub lay_front-laid-requires : goal.lay_front-laid-requires
-lay_front-laid-requires c =
-    made_front c.requires.table_ready c.requires.table_measured c.make-counts.ensures c.requires.layout_room
-    c.make-counts.auto.entries c.make-counts.auto.rows
+pub records-requires : goal.records-requires
+records-requires c = made_within c.make-counts.ensures
+
+pub lay-laid-requires : goal.lay-laid-requires
+lay-laid-requires c = made_layable c.args.t.known c.make-counts.ensures c.records.ensures c.requires.layout_room
 
 pub returns : goal.returns
-returns c = made_laid c.requires.table_ready c.requires.table_measured c.make-counts.ensures c.lay_front-laid.ensures
+returns c =
+    made_laid c.args.t.known c.make-counts.ensures c.records.ensures c.requires.layout_room c.lay-laid.ensures
+    c.lay-laid.auto.column c.lay-laid.auto.x c.lay-laid.auto.wide _ _ _

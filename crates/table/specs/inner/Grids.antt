@@ -2,13 +2,13 @@
 use Rattle.std.specs.Prelude.{◌≡◌, false, List, map, ℕ, ◌-◌, ◌≤◌, ◌<◌, length, get_or}
 use Rattle.lists.specs.Lists.{All}
 use Rattle.text.specs.declared.Estimate.{Estimate}
-use Rattle.records.specs.declared.Entry as packed
+use Rattle.records.specs.declared.Entry as records
 use Rattle.records.specs.declared.RowEnd.{RowEnd}
 use Rattle.grid.specs.Grid.{Entry, GridRow, entries_of}
 use Rattle.grid.specs.Facts.{EntriesTile}
 use Rattle.estimates.specs.Estimates.{Done, none, undone}
 use Rattle.grid.specs.Judging.{shown}
-use Rattle.gridding.specs.Packed.{ended_rows}
+use Rattle.gridding.specs.Records.{ended_rows}
 
 -- the row's entries tile the columns from 0 on
 abbrev pub RowTiles : ℕ → GridRow → Type 0
@@ -29,6 +29,6 @@ abbrev pub RowKnown : ℕ → List Done → List Estimate → GridRow → Type 0
 RowKnown t all figures r = All (Known t all figures) r.entries
 
 -- the records of a grid's entries and rows
-pub record Listed (g : List GridRow) (es : List packed.Entry) (rs : List RowEnd) : Type 0 where
+pub record Listed (g : List GridRow) (es : List records.Entry) (rs : List RowEnd) : Type 0 where
   pub entries : es ≡ map shown (entries_of g)
   pub rows : rs ≡ ended_rows 0 g

@@ -1,14 +1,18 @@
 -- What the code that lays out a table asks of its slices, and what it leaves in them. These are definitions; nothing is assumed.
-use Rattle.std.specs.Prelude.{◌≡◌, List, map, ℕ, ◌≤◌, ◌<◌, length, get_or, take}
+use Rattle.std.specs.Prelude.{◌≡◌, List, map, ℕ, ◌≤◌, ◌<◌, length, get_or}
 use Rattle.lists.specs.Limits.{max_position, max_size}
 use Rattle.text.specs.declared.Estimate.{Estimate}
 use Rattle.records.specs.Kept.{no_entry}
+use Rattle.records.specs.declared.Kept.{Kept}
 use Rattle.records.specs.declared.Entry.{Entry}
 use Rattle.records.specs.declared.RowEnd.{RowEnd}
 use Rattle.cells.specs.Cells as cells
+use Rattle.cells.specs.Listed.{table_rows}
+use Rattle.positions.specs.Positions.{all_rows, entry_count}
 use Rattle.grid.specs.Grid.{grid_of, columns_of, entries_of}
 use Rattle.columns.specs.Boxes.{TilesAll}
-use Rattle.placing.specs.inner.Rows.{end_of, Ascends}
+use Rattle.placing.specs.inner.Rows.{Ascends}
+use Rattle.records.specs.Figures.{row_end}
 use Rattle.table.specs.Laying.{box_rows_by}
 
 -- a table's records: entries, rows that tile the columns, the estimates of the sheet's lines; and places for the results
@@ -16,19 +20,15 @@ pub record LayableTable (es : List Entry) (rs : List RowEnd) (figures : List Est
   pub xs_length : length xs ≡ length es
   pub wides_length : length wides ≡ length es
   pub within : (i : ℕ) → i < length es → (get_or es i no_entry).cell ≤ length figures
-  pub ascends : Ascends 0 (map end_of rs) (length es)
+  pub ascends : Ascends 0 (map row_end rs) (length es)
   pub tiles : TilesAll (length column) (box_rows_by rs es figures)
   pub columns : length column ≤ max_position
   pub small : width ≤ max_size
 
--- a table's records in the front of the slices: so many rows, entries and columns
-pub record FrontLayable (r n c : ℕ) (es : List Entry) (rs : List RowEnd) (figures : List Estimate) (width : ℕ) (column x wide : List ℕ) : Type 0 where
-  pub entries_in_fits : n ≤ length es
-  pub rows_in_fits : r ≤ length rs
-  pub column_in : c ≤ length column
-  pub x_in : n ≤ length x
-  pub wide_in : n ≤ length wide
-  pub table : LayableTable (take n es) (take r rs) figures width (take c column) (take n x) (take n wide)
+-- there are records for the entries of the table at a place, and one for each line of the sheet
+pub record GridRoom (ks : List Kept) (at : ℕ) (es : List Entry) (rs : List RowEnd) : Type 0 where
+  pub entry_room : entry_count (all_rows (table_rows ks at)) ≤ length es
+  pub row_room : length ks ≤ length rs
 
 -- places for the results
 pub record LayoutRoom (table : List cells.Row) (width : ℕ) (column x wide : List ℕ) : Type 0 where

@@ -15,6 +15,3 @@ returns-then-p-lt8 c = run_end (run_turn c.loop-i.invariant _ c.plain_at-p.ensur
 
 pub loop-i-preserved : goal.loop-i-preserved
 loop-i-preserved c = run_turn c.loop-i.invariant _ c.plain_at-p.ensures
-
-pub returns : goal.returns
-returns c = run_end c.loop-i.invariant

@@ -3,11 +3,11 @@
 -- empty, and the sum is all. Of the other bytes a space (class 3, and 3 / 3 = 1) adds nothing and sets the gap, a character adds its width and the gap,
 -- at most 5, and clears it. Assumes nothing.
 use mathlib.Core.Path.{◌∙◌, sym}
-use Prim.Native.Nat.{◌+◌, ◌≤◌}
+use Prim.Native.Nat.{◌≤◌}
 use native.Mathlib.Omega.{arith}
 use lib.ListN.{get_or}
 use Rattle.text.specs.Bytes.{class_of}
-use Rattle.text.proofs.Scanning.{turn_small, sum_refused, sum_stop, sum_turn, sum_end}
+use Rattle.text.proofs.Scanning.{sum_refused, sum_stop, sum_turn, sum_end}
 use Rattle.text.proofs.Runs.{run_summing, is_plain}
 use Rattle.text.proofs.scan_rest.Goals as goal
 use Rattle.text.proofs.scan_rest.Goals.{then-class-eq-REFUSED-via-then-class-eq-REFUSED, then-class-eq-REFUSED-via-else-class-eq-REFUSED+then-text-i}
@@ -22,21 +22,6 @@ returns-then-class-eq-REFUSED c =
           sum_refused c.loop-i.invariant (omega arith) (sym c.class-class.ensures.value ∙ w.if-class-eq-REFUSED.true)
       | then-class-eq-REFUSED-via-else-class-eq-REFUSED+then-text-i w ↦ sum_stop c.loop-i.invariant (omega arith) w.if-text-i.true
     ]
-
-pub overflow_add-sum : goal.overflow_add-sum
-overflow_add-sum c = omega (arith, c.loop-i.invariant.one, c.class-class.ensures.upper_bound)
-
-pub overflow_mul-sum : goal.overflow_mul-sum
-overflow_mul-sum c =
-    let few = c.class-class.ensures.upper_bound in
-    let small = turn_small c.space_bit-space.result (c.class-class.result + c.loop-i.gap) in
-    omega (arith, small, few, c.loop-i.invariant.one, c.loop-i.invariant.small)
-
-pub overflow_add-sum-in-loop-i : goal.overflow_add-sum-in-loop-i
-overflow_add-sum-in-loop-i c =
-    let few = c.class-class.ensures.upper_bound in
-    let small = turn_small c.space_bit-space.result (c.class-class.result + c.loop-i.gap) in
-    omega (arith, small, few, c.loop-i.invariant.one, c.loop-i.invariant.small, c.loop-i.invariant.inside)
 
 pub loop-i-preserved : goal.loop-i-preserved
 loop-i-preserved c =

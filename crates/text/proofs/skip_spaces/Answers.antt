@@ -2,12 +2,9 @@
 -- leaves that so at i + 1; at the stop, at another byte, or at the end, nothing is left to trim. Assumes nothing.
 use mathlib.Core.Path.{◌∙◌, sym}
 use native.Mathlib.Omega.{arith}
-use Rattle.text.proofs.Scanning.{skip_start, skip_stop, skip_other, skip_turn, skip_end}
+use Rattle.text.proofs.Scanning.{skip_stop, skip_other, skip_turn, skip_end}
 use Rattle.text.proofs.skip_spaces.Goals as goal
 use Rattle.text.proofs.skip_spaces.Goals.{then-text-i-via-then-text-i, then-text-i-via-else-text-i+then-class-ne-SPACE}
-
-pub loop-i-init : goal.loop-i-init
-loop-i-init c = skip_start _ _ _ (omega arith)
 
 pub returns-then-text-i : goal.returns-then-text-i
 returns-then-text-i c =

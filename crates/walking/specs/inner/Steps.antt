@@ -40,9 +40,6 @@ pub record Rooms (entries : List Entry) (rows : List RowEnd) (column x wide : Li
 
 -- ---- a table's cells
 
-abbrev pub cell_in : Entry → ℕ
-cell_in e = e.cell
-
 -- each entry's width at the place of its cell's line; an entry of line 0, a filler, has none
 unfoldable pub printed_by : List ℕ → List ℕ → List (Option ℕ) → List (Option ℕ)
 printed_by [] vs ps = ps
@@ -50,11 +47,10 @@ printed_by (c ∷ cs) [] ps = ps
 printed_by (c ∷ cs) (v ∷ vs) ps =
     cond (eqb c 0) (printed_by cs vs ps) (set (printed_by cs vs ps) (c - 1) (printed v))
 
--- what storing the first n takes
-pub record CellsFit (n : ℕ) (es : List Entry) (wide : List ℕ) (ps : List (Option ℕ)) : Type 0 where
-  pub entries_in_fits : n ≤ length es
-  pub wide_in : n ≤ length wide
-  pub room : (k : ℕ) → k < n → (get_or es k no_entry).cell ≤ length ps
+-- what storing them takes
+pub record CellsFit (es : List Entry) (wide : List ℕ) (ps : List (Option ℕ)) : Type 0 where
+  pub wide_in : length es ≤ length wide
+  pub room : (k : ℕ) → k < length es → (get_or es k no_entry).cell ≤ length ps
 
 -- a width at which a table can be laid out
 unfoldable pub AtMost : ℕ → Option ℕ → Type 0
@@ -92,7 +88,7 @@ pub record LineHere (lines : List Kept) (figures : List Estimate) (walk passed :
 pub record Stepped (ks : List Kept) (figures : List Estimate) (root i : ℕ) (w : Option ℕ) (ps₀ qs₀ ps qs : List (Option ℕ)) : Type 0 where
   pub width_is : w ≡ own_width root i (get_or ks i no_kept) ps₀ qs₀
   pub written : ps ≡ set ps₀ i w
-  pub passes : qs ≡ set qs₀ (get_or ks i no_kept).depth (passed_on (kind_number (get_or ks i no_kept).kind) (get_or figures i none) w)
+  pub passes : qs ≡ set qs₀ (get_or ks i no_kept).depth (passed_on (get_or ks i no_kept).kind (get_or figures i none) w)
 
 -- ---- the walk
 

@@ -3,7 +3,7 @@
 use Rattle.std.proofs.Common.{rules, ◌≡◌, Err, sym, ◌∙◌}
 use native.Mathlib.Omega.{arith}
 use Rattle.sheet_figures.specs.inner.Opened.{lines_in}
-use Rattle.walks.proofs.WalkCall.{walk_fit, walk_rooms, walk_answered}
+use Rattle.walks.proofs.WalkCall.{walk_opened, walk_fit, walk_rooms, walk_answered}
 use Rattle.walks.proofs.walk.Goals as goal
 
 pub find_walk-read-requires : goal.find_walk-read-requires
@@ -14,22 +14,22 @@ find_walk-read-requires c =
 pub keep_front-requires : goal.keep_front-requires
 keep_front-requires c =
     let a = c.args in
-    omega (arith, c.line_count-n.ensures, (walk_rooms a.wrap a.raw a.width a.overflow _ _ _ c.of_walk-asked.ensures.verdict (c.find_walk-read.ensures _ _ _ _ c.of_walk-asked.ensures.asks)).0, c.find_walk-read.auto.given)
+    omega (arith, c.line_count-n.ensures, (walk_rooms a.wrap a.raw a.width a.overflow _ _ _ c.of_walk-asked.ensures.verdict (walk_opened c.of_walk-asked.ensures.asks c.find_walk-read.ensures)).0, c.find_walk-read.auto.given)
 
 pub keep_front-requires-2 : goal.keep_front-requires-2
 keep_front-requires-2 c =
     let a = c.args in
-    omega (arith, c.line_count-n.ensures, (walk_rooms a.wrap a.raw a.width a.overflow _ _ _ c.of_walk-asked.ensures.verdict (c.find_walk-read.ensures _ _ _ _ c.of_walk-asked.ensures.asks)).1, c.find_walk-read.auto.wide)
+    omega (arith, c.line_count-n.ensures, (walk_rooms a.wrap a.raw a.width a.overflow _ _ _ c.of_walk-asked.ensures.verdict (walk_opened c.of_walk-asked.ensures.asks c.find_walk-read.ensures)).1, c.find_walk-read.auto.wide)
 
 pub overflow_cast-result : goal.overflow_cast-result
 unfolding lines_in
-overflow_cast-result c = omega (arith, rw c.in_ok-read.was at (c.find_walk-read.ensures _ _ _ _ c.of_walk-asked.ensures.asks).few)
+overflow_cast-result c = omega (arith, rw c.in_ok-read.was at (walk_opened c.of_walk-asked.ensures.asks c.find_walk-read.ensures).few)
 
 pub returns : goal.returns
 returns c =
-    walk_answered c.of_walk-asked.ensures.verdict (c.find_walk-read.ensures _ _ _ _ c.of_walk-asked.ensures.asks) (sym c.in_ok-read.was) c.line_count-n.ensures c.find_walk-read.auto.given c.find_walk-read.auto.wide c.keep_front.ensures c.keep_front-2.ensures
+    walk_answered c.of_walk-asked.ensures.verdict (walk_opened c.of_walk-asked.ensures.asks c.find_walk-read.ensures) (sym c.in_ok-read.was) c.line_count-n.ensures c.find_walk-read.auto.given c.find_walk-read.auto.wide c.keep_front.ensures c.keep_front-2.ensures
 
 pub returns-in_err-read : goal.returns-in_err-read
 returns-in_err-read c =
     let q : c.from_residual.result ≡ Err c.in_err-read.field-0.0 = search rules in
-    walk_answered c.of_walk-asked.ensures.verdict (c.find_walk-read.ensures _ _ _ _ c.of_walk-asked.ensures.asks) (q ∙ sym c.in_err-read.was) c.line_count-n.ensures c.find_walk-read.auto.given c.find_walk-read.auto.wide c.keep_front.ensures c.keep_front-2.ensures
+    walk_answered c.of_walk-asked.ensures.verdict (walk_opened c.of_walk-asked.ensures.asks c.find_walk-read.ensures) (q ∙ sym c.in_err-read.was) c.line_count-n.ensures c.find_walk-read.auto.given c.find_walk-read.auto.wide c.keep_front.ensures c.keep_front-2.ensures

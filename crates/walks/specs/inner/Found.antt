@@ -13,16 +13,10 @@ pub record WalkRoom (given wide : List ℕ) : Type 0 where
   pub given_room : max_lines ≤ length given
   pub wide_room : max_lines ≤ length wide
 
--- so many widths, and places for their figures
-pub record TellRoom (n : ℕ) (walk : List (Option ℕ)) (given wide : List ℕ) : Type 0 where
-  pub walk_in : n ≤ length walk
-  pub given_in : n ≤ length given
-  pub wide_in : n ≤ length wide
-
--- each number of the first n of them, in its buffer
-pub record WalkTold (n : ℕ) (ps : List (Option ℕ)) (given wide : List ℕ) : Type 0 where
-  pub givens : take n given ≡ map given_number (take n ps)
-  pub wides : take n wide ≡ map width_number (take n ps)
+-- the two numbers of each width stand in front
+pub record WidthsWritten (ps : List (Option ℕ)) (given wide : List ℕ) : Type 0 where
+  pub givens : take (length ps) given ≡ map given_number ps
+  pub wides : take (length ps) wide ≡ map width_number ps
 
 -- the walk found in the sheet, or the first refusal; the figures stand in the first places
 pub record WalkFound (cs : List Check) (s : List ℕ) (wrap raw width : ℕ) (r : Result ℕ Refusal) (given wide : List ℕ) : Type 0 where

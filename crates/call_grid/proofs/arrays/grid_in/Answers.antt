@@ -1,35 +1,50 @@
 -- `call_grid::arrays::grid_in` meets its contract: the sheet has no more lines than the arrays have room for; they suffice for its tables, or nothing is found.
 -- Assumes nothing.
-use mathlib.Core.Path.{refl}
-use Rattle.std.proofs.Common.{rules}
+use Rattle.std.proofs.Common.{rules, ◌≡◌, Err}
+use mathlib.Core.Path.{refl, sym, ◌∙◌}
 use native.Mathlib.Omega.{arith}
-use Rattle.call_grid.specs.inner.Found.{entries_in, rows_in}
-use Rattle.sheet_figures.proofs.Openings.{opened_at, asked_in, most_few, most_room}
-use Rattle.call_grid.proofs.Found.{room_still, figures_fit, grid_found, grid_tried, grid_larger}
+use Rattle.opening.proofs.Measurable.{front_table}
+use Rattle.gridding.proofs.Cut.{made_within, made_records}
+use Rattle.table.proofs.Rooms.{grid_room, asked_ready}
+use Rattle.sheet_figures.proofs.Openings.{opened_at, opened_front, asked_lines, most_enough}
+use Rattle.call_grid.proofs.Found.{room_still, figures_fit, records_small, grid_found, grid_refused, tried_some, tried_none, tried_err}
 use Rattle.call_grid.proofs.arrays.grid_in.Goals as goal
 
-pub enough-requires : goal.enough-requires
-enough-requires g c = (asked_in (opened_at c.open_sheet-read.ensures) (omega (arith, c.requires.lines_room))).front
+pub returns-in_err-n-clause-tried : goal.returns-in_err-n-clause-tried
+returns-in_err-n-clause-tried g c =
+    let q : c.from_residual.result ≡ Err c.in_err-n.field-0.0 = search rules in
+    rw q (tried_err (grid_refused (sym c.open_sheet.ensures.answer ∙ c.in_err-n.was)))
+
+pub shared_whole_as_front-lines : goal.shared_whole_as_front-lines
+shared_whole_as_front-lines g c = (
+  omega (arith, opened_front (opened_at c.open_sheet.ensures c.in_ok-n.was) (omega (arith, c.requires.lines_room))),
+  omega (arith, c.requires.sizes.0),
+)
 
 pub returns-then-not-enough-clause-tried : goal.returns-then-not-enough-clause-tried
-returns-then-not-enough-clause-tried g c = grid_larger
+returns-then-not-enough-clause-tried g c = tried_none
 
-pub make_read-found-requires : goal.make_read-found-requires
-make_read-found-requires g c =
-    let a = asked_in (opened_at c.open_sheet-read.ensures) (omega (arith, c.requires.lines_room)) in record {
-      asked_in = a;
-      most_in = most_room a (most_few a (c.enough.ensures.enough_in c.if-not-enough.false)) (omega arith) (omega arith);
-    }
+pub overflow_sub-at : goal.overflow_sub-at
+overflow_sub-at g c = (front_table c.open_sheet.ensures refl _ c.in_ok-n.was).from_one
+
+pub make-counts-requires : goal.make-counts-requires
+make-counts-requires g c =
+    let a = asked_lines (opened_at c.open_sheet.ensures c.in_ok-n.was) in
+    asked_ready a (grid_room (most_enough a (c.enough.ensures.enough c.if-not-enough.false)) _ _ (omega arith) (omega arith))
+
+pub records-grid-requires : goal.records-grid-requires
+records-grid-requires g c = made_within c.make-counts.ensures
 
 pub write_grid-requires : goal.write_grid-requires
-unfolding entries_in rows_in
 write_grid-requires g c =
-    let a = asked_in (opened_at c.open_sheet-read.ensures) (omega (arith, c.requires.lines_room)) in
-    let m = most_few a (c.enough.ensures.enough_in c.if-not-enough.false) in
-    figures_fit a c.make_read-found.ensures m (room_still refl refl refl c.open_sheet-read.auto.scratch refl c.requires.grid_room) (omega arith) (omega arith) (search rules) (search rules)
+    let f = records_small (asked_lines (opened_at c.open_sheet.ensures c.in_ok-n.was)) (made_records c.make-counts.ensures c.records-grid.ensures) in
+    figures_fit f.0 f.1 (room_still refl refl refl c.open_sheet.auto.scratch refl c.requires.grid_room)
+
+pub answer_of-requires : goal.answer_of-requires
+answer_of-requires g c = records_small (asked_lines (opened_at c.open_sheet.ensures c.in_ok-n.was)) (made_records c.make-counts.ensures c.records-grid.ensures)
 
 pub returns-clause-tried : goal.returns-clause-tried
-unfolding entries_in rows_in
 returns-clause-tried g c =
-    let w = opened_at c.open_sheet-read.ensures in
-    grid_tried (grid_found w (asked_in w (omega (arith, c.requires.lines_room))) c.make_read-found.ensures c.write_grid.ensures (search rules) (search rules))
+    tried_some
+    (rw c.answer_of.ensures
+    (grid_found (opened_at c.open_sheet.ensures c.in_ok-n.was) (made_records c.make-counts.ensures c.records-grid.ensures) c.write_grid.ensures))

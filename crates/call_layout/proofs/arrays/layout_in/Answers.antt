@@ -1,40 +1,52 @@
 -- `call_layout::arrays::layout_in` meets its contract: the sheet has no more lines than the arrays have room for; they suffice for its tables, or nothing is
 -- found. Assumes nothing.
-use mathlib.Core.Path.{refl, ◌∙◌}
+use Rattle.std.proofs.Common.{rules, ◌≡◌, Err}
+use mathlib.Core.Path.{refl, sym, ◌∙◌}
 use native.Mathlib.Omega.{arith}
-use lib.ListN.{length-replicate}
-use Rattle.records.specs.Kept.{no_entry, no_row}
-use Rattle.records.specs.declared.Entry.{Entry}
-use Rattle.records.specs.declared.RowEnd.{RowEnd}
-use Rattle.opening.proofs.Measurable.{lent_few, front_table, table_measured}
-use Rattle.sheet_figures.proofs.Openings.{opened_at, asked_in, most_few, most_room}
-use Rattle.sheet_figures.proofs.Tables.{lines_of, measured_in}
-use Rattle.call_layout.proofs.Found.{out_still, layout_found, layout_tried, layout_larger}
+use Rattle.opening.proofs.Measurable.{front_measurable, front_table, lent_enough}
+use Rattle.table.proofs.Rooms.{grid_room}
+use Rattle.sheet_figures.proofs.Openings.{opened_at, opened_front, asked_lines, most_enough}
+use Rattle.sheet_figures.proofs.Tables.{lines_below, table_known}
+use Rattle.call_layout.proofs.Found.{out_still, layout_found, layout_refused, tried_some, tried_none, tried_err}
 use Rattle.call_layout.proofs.arrays.layout_in.Goals as goal
 
-pub enough-requires : goal.enough-requires
-enough-requires g c = (asked_in (opened_at c.open_sheet-read.ensures) (omega (arith, c.requires.lines_room))).front
+pub returns-in_err-n-clause-tried : goal.returns-in_err-n-clause-tried
+returns-in_err-n-clause-tried g c =
+    let q : c.from_residual.result ≡ Err c.in_err-n.field-0.0 = search rules in
+    rw q (tried_err (layout_refused (sym c.open_sheet.ensures.answer ∙ c.in_err-n.was)))
+
+pub shared_whole_as_front-lines : goal.shared_whole_as_front-lines
+shared_whole_as_front-lines g c = (
+  omega (arith, opened_front (opened_at c.open_sheet.ensures c.in_ok-n.was) (omega (arith, c.requires.lines_room))),
+  omega (arith, c.requires.sizes.0),
+)
 
 pub returns-then-not-enough-clause-tried : goal.returns-then-not-enough-clause-tried
-returns-then-not-enough-clause-tried g c = layout_larger
+returns-then-not-enough-clause-tried g c = tried_none
 
-pub measure_read-requires : goal.measure_read-requires
-measure_read-requires g c =
-    let p = c.requires in
-    lent_few c.open_sheet-read.ensures (omega (arith, p.lines_room)) (omega (arith, p.lines_room)) (front_table c.open_sheet-read.ensures refl) _ _ _
-    (omega (arith, p.out_room.column_room, c.open_sheet-read.auto.scratch)) (rw (length-replicate {A = Entry} g.row.E no_entry, length-replicate {A = RowEnd} g.row.L no_row) (c.enough.ensures.enough_in c.if-not-enough.false))
+pub overflow_sub-at : goal.overflow_sub-at
+overflow_sub-at g c = (front_table c.open_sheet.ensures refl _ c.in_ok-n.was).from_one
 
-pub layout_read-found-requires : goal.layout_read-found-requires
-layout_read-found-requires g c =
-    let p = c.requires in
-    let w = lines_of (table_measured c.open_sheet-read.ensures c.measure_read.ensures) in
-    let a = asked_in w.opened (omega (arith, p.lines_room)) in record {
-      asked_in = a;
-      most_in = most_room a (most_few a (c.enough.ensures.enough_in c.if-not-enough.false)) (omega arith) (omega arith);
-      measured_in = measured_in w (omega (arith, p.lines_room));
-      width_le_max_size = c.args.settings.in_range.1;
-      out_room = out_still (c.measure_read.auto.leasts ∙ c.open_sheet-read.auto.scratch) refl refl p.out_room;
+pub measure_below-requires : goal.measure_below-requires
+measure_below-requires g c =
+    let room = c.requires.lines_room in
+    let t = front_table c.open_sheet.ensures refl _ c.in_ok-n.was in record {
+      lent = lent_enough (front_measurable c.open_sheet.ensures _ c.in_ok-n.was (omega (arith, room)) (omega (arith, room))).1
+          (omega (arith, c.requires.out_room.column_room, c.open_sheet.auto.scratch)) (c.enough.ensures.enough c.if-not-enough.false) (omega arith) (omega arith);
+      at_in_bounds = omega (arith, t.from_one, t.within);
+      at_table = t.kind;
     }
 
+pub invariant_of-t : goal.invariant_of-t
+invariant_of-t g c = record { known = table_known (lines_below c.open_sheet.ensures c.in_ok-n.was c.measure_below.ensures) (omega (arith, c.requires.lines_room)) }
+
+pub layout_of-layout-requires : goal.layout_of-layout-requires
+layout_of-layout-requires g c = record {
+  grid_room = grid_room (most_enough (asked_lines (opened_at c.open_sheet.ensures c.in_ok-n.was)) (c.enough.ensures.enough c.if-not-enough.false)) _ _ (omega arith) (omega arith);
+  width_le_max_size = omega (arith, c.args.settings.width_bound);
+  out_room = out_still (c.measure_below.auto.leasts ∙ c.open_sheet.auto.scratch) refl refl c.requires.out_room;
+}
+
 pub returns-clause-tried : goal.returns-clause-tried
-returns-clause-tried g c = layout_tried (layout_found (lines_of (table_measured c.open_sheet-read.ensures c.measure_read.ensures)) c.args.settings.in_range.0 c.layout_read-found.ensures)
+returns-clause-tried g c =
+    tried_some (layout_found (lines_below c.open_sheet.ensures c.in_ok-n.was c.measure_below.ensures) c.args.settings.raw_bound c.layout_of-layout.ensures)

@@ -9,7 +9,7 @@ use native.Mathlib.Omega.{arith}
 use lib.ListN.{length, get_or, set, length-set}
 use Rattle.records.specs.Kept.{no_entry}
 use Rattle.records.specs.declared.Entry.{Entry}
-use Rattle.cells.specs.Held.{entry_cells_of, entry_spans_of}
+use Rattle.records.specs.Figures.{entry_cells_of, entry_spans_of}
 use Rattle.edges.specs.Edges.{is_edge, count_below, part}
 use Rattle.edges.proofs.Columns.{row_length}
 use Rattle.edges.proofs.RenumberLoop.{Sofar, found, not_found, start, stop, turn, turn_at, turn_fits, turn_missing, entry_span_lem, entry_cell_lem}

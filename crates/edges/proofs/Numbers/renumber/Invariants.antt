@@ -4,7 +4,7 @@
 use mathlib.Core.Path.{◌≡◌}
 use Prim.Native.Nat.{◌-◌}
 use lib.ListN.{length}
-use Rattle.cells.specs.Held.{entry_cells_of, entry_spans_of}
+use Rattle.records.specs.Figures.{entry_cells_of, entry_spans_of}
 use Rattle.edges.specs.Edges.{is_edge, part}
 use Rattle.edges.proofs.RenumberLoop.{Sofar}
 use Rattle.edges.proofs.Numbers.renumber.Given as goal

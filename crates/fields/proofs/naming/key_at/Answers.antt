@@ -1,7 +1,7 @@
 -- `fields::naming::key_at` meets its contract. The invariant: what is read from the place reached, after the letters so far, is what is read
 -- from the start. Each way out of a turn, and the turn itself, is a law on the bytes from the place on. Assumes nothing.
 use mathlib.Core.Path.{sym, ap, ◌∙◌}
-use Prim.Native.Nat.{ℕ, ◌+◌}
+use Prim.Native.Nat.{ℕ, ◌+◌, ◌-◌, ◌*◌}
 use native.Mathlib.Omega.{arith}
 use lib.ListN.{drop}
 use Rattle.fields.specs.Reading.{key_from}
@@ -31,7 +31,7 @@ pub loop-i-preserved : goal.loop-i-preserved
 loop-i-preserved c =
     let l = c.loop-i in
     let a = c.args in
-    ap (λ (k : ℕ). key_from k (l.i + 1) (drop (l.i + 1) a.bytes.now)) c.longer-key.ensures
+    ap (λ (b : ℕ). key_from (l.key * 32 + (b - 96)) (l.i + 1) (drop (l.i + 1) a.bytes.now)) c.from.ensures
     ∙ sym
     (key_more l.key l.i _ (omega arith) c.if-b-eq32.false (sym c.is_ascii_lowercase.ensures.value ∙ c.if-not-is_ascii_lowercase.false)
     c.if-key-ge-NINE_LETTERS.false)

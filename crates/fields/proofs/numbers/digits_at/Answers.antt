@@ -2,7 +2,7 @@
 -- after that value, is what is read from the start. Each way out of a turn, and the turn itself, is a law on the bytes from the place on.
 -- Assumes nothing.
 use mathlib.Core.Path.{sym, ap, ◌∙◌}
-use Prim.Native.Nat.{ℕ, ◌+◌}
+use Prim.Native.Nat.{ℕ, ◌+◌, ◌*◌}
 use native.Mathlib.Omega.{arith}
 use lib.ListN.{drop}
 use Rattle.fields.specs.Reading.{digits_read}
@@ -33,7 +33,7 @@ loop-i-preserved c =
     let l = c.loop-i in
     let a = c.args in (
       omega arith,
-      ap (λ (v : ℕ). digits_read a.most v (l.i + 1) (drop (l.i + 1) a.bytes.now)) c.grown-value.ensures
+      ap (λ (d : ℕ). digits_read a.most (l.value * 10 + d) (l.i + 1) (drop (l.i + 1) a.bytes.now)) c.from.ensures
           ∙ sym (digits_more _ l.value l.i _ (omega arith) c.if-b-eq32.false (sym c.is_ascii_digit.ensures.value ∙ c.if-not-is_ascii_digit.false) (omega arith))
           ∙ l.invariant.1,
     )

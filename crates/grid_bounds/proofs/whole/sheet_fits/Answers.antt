@@ -7,10 +7,10 @@ use Rattle.grid_bounds.proofs.SheetLoop.{sheet_stop, sheet_other, sheet_cell}
 use Rattle.grid_bounds.proofs.whole.sheet_fits.Goals as goal
 use Rattle.grid_bounds.proofs.whole.sheet_fits.Goals.{then-is_cell+else-not-has_room, else-is_cell}
 
-pub loop-i-preserved : goal.loop-i-preserved
-loop-i-preserved c =
-    let z = c.loop-i.invariant in
-    let here : c.loop-i.i < length c.args.lines.now = omega arith in
+pub loop-line-preserved : goal.loop-line-preserved
+loop-line-preserved c =
+    let z = c.loop-line.invariant in
+    let here : c.loop-line.line-index < length c.args.lines.now = omega arith in
     elim c.if-is_cell.branch [
       | then-is_cell+else-not-has_room w ↦
           rw (w.end-is, w.entries-is) (sheet_cell z here (sym c.eq-is_cell.ensures ∙ w.if-is_cell.true) _ _ w.from-cols.ensures w.from-rows.ensures (w.has_room.ensures w.if-not-has_room.false))
@@ -18,4 +18,4 @@ loop-i-preserved c =
     ]
 
 pub returns : goal.returns
-returns c = λ _. sheet_stop c.loop-i.invariant (omega arith)
+returns c = λ _. sheet_stop c.loop-line.invariant (omega arith)

@@ -2,5 +2,5 @@
 use Rattle.grid_bounds.proofs.SheetLoop.{SheetLoop}
 use Rattle.grid_bounds.proofs.whole.sheet_fits.Given as goal
 
-abbrev pub invariant-loop-i : goal.invariant-loop-i
-invariant-loop-i l = SheetLoop l.lines l.most l.end l.entries l.i
+abbrev pub invariant-loop-line : goal.invariant-loop-line
+invariant-loop-line l = SheetLoop l.lines l.most l.end l.entries l.line-index

@@ -1,28 +1,34 @@
 -- `missing::sheets::explain_sheet` meets its contract: no sheet has more lines, and no table more entries, than the arrays have room for. Assumes nothing.
-use mathlib.Core.Path.{refl}
+use Rattle.std.proofs.Common.{rules, ◌≡◌, Err}
+use mathlib.Core.Path.{sym, ◌∙◌}
 use native.Mathlib.Omega.{arith}
-use Rattle.sheet_figures.proofs.Openings.{asked_in}
-use Rattle.sheet_figures.proofs.Tables.{lines_of, measured_in}
-use Rattle.missing.proofs.Read.{room_still, missing_found}
+use lib.Seq.{length-take-le}
+use Rattle.sheet_figures.specs.inner.Opened.{LinesOf}
+use Rattle.sheet_figures.proofs.Openings.{opened_apt, opened_front}
+use Rattle.sheet_figures.proofs.Tables.{lines_of, table_known}
+use Rattle.missing.proofs.Read.{missing_found, missing_refused}
 use Rattle.missing.proofs.sheets.explain_sheet.Goals as goal
+use Rattle.missing.proofs.sheets.explain_sheet.Goals.{In_ok-n}
 
-pub measure_table-read-requires : goal.measure_table-read-requires
-measure_table-read-requires c =
-    record {
-      bytes_bound = omega arith;
-      bytes_in_bounds = omega arith;
-      scratch_for_any = record { leasts_room = c.requires.cause_room; entries_room = omega arith; rows_room = omega arith };
-    }
+pub returns-in_err-n : goal.returns-in_err-n
+returns-in_err-n c =
+    let q : c.from_residual.result ≡ Err c.in_err-n.field-0.0 = search rules in
+    rw q (missing_refused (sym c.measure_table.ensures.opened.answer ∙ c.in_err-n.was))
 
-pub explain_read-requires : goal.explain_read-requires
-explain_read-requires c =
-    let m = c.measure_table-read in
-    let w = lines_of c.measure_table-read.ensures in record {
-      asked_in = asked_in w.opened (omega arith);
-      max_entries_in_bounds = (omega arith, omega arith);
-      measured_in = measured_in w (omega arith);
-      explain_room = room_still refl c.measure_table-read.auto.leasts c.requires;
-    }
+opened : (c : In_ok-n) → LinesOf c.args.sheet.now c.args.line c.args.settings.wrap c.in_ok-n.n c.measure_table.new.lines c.measure_table.new.figures
+opened c = lines_of c.measure_table.ensures c.in_ok-n.was
+
+pub slice_bounds-lines-end : goal.slice_bounds-lines-end
+slice_bounds-lines-end c = opened_front (opened (goal.at.slice_bounds-lines-end c).In_ok-n).opened (omega arith)
+
+pub slice_bounds-t-end : goal.slice_bounds-t-end
+slice_bounds-t-end c = sym (length-take-le _ _ (opened_front (opened (goal.at.slice_bounds-t-end c).In_ok-n).opened (omega arith)))
+
+pub overflow_sub-t : goal.overflow_sub-t
+overflow_sub-t c = (opened_apt (opened (goal.at.overflow_sub-t c).In_ok-n).opened).from_one
+
+pub invariant_of-t : goal.invariant_of-t
+invariant_of-t c = record { known = table_known (opened (goal.at.invariant_of-t c).In_ok-n) (omega arith) }
 
 pub returns : goal.returns
-returns c = missing_found (lines_of c.measure_table-read.ensures) c.explain_read.ensures
+returns c = missing_found (opened (goal.at.returns c).In_ok-n) c.explain-causes.ensures

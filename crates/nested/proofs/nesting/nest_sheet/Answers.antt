@@ -1,13 +1,17 @@
 -- `nested::nesting::nest_sheet` meets its contract: a sheet has no more lines than the arrays have room for, and the buffer of the columns a place for each.
 -- Assumes nothing.
-use mathlib.Core.Path.{refl}
+use Rattle.std.proofs.Common.{rules, ◌≡◌, Err}
+use mathlib.Core.Path.{refl, sym}
 use native.Mathlib.Omega.{arith}
+use lib.Seq.{length-take-le}
+use Rattle.sheet_figures.proofs.Openings.{opened_apt, opened_front}
+use Rattle.sheet_figures.proofs.Tables.{table_known}
 use Rattle.call_layout.proofs.Found.{out_still}
-use Rattle.nested.proofs.NestCall.{nest_asked, nest_measured, place_in, width_small, nest_found}
+use Rattle.nested.proofs.NestCall.{lines_of, place_in, width_small, nest_found, nest_refused}
 use Rattle.nested.proofs.nesting.nest_sheet.Goals as goal
 
-pub walk_sheet-read-requires : goal.walk_sheet-read-requires
-walk_sheet-read-requires c =
+pub walk_sheet-requires : goal.walk_sheet-requires
+walk_sheet-requires c =
     record {
       sheet_bound = omega arith;
       figures_in_bounds = omega arith;
@@ -15,17 +19,31 @@ walk_sheet-read-requires c =
       max_position_in_bounds = c.requires.column_room;
     }
 
-pub width_for-at-requires : goal.width_for-at-requires
-width_for-at-requires c = place_in c.walk_sheet-read.ensures _ (omega arith)
+pub returns-in_err-n : goal.returns-in_err-n
+returns-in_err-n c =
+    let q : c.from_residual.result ≡ Err c.in_err-n.field-0.0 = search rules in
+    rw q (nest_refused c.walk_sheet.ensures c.in_err-n.was)
 
-pub nest_read-requires : goal.nest_read-requires
-nest_read-requires c =
-    record {
-      asked_in = nest_asked c.walk_sheet-read.ensures (omega arith);
-      measured_in = nest_measured c.walk_sheet-read.ensures (omega arith);
-      raw_bound = (c.args.settings.in_range.0, width_small c.walk_sheet-read.ensures _ c.width_for-at.ensures);
-      out_room = out_still c.walk_sheet-read.auto.leasts refl refl c.requires;
-    }
+pub overflow_sub-at : goal.overflow_sub-at
+overflow_sub-at c = (opened_apt (lines_of c.walk_sheet.ensures c.in_ok-n.was).opened).from_one
+
+pub slice_bounds-lines-end : goal.slice_bounds-lines-end
+slice_bounds-lines-end c = opened_front (lines_of c.walk_sheet.ensures c.in_ok-n.was).opened (omega arith)
+
+pub slice_bounds-t-end : goal.slice_bounds-t-end
+slice_bounds-t-end c = sym (length-take-le _ _ (opened_front (lines_of c.walk_sheet.ensures c.in_ok-n.was).opened (omega arith)))
+
+pub bounds-walk-at : goal.bounds-walk-at
+bounds-walk-at c = omega (arith, place_in c.walk_sheet.ensures c.in_ok-n.was c.walk_sheet.new.walk (omega arith))
+
+pub invariant_of-t : goal.invariant_of-t
+invariant_of-t c = record { known = table_known (lines_of c.walk_sheet.ensures c.in_ok-n.was) (omega arith) }
+
+pub nest-nested-requires : goal.nest-nested-requires
+nest-nested-requires c = record {
+  width_small = width_small c.walk_sheet.ensures c.in_ok-n.was;
+  out_room = out_still c.walk_sheet.auto.leasts refl refl c.requires;
+}
 
 pub returns : goal.returns
-returns c = nest_found c.walk_sheet-read.ensures c.args.settings.in_range.0 _ c.width_for-at.ensures c.nest_read.ensures
+returns c = nest_found c.walk_sheet.ensures c.in_ok-n.was c.args.settings.raw_bound c.nest-nested.ensures

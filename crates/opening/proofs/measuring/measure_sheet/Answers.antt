@@ -1,13 +1,22 @@
 -- `opening::measuring::measure_sheet` meets its contract: an opened sheet can be measured, in slices that are as long as they were. Assumes nothing.
+use mathlib.Core.Path.{sym}
 use native.Mathlib.Omega.{arith}
-use Rattle.opening.proofs.Measurable.{any_still, lent_any, sheet_in, sheet_measured}
+use lib.ListN.{length, take}
+use lib.Seq.{length-take-le}
+use Prim.Native.Nat.{◌≤◌}
+use Rattle.opening.specs.inner.Measures.{Measurable}
+use Rattle.opening.proofs.Measurable.{any_still, front_measurable, lent_any}
 use Rattle.opening.proofs.measuring.measure_sheet.Goals as goal
+use Rattle.opening.proofs.measuring.measure_sheet.Goals.{In_ok-n}
 
-pub measure_read-requires : goal.measure_read-requires
-measure_read-requires c =
-    let o = c.open_sheet-read in
-    let p = c.requires in
-    lent_any c.open_sheet-read.ensures (omega (arith, p.bytes_bound, c.open_sheet-read.auto.lines)) p.bytes_in_bounds (λ n e. sheet_in _) _ _ _ (any_still c.open_sheet-read.auto.scratch p.scratch_for_any)
+front : (c : In_ok-n) → (c.in_ok-n.n ≤ length c.open_sheet.new.lines) × Measurable (take c.in_ok-n.n c.open_sheet.new.lines) c.args.figures.now
+front c = front_measurable c.open_sheet.ensures _ c.in_ok-n.was (omega (arith, c.requires.bytes_bound, c.open_sheet.auto.lines)) c.requires.bytes_in_bounds
 
-pub returns : goal.returns
-returns c = sheet_measured c.open_sheet-read.ensures c.measure_read.ensures
+pub slice_bounds-measure-end : goal.slice_bounds-measure-end
+slice_bounds-measure-end c = (front (goal.at.slice_bounds-measure-end c).In_ok-n).0
+
+pub slice_bounds-measure-end-2 : goal.slice_bounds-measure-end-2
+slice_bounds-measure-end-2 c = sym (length-take-le _ _ (front (goal.at.slice_bounds-measure-end-2 c).In_ok-n).0)
+
+pub measure-requires : goal.measure-requires
+measure-requires c = lent_any (front (goal.at.measure-requires c).In_ok-n).1 (any_still c.open_sheet.auto.scratch c.requires.scratch_for_any)

@@ -1,19 +1,26 @@
--- `report::each::table` meets its contract: a table of a listed sheet can be laid out in the lent slices (`table_ready`, `layout_room`), and what is laid out
--- stands in their fronts (`front_ready`, `rows_few`). Assumes nothing.
+-- `report::each::table` meets its contract: a table of a walked sheet can be laid out in the lent slices, and what is laid out can be explained there.
+-- Assumes nothing.
+use mathlib.Core.Path.{sym}
+use Prim.Native.Nat.{◌≤◌}
 use native.Mathlib.Omega.{arith}
-use Rattle.report.proofs.Ready.{few_columns, front_ready, rows_few}
+use lib.ListN.{length}
+use lib.Seq.{length-take-le}
+use Rattle.gridding.proofs.Cut.{made_within}
+use Rattle.report.proofs.Ready.{few_columns, explainable}
 use Rattle.walking.proofs.Merely.{walkable}
-use Rattle.walking.proofs.HandOut.{table_ready, layout_room}
-use Rattle.table.proofs.Grids.{all_table}
+use Rattle.walking.proofs.HandOut.{table_known, grid_room, layout_room}
 use Rattle.report.proofs.each.table.Goals as goal
+use Rattle.report.proofs.each.table.Goals.{After-arrange-arranged}
+
+pub invariant_of-t : goal.invariant_of-t
+invariant_of-t c = record { known = table_known (walkable c.args.m.walkable) c.requires.within c.requires.kind }
 
 pub arrange-arranged-requires : goal.arrange-arranged-requires
 arrange-arranged-requires c =
     let p = walkable c.args.m.walkable in
     let t = c.requires in
     record {
-      table_ready = table_ready p t.within t.kind c.args.s.now.rooms;
-      table_measured = all_table _ p.measured;
+      grid_room = grid_room p t.within t.kind c.args.s.now.rooms;
       layout_room = layout_room p t.within t.kind c.args.s.now.rooms c.args.asked.width_bound;
     }
 
@@ -24,13 +31,21 @@ pub overflow_cast-line : goal.overflow_cast-line
 overflow_cast-line c = omega (arith, c.requires.within, (walkable c.args.m.walkable).lined.short)
 
 pub overflow_cast-counts : goal.overflow_cast-counts
-overflow_cast-counts c =
-    omega (arith, few_columns (walkable c.args.m.walkable) c.args.asked.width_bound c.requires c.arrange-arranged.ensures.made.columns_are)
+overflow_cast-counts c = omega (arith, few_columns (walkable c.args.m.walkable) c.requires c.arrange-arranged.ensures.made.columns_are)
+
+pub records-requires : goal.records-requires
+records-requires c = made_within c.arrange-arranged.ensures.made
+
+columns : (c : After-arrange-arranged) → c.arrange-arranged.result.counts.columns ≤ length c.arrange-arranged.new.column
+columns c = omega (arith, few_columns (walkable c.args.m.walkable) c.requires c.arrange-arranged.ensures.made.columns_are, c.args.s.now.rooms.column_room, c.arrange-arranged.auto.column)
+
+pub slice_bounds-shown-end : goal.slice_bounds-shown-end
+slice_bounds-shown-end c = sym (length-take-le _ _ (columns (goal.at.slice_bounds-shown-end c).After-arrange-arranged))
 
 pub shown-requires : goal.shown-requires
 shown-requires c =
-    let p = walkable c.args.m.walkable in
-    let a = c.arrange-arranged in record {
-      front_ready = front_ready p c.args.asked.width_bound c.requires c.args.s.now.rooms _ _ a.auto.entries a.auto.rows a.ensures.made a.auto.x a.auto.wide;
-      rows_few = rows_few p c.args.asked.width_bound c.requires c.args.s.now.rooms _ _ a.auto.entries a.auto.rows a.ensures.made;
+    let a = c.arrange-arranged in
+    let n = length-take-le a.result.counts.columns a.new.column (columns (goal.at.shown-requires c).After-arrange-arranged) in record {
+      explainable = rw (n, ← c.records.ensures.columns_are) (explainable (walkable c.args.m.walkable) c.requires a.ensures.made c.records.ensures c.args.s.now.rooms a.auto.x);
+      cause_in = omega (arith, n, few_columns (walkable c.args.m.walkable) c.requires a.ensures.made.columns_are, c.args.s.now.rooms.wide_room, a.auto.wide);
     }

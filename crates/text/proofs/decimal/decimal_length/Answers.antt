@@ -5,14 +5,8 @@ use native.Mathlib.Omega.{arith}
 use Rattle.text.proofs.Digits.{digits_less, digits_more, digits_le}
 use Rattle.text.proofs.decimal.decimal_length.Goals as goal
 
-pub loop-m-init : goal.loop-m-init
-loop-m-init c = omega arith
-
 pub overflow_add-count : goal.overflow_add-count
 overflow_add-count c = omega (arith, digits_le 19 c.args.n (omega arith))
-
-pub loop-m-smaller : goal.loop-m-smaller
-loop-m-smaller c = omega arith
 
 pub loop-m-preserved : goal.loop-m-preserved
 loop-m-preserved c = omega (arith, digits_more c.loop-m.m (omega arith))

@@ -1,13 +1,14 @@
 -- `walking::giving::hand_out` meets its contract: the table can be laid out, and the widths of its entries are those of its cells, by the laws of HandOut.
 -- Assumes nothing.
 use mathlib.Core.Path.{◌≡◌, refl, sym, ◌∙◌}
+use native.Mathlib.Omega.{arith}
 use lib.ListN.{get_or}
+use lib.Seq.{length-take-le}
 use borrow.Author.Tests.{eqb-true, eqb-false, not-true, not-false}
 use Rattle.kinds.specs.Kinds.{kind_number, table_kind}
 use Rattle.records.specs.Kept.{no_kept}
 use Rattle.walking.proofs.Merely.{walkable}
-use Rattle.walking.proofs.HandOut.{table_ready, layout_room, small_here, cells_fit, cells_room, wides_room, handed, handed_at, handed_other, handed_none}
-use Rattle.table.proofs.Grids.{all_table}
+use Rattle.walking.proofs.HandOut.{table_known, grid_room, layout_room, small_here, cells_fit, wides_room, handed, handed_at, handed_other, handed_none}
 use Rattle.walking.proofs.giving.hand_out.Goals as goal
 use Rattle.walking.proofs.giving.hand_out.Goals.{Else-ne}
 
@@ -21,22 +22,29 @@ returns-then-ne c = handed_other (eqb-false _ _ (not-true _ (sym c.ne.ensures �
 pub returns-in_default : goal.returns-in_default
 returns-in_default c = handed_none c.in_default.is
 
+pub invariant_of-t : goal.invariant_of-t
+invariant_of-t c = record { known = table_known (walkable c.args.m.walkable) c.requires.hand_ready.within (is_table (goal.at.invariant_of-t c).Else-ne) }
+
 pub arrange-arranged-requires : goal.arrange-arranged-requires
 arrange-arranged-requires c =
     let p = walkable c.args.m.walkable in
     let kind = is_table (goal.at.arrange-arranged-requires c).Else-ne in
     let within = c.requires.hand_ready.within in
     let rooms = c.args.s.now.rooms in record {
-      table_ready = table_ready p within kind rooms;
-      table_measured = all_table _ p.measured;
+      grid_room = grid_room p within kind rooms;
       layout_room = layout_room p within kind rooms (small_here c.in-Some.is c.requires.hand_ready);
     }
+
+pub slice_bounds-print_cells-end-2 : goal.slice_bounds-print_cells-end-2
+slice_bounds-print_cells-end-2 c =
+    let w = wides_room (walkable c.args.m.walkable) c.requires.hand_ready.within (is_table (goal.at.slice_bounds-print_cells-end-2 c).Else-ne) _ _ c.args.s.now.rooms c.arrange-arranged.auto.wide in
+    sym (length-take-le _ _ (omega (arith, c.arrange-arranged.ensures.made.entries_are, w)))
 
 pub print_cells-requires : goal.print_cells-requires
 print_cells-requires c =
     let p = walkable c.args.m.walkable in
     let kind = is_table (goal.at.print_cells-requires c).Else-ne in
-    cells_fit p c.requires.hand_ready.within c.arrange-arranged.ensures _ _ refl (cells_room p c.requires.hand_ready.within kind _ _ c.args.s.now.rooms c.arrange-arranged.auto.entries)
+    cells_fit p c.requires.hand_ready.within c.arrange-arranged.ensures _
     (wides_room p c.requires.hand_ready.within kind _ _ c.args.s.now.rooms c.arrange-arranged.auto.wide) c.requires.lines_in_bounds
 
 pub returns : goal.returns

@@ -4,4 +4,4 @@ use Rattle.walking.proofs.CellLoop.{Sofar}
 use Rattle.walking.proofs.giving.print_cells.Given as goal
 
 abbrev pub invariant-loop-k : goal.invariant-loop-k
-invariant-loop-k l = Sofar l.n l.entries l.wide l.initial.walk l.walk l.k
+invariant-loop-k l = Sofar l.entries l.wide l.initial.walk l.walk l.k

@@ -1,11 +1,14 @@
 -- `walks::walking_out::walk_out` meets its contract: a sheet has no more lines than the arrays have room for, and the first buffer a place for each column.
 -- Assumes nothing.
+use Rattle.std.proofs.Common.{rules, ◌≡◌, Err}
+use mathlib.Core.Path.{sym}
 use native.Mathlib.Omega.{arith}
-use Rattle.walks.proofs.WalkCall.{lines_few, tell_room, walk_found}
+use lib.Seq.{length-take-le}
+use Rattle.walks.proofs.WalkCall.{lines_few, walk_found, walk_refused}
 use Rattle.walks.proofs.walking_out.walk_out.Goals as goal
 
-pub walk_sheet-read-requires : goal.walk_sheet-read-requires
-walk_sheet-read-requires c =
+pub walk_sheet-requires : goal.walk_sheet-requires
+walk_sheet-requires c =
     record {
       sheet_bound = omega arith;
       figures_in_bounds = omega arith;
@@ -13,9 +16,22 @@ walk_sheet-read-requires c =
       max_position_in_bounds = c.requires.given_room;
     }
 
-pub tell-requires : goal.tell-requires
-tell-requires c =
-    tell_room _ c.args.sheet.now _ c.line_count.ensures (lines_few c.walk_sheet-read.ensures) (omega arith) (omega (arith, c.requires.given_room, c.walk_sheet-read.auto.leasts)) c.requires.wide_room
+pub returns-in_err-n : goal.returns-in_err-n
+returns-in_err-n c =
+    let q : c.from_residual.result ≡ Err c.in_err-n.field-0.0 = search rules in
+    rw q (walk_refused c.walk_sheet.ensures c.in_err-n.was)
+
+pub slice_bounds-walk-end : goal.slice_bounds-walk-end
+slice_bounds-walk-end c = omega (arith, (lines_few c.walk_sheet.ensures c.in_ok-n.was).0)
+
+pub slice_bounds-write_widths-end : goal.slice_bounds-write_widths-end
+slice_bounds-write_widths-end c = sym (length-take-le _ _ (omega (arith, (lines_few c.walk_sheet.ensures c.in_ok-n.was).0)))
+
+pub write_widths-requires : goal.write_widths-requires
+write_widths-requires c =
+    let f = lines_few c.walk_sheet.ensures c.in_ok-n.was in
+    let l = length-take-le c.in_ok-n.n c.walk_sheet.new.walk (omega (arith, f.0)) in
+    (omega (arith, l, f.1, c.requires.given_room, c.walk_sheet.auto.leasts), omega (arith, l, f.1, c.requires.wide_room))
 
 pub returns : goal.returns
-returns c = walk_found c.walk_sheet-read.ensures _ c.line_count.ensures c.tell.ensures
+returns c = walk_found c.walk_sheet.ensures c.in_ok-n.was (omega (arith, (lines_few c.walk_sheet.ensures c.in_ok-n.was).0)) c.write_widths.ensures

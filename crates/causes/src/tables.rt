@@ -1,0 +1,70 @@
+// The causes of a table's columns and its missing entries, from the records of its entries and the estimates.
+ghost use Rattle.std.specs.Prelude.{◌≡◌, ◌≤◌, length};
+ghost use Rattle.lists.specs.Limits.{max_position};
+ghost use Rattle.sizing.specs.inner.Room.{Entered};
+ghost use Rattle.causes.specs.inner.Telling.{Tellable};
+ghost use Rattle.causes.specs.inner.Tables.{causes_in, Explainable, Explained};
+
+use lists::MAX_POSITION;
+use records::Entry;
+use text::Estimate;
+
+// The causes, with a place for each figure of a column.
+fn causes_by(
+    entries: &[Entry],
+    figures: &[Estimate],
+    raw: u32,
+    width: u32,
+    sizes: &mut [u32],
+    leasts: &mut [u32],
+    shares: &mut [u32],
+    column: &mut [u32],
+    cause: &mut [u32],
+)
+    requires tellable { Tellable entries.now figures.now sizes.old leasts.old shares.old column.old }
+    requires cause_len { length cause.old ≡ length column.old }
+    ensures { cause.new ≡ causes_in entries.now figures.now (length cause.old) raw width }
+{
+    crate::tell_columns(entries, figures, raw, width, sizes, leasts, shares, column);
+    crate::write_causes(width, sizes, shares, column, cause);
+}
+
+// The causes of any number of columns. The room is cleared with each call.
+fn tell_causes(entries: &[Entry], figures: &[Estimate], raw: u32, width: u32, cause: &mut [u32])
+    requires entered { Entered entries.now figures.now (length cause.old) }
+    requires cause_len_bound { length cause.old ≤ max_position }
+    ensures { cause.new ≡ causes_in entries.now figures.now (length cause.old) raw width }
+{
+    let mut sizes = [0u32; MAX_POSITION];
+    let mut leasts = [0u32; MAX_POSITION];
+    let mut shares = [0u32; MAX_POSITION];
+    let mut column = [0u32; MAX_POSITION];
+    let c = cause.len();
+    causes_by(
+        entries,
+        figures,
+        raw,
+        width,
+        &mut sizes[..c],
+        &mut leasts[..c],
+        &mut shares[..c],
+        &mut column[..c],
+        cause,
+    );
+}
+
+// The causes of the columns of a table, one for each, and its missing entries, which are written to the front of their buffer: how many there are.
+pub fn explain(
+    entries: &[Entry],
+    figures: &[Estimate],
+    raw: u32,
+    width: u32,
+    entry: &mut [u32],
+    cause: &mut [u32],
+) -> usize
+    requires { Explainable entries.now figures.now (length cause.old) entry.old }
+    ensures { Explained entries.now figures.now (length cause.old) raw width result entry.new cause.new }
+{
+    tell_causes(entries, figures, raw, width, cause);
+    crate::list_missing(entries, cause, entry)
+}
