@@ -1,5 +1,4 @@
 // What the public calls answer of a sheet and of each of its tables, printed from the buffers that they fill: it is compared with the Rust.
-use answers::Grid;
 use kinds::Kind;
 use lists::{MAX_ENTRIES, MAX_LINES, MAX_POSITION};
 use printing::Output;
@@ -9,25 +8,23 @@ use writing::entries::{Entries, number_at, row_ends};
 use writing::lines::{four, two, words};
 use writing::tables::{cells, heading};
 
-// The grid of the table on a line as records, from the buffers that the call fills; `first` and `span` are two of these.
-fn grid_records(
-    sheet: &[u8],
-    line: u32,
-    rows: &mut [RowEnd; MAX_LINES],
-    entries: &mut [Entry; MAX_ENTRIES],
-    first: &mut [u32; MAX_ENTRIES],
-    span: &mut [u32; MAX_ENTRIES],
-) -> Option<Grid> {
-    let mut cell = [0u32; MAX_ENTRIES];
-    let mut row = [0u32; MAX_LINES];
-    let mut end = [0u32; MAX_LINES];
-    let grid = call_grid::grid(sheet, line, &mut cell, first, span, &mut row, &mut end).ok()?;
+// The rows of a grid as records, from the buffers that the call fills.
+fn row_records(row: &[u32; MAX_LINES], end: &[u32; MAX_LINES], rows: &mut [RowEnd; MAX_LINES]) {
     for i in 0..MAX_LINES {
         rows[i] = RowEnd {
             line: row[i],
             end: end[i],
         };
     }
+}
+
+// The entries of a grid as records, likewise.
+fn entry_records(
+    cell: &[u32; MAX_ENTRIES],
+    first: &[u32; MAX_ENTRIES],
+    span: &[u32; MAX_ENTRIES],
+    entries: &mut [Entry; MAX_ENTRIES],
+) {
     for e in 0..MAX_ENTRIES {
         entries[e] = Entry {
             cell: cell[e],
@@ -35,7 +32,6 @@ fn grid_records(
             span: span[e],
         };
     }
-    Some(grid)
 }
 
 // The first so many of a buffer.
@@ -43,30 +39,34 @@ fn front<T>(buffer: &[T], count: u32) -> &[T] {
     buffer.get(..count as usize).unwrap_or(buffer)
 }
 
-// Puts the columns' widths and the entries of the table on a line, whose grid says where they stand.
-fn layout_cells(
-    out: &mut Output,
-    sheet: &[u8],
-    line: u32,
-    columns: u32,
-    column: &[u32],
-    x: &[u32],
-    wide: &[u32],
-) {
-    let mut rows = [records::NO_ROW; MAX_LINES];
-    let mut entries = [records::NO_ENTRY; MAX_ENTRIES];
+// Puts what is asked for of the grid of the table on a line: how many columns it has, and its entries with their first columns and spans.
+fn put_grid<F>(out: &mut Output, sheet: &[u8], line: u32, put: F)
+where
+    F: Fn(&mut Output, u32, Entries),
+    requires callable { F.IsAlwaysCallable put }
+{
+    let mut cell = [0u32; MAX_ENTRIES];
     let mut first = [0u32; MAX_ENTRIES];
     let mut span = [0u32; MAX_ENTRIES];
-    let made = grid_records(sheet, line, &mut rows, &mut entries, &mut first, &mut span);
-    if let Some(grid) = made {
-        let entries = Entries {
-            rows: front(&rows, grid.rows),
-            grid: &entries,
-            start: x,
-            extent: wide,
-        };
-        cells(out, front(column, columns), entries);
-    }
+    let mut row = [0u32; MAX_LINES];
+    let mut end = [0u32; MAX_LINES];
+    let made = call_grid::grid(
+        sheet, line, &mut cell, &mut first, &mut span, &mut row, &mut end,
+    );
+    let Ok(grid) = made else {
+        return;
+    };
+    let mut rows = [records::NO_ROW; MAX_LINES];
+    row_records(&row, &end, &mut rows);
+    let mut entries = [records::NO_ENTRY; MAX_ENTRIES];
+    entry_records(&cell, &first, &span, &mut entries);
+    let made = Entries {
+        rows: front(&rows, grid.rows),
+        grid: &entries,
+        start: &first,
+        extent: &span,
+    };
+    put(out, grid.columns, made);
 }
 
 // Puts the layout of the table on a line. It is put only of an accepted sheet and of a table's line, which no call refuses.
@@ -87,7 +87,15 @@ pub fn layout(out: &mut Output, sheet: &[u8], line: u32, given: Given) {
         return;
     };
     heading(out, line, laid.way, laid.columns, laid.width);
-    layout_cells(out, sheet, line, laid.columns, &column, &x, &wide);
+    put_grid(out, sheet, line, |out, _, made| {
+        let laid_out = Entries {
+            rows: made.rows,
+            grid: made.grid,
+            start: &x,
+            extent: &wide,
+        };
+        cells(out, front(&column, laid.columns), laid_out);
+    });
 }
 
 // Puts a grid: its columns, its entries with their first columns and spans, and the ends of its rows.
@@ -102,20 +110,12 @@ fn grid_lines(out: &mut Output, line: u32, columns: u32, entries: Entries) {
 
 // Puts the grid of the table on a line, which no call refuses either.
 pub fn grid(out: &mut Output, sheet: &[u8], line: u32) {
-    let mut rows = [records::NO_ROW; MAX_LINES];
-    let mut entries = [records::NO_ENTRY; MAX_ENTRIES];
-    let mut first = [0u32; MAX_ENTRIES];
-    let mut span = [0u32; MAX_ENTRIES];
-    let made = grid_records(sheet, line, &mut rows, &mut entries, &mut first, &mut span);
-    if let Some(grid) = made {
-        let entries = Entries {
-            rows: front(&rows, grid.rows),
-            grid: &entries,
-            start: &first,
-            extent: &span,
-        };
-        grid_lines(out, line, grid.columns, entries);
-    }
+    put_grid(
+        out,
+        sheet,
+        line,
+        |out, columns, made| grid_lines(out, line, columns, made),
+    );
 }
 
 // Puts what is asked for of every table of a sheet, in the order of their lines.

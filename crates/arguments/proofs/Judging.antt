@@ -4,7 +4,7 @@ use mathlib.Core.Bool.{Bool, true, false}
 use mathlib.Core.List.{[], ◌∷◌}
 use Prim.Native.Nat.{ℕ}
 use native.Mathlib.Omega.{arith}
-use Rattle.std.specs.Prelude.{Result, Ok, Err}
+use Rattle.std.specs.Prelude.{Result, Ok}
 use Rattle.lists.specs.declared.Reason.{Reason}
 use Rattle.lists.specs.declared.Refusal.{Refusal}
 use Rattle.lists.specs.Refusals.{Check, check, first_answer, verdict_of}

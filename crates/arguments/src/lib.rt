@@ -2,7 +2,7 @@
 #![tactic(auto, unfolding(lists::specs::Refusals::verdict_of, lists::specs::Refusals::first_answer, crate::specs::Arguments::any_shorter))]
 
 ghost use Rattle.std.specs.Prelude.{◌≡◌, [], ◌∷◌, ◌||◌, ◌≤◌, ltb};
-ghost use Rattle.lists.specs.Limits.{max_wrap, max_width, max_lines, max_entries};
+ghost use Rattle.lists.specs.Limits.{max_wrap, max_width, max_size, max_lines, max_entries};
 ghost use Rattle.arguments.specs.Arguments.{any_shorter, estimates_arguments, grid_arguments, layout_arguments, missing_arguments, pointing_arguments, within_arguments, walk_settings, walk_arguments, nested_arguments};
 ghost use Rattle.lists.specs.Refusals.{check, verdict_of};
 ghost use Rattle.lists.specs.declared.Reason.TheVariants.{Setting, ShortBuffer};
@@ -10,17 +10,15 @@ ghost use Rattle.lists.specs.declared.Reason.{Reason};
 
 use lists::{MAX_ENTRIES, MAX_LINES, MAX_WIDTH, MAX_WRAP, Reason, Refusal};
 
-// The settings of a call, in their ranges. Those that a call does not have are 0.
+// The settings of a call, with what a layout asks of them. Those that a call does not have are 0.
 #[derive(Clone, Copy, Debug, PartialEq, Eq)]
 pub struct Settings {
     pub wrap: u32,
     pub raw: u32,
     pub width: u32,
     pub overflow: u32,
-    pub ghost wrap_bound: { wrap ≤ max_wrap },
     pub ghost raw_bound: { raw ≤ 1 },
-    pub ghost width_bound: { width ≤ max_width },
-    pub ghost overflow_bound: { overflow ≤ 1 },
+    pub ghost width_bound: { width ≤ max_size },
 }
 
 // A refusal of no line, if the test holds.

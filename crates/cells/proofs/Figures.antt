@@ -8,18 +8,13 @@ use native.Mathlib.Omega.{arith}
 use lib.ListN.{length, get_or, set, take, drop, length-map, length-append, length-drop, take-append-drop}
 use lib.Seq.{take-append-le, drop-append-le, length-take-le, take_at, drop_at, set-get_or}
 use borrow.Rule.Slice.PartMut.{put_mid}
-use Rattle.std.proofs.lemmas.List.{take-map, drop-map}
+use Rattle.std.proofs.lemmas.List.{map-set, take-map, drop-map}
 use Rattle.records.specs.Records.{records, records_of}
 use Rattle.records.proofs.Records.{length_of, of_at, number_at}
 use Rattle.cells.specs.Held.{figures}
 use Rattle.cells.specs.Spans.{part}
 
 -- ---- lists
-
-pub map_set : {A : Type 0} (f : A → ℕ) (l : List A) (i : ℕ) (a : A) → map f (set l i a) ≡ set (map f l) i (f a)
-map_set f [] i a = refl
-map_set f (x ∷ l) zero a = refl
-map_set f (x ∷ l) (suc i) a = rw (map_set f l i a)
 
 pub map_at : {A : Type 0} (f : A → ℕ) (d : A) (l : List A) (i : ℕ) → i < length l → get_or (map f l) i 0 ≡ f (get_or l i d)
 map_at f d [] i h = absurd (not-suc-le-zero h)
@@ -76,7 +71,7 @@ module _ {A : Type 0} (w : ℕ) (make : List ℕ → A) (f : A → ℕ) where
 
   pub figure_set : (xs ys : List ℕ) (i : ℕ) (a : A) → records_of w make ys ≡ set (records_of w make xs) i a → figures w make f ys ≡ set (figures w make f xs) i (f a)
   unfolding figures
-  figure_set xs ys i a e = ap (map f) e ∙ map_set f (records_of w make xs) i a
+  figure_set xs ys i a e = ap (map f) e ∙ map-set f (records_of w make xs) i a
 
   pub figure_put : (xs ys : List ℕ) (i : ℕ) (a : A) (v : ℕ) → records_of w make ys ≡ set (records_of w make xs) i a → f a ≡ v
       → figures w make f ys ≡ set (figures w make f xs) i v

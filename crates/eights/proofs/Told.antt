@@ -28,10 +28,9 @@ use Rattle.fields.specs.Reading.{kind_read}
 use Rattle.line.specs.Fields.{n_fits}
 use Rattle.line.specs.Reading.{span_limit}
 use Rattle.line.proofs.OneDigit.{Name, line_is, bare_is}
-use Rattle.eights.specs.inner.Briefs.{InBrief}
+use Rattle.eights.specs.inner.Briefs.{Brief, InBrief}
 use Rattle.eights.specs.inner.Bytes.{Digit, Bare, Texts, ending}
 use Rattle.eights.specs.inner.Bytes as bytes
-use Rattle.eights.specs.declared.Brief.{Brief}
 
 -- ` cell 0 `, ` row 0 0`, ` body 0 `, ` table 0` and ` text 0 `, and `t 0 0 0 `
 
@@ -56,7 +55,7 @@ text_end = 116 ∷ 32 ∷ 48 ∷ 32 ∷ 48 ∷ 32 ∷ 48 ∷ 32 ∷ []
 -- a number that is ` 0 0 0 ` and a line feed with one digit more for cols and one for rows
 pub cell_ends : {s : List ℕ} {at depth r : ℕ} → Eight s at r → 729636054438522912 ≤ r → (r - 729636054438522912) % 16777216 ≡ 0
     → (r - 729636054438522912) / 16777216 % 65536 ≤ 9 → (r - 729636054438522912) / 16777216 / 65536 ≤ 9 → (l : Kept)
-    → l ≡ kept_cell depth ((r - 729636054438522912) / 16777216 % 65536) ((r - 729636054438522912) / 16777216 / 65536) → (b : Brief) → Some (record { line = l; next = at + 8 }) ≡ Some b → bytes.Cell s at depth b
+    → l ≡ kept_cell depth ((r - 729636054438522912) / 16777216 % 65536) ((r - 729636054438522912) / 16777216 / 65536) → (b : Brief) → Some (record { value = l; next = at + 8 }) ≡ Some b → bytes.Cell s at depth b
 unfolding All
 cell_ends {r = r} w h m p q l i b e =
     let figure = (r - 729636054438522912) / 16777216 in
@@ -85,7 +84,7 @@ module _ {s : List ℕ} {at depth : ℕ} (d : Digit s at depth) where
       (wide : up_to (span_limit kind max_cols) (plain cols) ≡ true) (high : up_to (span_limit kind max_rows) (plain rows) ≡ true)
       (at_front : take 8 (drop (at + 1) s) ≡ front) (at_end : take 8 (drop (at + 1 + k) s) ≡ ending cols rows) where
     pub ended : (b : Brief)
-        → b.line ≡ record { depth = depth; kind = kind; cols = cols; rows = rows; number = shift; own = with_img (eqb (kind_number kind) img_kind) 0 }
+        → b.value ≡ record { depth = depth; kind = kind; cols = cols; rows = rows; number = shift; own = with_img (eqb (kind_number kind) img_kind) 0 }
         → b.next ≡ at + 1 + k + 8 → InBrief s at b
     ended b kept next =
         let after = drop (at + 1 + k + 8) s in

@@ -4,20 +4,13 @@
 
 ghost use Rattle.std.specs.Prelude.{◌≡◌, ◌+◌, ◌≤◌, length, Some};
 ghost use Rattle.lists.specs.Limits.{max_bytes};
-ghost use Rattle.eights.specs.inner.Briefs.{Tells};
+ghost use Rattle.eights.specs.inner.Briefs.{Brief, Tells};
 ghost use Rattle.eights.specs.inner.Bytes.{Digit, Bare, Cell, Texts};
-ghost use Rattle.eights.specs.declared.Brief.{Brief};
 
+use fields::Scanned;
 use kinds::Kind;
 use records::Kept;
 use text::bytes::Classes;
-
-// What is kept of a line, and the place where the next line starts.
-#[derive(Clone, Copy)]
-pub struct Brief {
-    pub line: Kept,
-    pub next: usize,
-}
 
 // ` cell 0 `, ` text 0 `, ` row 0 0`, ` body 0 ` and ` table 0` as `octets::eight` takes them: what follows a depth of one digit.
 const CELL_FRONT: u64 = 2319389458142946080;
@@ -46,22 +39,22 @@ const ROWS_STEP: u64 = 65536;
 const LONGEST: usize = 15;
 
 // A line without a text. The space before its n stands at a place, and the line ends seven bytes on, if n, cols and rows are 0.
-fn bare_line(bytes: &[u8], depth: u8, kind: Kind, at: usize) -> Option<Brief>
+fn bare_line(bytes: &[u8], depth: u8, kind: Kind, at: usize) -> Option<Scanned<Kept>>
     requires { at + 8 ≤ length bytes.now }
     ensures { (b : Brief) → result ≡ Some b → Bare bytes.now at depth kind b }
 {
     if octets::eight(bytes, at) != ZEROS {
         return None;
     }
-    Some(Brief {
-        line: Kept::bare(depth, kind),
+    Some(Scanned {
+        value: Kept::bare(depth, kind),
         next: at + 8,
     })
 }
 
 // A cell whose cols and rows have one digit: the eight bytes from the space before its n, which stands at a place, differ from ` 0 0 0 ` and a line feed in
 // these digits alone.
-fn cell_line(bytes: &[u8], depth: u8, at: usize) -> Option<Brief>
+fn cell_line(bytes: &[u8], depth: u8, at: usize) -> Option<Scanned<Kept>>
     requires { at + 8 ≤ length bytes.now }
     ensures { (b : Brief) → result ≡ Some b → Cell bytes.now at depth b }
 {
@@ -75,14 +68,14 @@ fn cell_line(bytes: &[u8], depth: u8, at: usize) -> Option<Brief>
     if more % COLS_STEP != 0 || cols > 9 || rows > 9 {
         return None;
     }
-    Some(Brief {
-        line: Kept::cell(depth, cols as u16, rows as u16),
+    Some(Scanned {
+        value: Kept::cell(depth, cols as u16, rows as u16),
         next: at + 8,
     })
 }
 
 // A text, which starts at a place.
-fn text_line(classes: &Classes, bytes: &[u8], depth: u8, from: usize) -> Option<Brief>
+fn text_line(classes: &Classes, bytes: &[u8], depth: u8, from: usize) -> Option<Scanned<Kept>>
     requires bytes_len_bound { length bytes.now ≤ max_bytes }
     requires from_in_bounds { from ≤ length bytes.now }
     ensures { (b : Brief) → result ≡ Some b → Texts bytes.now from depth b }
@@ -92,14 +85,14 @@ fn text_line(classes: &Classes, bytes: &[u8], depth: u8, from: usize) -> Option<
     if to >= bytes.len() || bytes[to] != b'\n' {
         return None;
     }
-    Some(Brief {
-        line: Kept::text(depth, front.size),
+    Some(Scanned {
+        value: Kept::text(depth, front.size),
         next: to + 1,
     })
 }
 
 // The line at a place, where its depth stands as one digit.
-fn line_with(classes: &Classes, bytes: &[u8], at: usize, depth: u8) -> Option<Brief>
+fn line_with(classes: &Classes, bytes: &[u8], at: usize, depth: u8) -> Option<Scanned<Kept>>
     requires bytes_len_bound { length bytes.now ≤ max_bytes }
     requires digit { Digit bytes.now at depth }
     ensures { Tells bytes.now at result }
@@ -128,7 +121,7 @@ fn line_with(classes: &Classes, bytes: &[u8], at: usize, depth: u8) -> Option<Br
 }
 
 // The line at a place, if it is one of the commonest.
-pub fn common_line(classes: &Classes, bytes: &[u8], at: usize) -> Option<Brief>
+pub fn common_line(classes: &Classes, bytes: &[u8], at: usize) -> Option<Scanned<Kept>>
     requires bytes_len_bound { length bytes.now ≤ max_bytes }
     ensures { Tells bytes.now at result }
 {

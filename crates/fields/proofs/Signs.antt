@@ -14,7 +14,7 @@ use Rattle.text.specs.Decimal.{Number, plain, minus, shift, shifted}
 use Rattle.fields.specs.Numbers.{numeral, unwritten, is_natural, value_from, natural_of, negative_of, number_of, up_to, within, magnitude}
 use Rattle.fields.specs.Blanks.{Field, field, endless, longer, until_blank, blank}
 use Rattle.fields.specs.Reading.{FieldRead, sound, on_field, on_numeral, from_to, number_read}
-use Rattle.fields.specs.declared.Field as declared
+use Rattle.fields.specs.declared.Scanned.{Scanned}
 use Rattle.fields.proofs.OnField.{on_longer, on_same, on_map, on_number}
 use Rattle.fields.proofs.Digits.{natural_in, natural_field}
 
@@ -33,7 +33,7 @@ below_field most at (field f r) = go (is_natural f) (leb (value_from 0 f) most) 
     go true true e = leb-true (value_from 0 f) most e
     go true false e = tt
 
-pub natural_most : (most at : ℕ) (s : List ℕ) (f : declared.Field ℕ) → number_read (up_to most) magnitude at s ≡ Some f → f.value ≤ most
+pub natural_most : (most at : ℕ) (s : List ℕ) (f : Scanned ℕ) → number_read (up_to most) magnitude at s ≡ Some f → f.value ≤ most
 natural_most most at s f e = subst (Below most) (sym (natural_field most at s) ∙ e) (below_field most at (until_blank s))
 
 -- what two readings of the same number have to do with each other

@@ -5,12 +5,12 @@ use Rattle.kinds.specs.declared.Kind.{Kind}
 use Rattle.kinds.specs.Kinds.{kind_at, kind_of, kind_names, kind_count}
 use Rattle.fields.specs.Numbers.{Numeral, numeral, unwritten, number_of, is_digit}
 use Rattle.fields.specs.Blanks.{Field, field, endless, until_blank, blank}
-use Rattle.fields.specs.declared.Field as declared
+use Rattle.fields.specs.declared.Scanned.{Scanned}
 
 -- what reading a field answers, and a field that is read
 
 abbrev pub FieldRead : Type 0 → Type 0
-FieldRead A = Option (declared.Field A)
+FieldRead A = Option (Scanned A)
 
 abbrev pub sound : {A : Type 0} → A → ℕ → FieldRead A
 sound value next = Some (record { value = value; next = next })

@@ -5,9 +5,10 @@ pub mod fours;
 pub mod naming;
 pub mod numbers;
 
-// What a field says, and the place after its space. A field that is not well formed, or not in its range, is none.
+// What is read at a place, and the place after it: what a field says and the place after its space, or a line and the place where the next one
+// starts. What is not well formed, or not in its range, is none.
 #[derive(Clone, Copy, Debug, PartialEq, Eq)]
-pub struct Field<T> {
+pub struct Scanned<T> {
     pub value: T,
     pub next: usize,
 }

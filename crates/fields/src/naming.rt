@@ -4,7 +4,7 @@ ghost use Rattle.kinds.specs.declared.Kind.TheVariants.{Table};
 ghost use Rattle.fields.specs.Blanks.{blank};
 ghost use Rattle.fields.specs.Reading.{Spelt, Named, nine_letters, key_from, key_place, kind_keys, kind_named, kind_read};
 
-use super::Field;
+use super::Scanned;
 use super::fours::four_at;
 use kinds::Kind;
 
@@ -25,14 +25,14 @@ const TABLE_END: u32 = 543517794;
 const NINE_LETTERS: u64 = 35184372088832;
 
 // Letters up to a space, as a number: 1, and then each letter as a digit of base 32; and the place after the space.
-fn key_at(bytes: &[u8], at: usize) -> Option<Field<u64>>
+fn key_at(bytes: &[u8], at: usize) -> Option<Scanned<u64>>
     ensures { result ≡ key_from 1 at (drop at bytes.now) }
 {
     let mut key = 1u64;
     for i in at..bytes.len() {
         let b = bytes[i];
         if b == b' ' {
-            return Some(Field {
+            return Some(Scanned {
                 value: key,
                 next: i + 1,
             });
@@ -98,7 +98,7 @@ fn table_at(bytes: &[u8], at: usize) -> bool
 }
 
 // The kind that the field at a place names, and the place after its space. The commonest names are looked for first.
-pub fn kind_at(bytes: &[u8], at: usize) -> Option<Field<Kind>>
+pub fn kind_at(bytes: &[u8], at: usize) -> Option<Scanned<Kind>>
     ensures { result ≡ kind_read at (drop at bytes.now) }
 {
     let (value, next) = if name_at(bytes, at, CELL_NAME) {
@@ -115,5 +115,5 @@ pub fn kind_at(bytes: &[u8], at: usize) -> Option<Field<Kind>>
         let k = key_at(bytes, at)?;
         (kind_of(k.value)?, k.next)
     };
-    Some(Field { value, next })
+    Some(Scanned { value, next })
 }

@@ -4,18 +4,18 @@ ghost use Rattle.text.specs.Decimal.{shift, shifted};
 ghost use Rattle.fields.specs.Numbers.{up_to, within, magnitude};
 ghost use Rattle.fields.specs.Reading.{from_to, number_read, digits_read, is_lone};
 
-use super::Field;
+use super::Scanned;
 use text::decimal::SHIFT;
 
 // Digits up to a space. Once their value is above most, no further digit brings it back, so the reading stops there.
-fn digits_at(bytes: &[u8], at: usize, most: u32) -> Option<Field<u32>>
+fn digits_at(bytes: &[u8], at: usize, most: u32) -> Option<Scanned<u32>>
     ensures { result ≡ digits_read most 0 at (drop at bytes.now) }
 {
     let mut value = 0u64;
     for i in at..bytes.len() {
         let b = bytes[i];
         if b == b' ' {
-            return Some(Field {
+            return Some(Scanned {
                 value: value as u32,
                 next: i + 1,
             });
@@ -40,7 +40,7 @@ fn lone_at(bytes: &[u8], at: usize) -> bool
 }
 
 // A number from 0 to most. A single digit, the commonest field of a sheet, is looked for first.
-pub fn natural_at(bytes: &[u8], at: usize, most: u32) -> Option<Field<u32>>
+pub fn natural_at(bytes: &[u8], at: usize, most: u32) -> Option<Scanned<u32>>
     ensures { result ≡ number_read (up_to most) magnitude at (drop at bytes.now) }
 {
     if lone_at(bytes, at) {
@@ -48,7 +48,7 @@ pub fn natural_at(bytes: &[u8], at: usize, most: u32) -> Option<Field<u32>>
         if value > most {
             return None;
         }
-        return Some(Field {
+        return Some(Scanned {
             value,
             next: at + 2,
         });
@@ -64,7 +64,7 @@ pub fn natural_at(bytes: &[u8], at: usize, most: u32) -> Option<Field<u32>>
 }
 
 // A number from least to most, shifted up.
-pub fn shifted_at(bytes: &[u8], at: usize, least: u32, most: u32) -> Option<Field<u32>>
+pub fn shifted_at(bytes: &[u8], at: usize, least: u32, most: u32) -> Option<Scanned<u32>>
     requires { most ≤ shift }
     ensures { result ≡ number_read (from_to least most) shifted at (drop at bytes.now) }
 {
@@ -72,14 +72,14 @@ pub fn shifted_at(bytes: &[u8], at: usize, least: u32, most: u32) -> Option<Fiel
     if n.value < least {
         return None;
     }
-    Some(Field {
+    Some(Scanned {
         value: SHIFT + n.value,
         next: n.next,
     })
 }
 
 // A number from -1,000,000,000 to 1,000,000,000, shifted up.
-pub fn signed_at(bytes: &[u8], at: usize) -> Option<Field<u32>>
+pub fn signed_at(bytes: &[u8], at: usize) -> Option<Scanned<u32>>
     ensures { result ≡ number_read (within shift) shifted at (drop at bytes.now) }
 {
     if at >= bytes.len() {
@@ -92,7 +92,7 @@ pub fn signed_at(bytes: &[u8], at: usize) -> Option<Field<u32>>
     if n.value == 0 {
         return None;
     }
-    Some(Field {
+    Some(Scanned {
         value: SHIFT - n.value,
         next: n.next,
     })

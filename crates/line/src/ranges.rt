@@ -5,11 +5,11 @@ ghost use Rattle.fields.specs.Reading.{number_read};
 ghost use Rattle.line.specs.Fields.{n_fits};
 ghost use Rattle.line.specs.Reading.{span_limit};
 
-use fields::{Field, numbers};
+use fields::{Scanned, numbers};
 use kinds::Kind;
 
 // The field n of a line of the kind: a heading's rank, a list's first number, or 0.
-pub fn n_at(bytes: &[u8], at: usize, kind: Kind) -> Option<Field<u32>>
+pub fn n_at(bytes: &[u8], at: usize, kind: Kind) -> Option<Scanned<u32>>
     ensures { result ≡ number_read (n_fits kind) shifted at (drop at bytes.now) }
 {
     if kind == Kind::Head {

@@ -10,7 +10,7 @@ use Rattle.lists.specs.Limits.{max_wrap, max_width}
 use Rattle.fields.specs.Lines.{feed}
 use Rattle.kinds.specs.Kinds.{same}
 use Rattle.fields.specs.Reading.{FieldRead}
-use Rattle.fields.specs.declared.Field.{Field}
+use Rattle.fields.specs.declared.Scanned.{Scanned}
 use Rattle.settings.specs.Settings.{settings_heading, settings_in, settings_of, malformed}
 use Rattle.settings.specs.Reading.{setting_read}
 use Rattle.settings.proofs.Told.{setting_told, setting_none, setting_place}
@@ -32,17 +32,17 @@ module _ (s : List ℕ) where
     unfolding settings_in
     no_wrap e = rw inside (setting_none 32 max_wrap 15 s e _)
 
-    module _ {wrap : Field ℕ} (e₁ : read 32 max_wrap 15 ≡ Some wrap) where
+    module _ {wrap : Scanned ℕ} (e₁ : read 32 max_wrap 15 ≡ Some wrap) where
       pub no_raw : read 32 1 wrap.next ≡ None → settings_of s ≡ malformed
       unfolding settings_in
       no_raw e = rw (inside, setting_told 32 max_wrap 15 s e₁) (setting_none 32 1 wrap.next s e _)
 
-      module _ {raw : Field ℕ} (e₂ : read 32 1 wrap.next ≡ Some raw) where
+      module _ {raw : Scanned ℕ} (e₂ : read 32 1 wrap.next ≡ Some raw) where
         pub no_width : read feed max_width raw.next ≡ None → settings_of s ≡ malformed
         unfolding settings_in
         no_width e = rw (inside, setting_told 32 max_wrap 15 s e₁, setting_told 32 1 wrap.next s e₂) (setting_none feed max_width raw.next s e _)
 
-        pub all_set : {width : Field ℕ} → read feed max_width raw.next ≡ Some width
+        pub all_set : {width : Scanned ℕ} → read feed max_width raw.next ≡ Some width
             → settings_of s ≡ Ok (record { wrap = wrap.value; raw = raw.value; width = width.value; sheet = width.next })
         unfolding settings_in
         all_set e =

@@ -11,7 +11,7 @@ use borrow.Author.Tests.{ltb-true}
 use Rattle.std.specs.Prelude.{Option, Some, None, position}
 use Rattle.fields.specs.Numbers.{Numeral, numeral, unwritten, number_of, up_to, magnitude}
 use Rattle.fields.specs.Reading.{FieldRead}
-use Rattle.fields.specs.declared.Field.{Field}
+use Rattle.fields.specs.declared.Scanned.{Scanned}
 use Rattle.settings.specs.Settings.{part, unstopped, with_part, with_numeral, then_setting, Settled, malformed}
 use Rattle.settings.specs.Reading.{count_before, written_in, ended_at, setting_read}
 use Rattle.settings.proofs.Stops.{until_cut, stop_found, stop_none}
@@ -68,7 +68,7 @@ module _ (stop most at : ℕ) (s : List ℕ) where
   unfolding setting_read
   setting_ended e = let told = stop_found stop (drop at s) e in rw (told.0, ← told.1)
 
-  pub setting_told : {r : Field ℕ} → found ≡ Some r → (f : ℕ → List ℕ → Settled) → then_setting stop most (drop at s) f ≡ f r.value (drop r.next s)
+  pub setting_told : {r : Scanned ℕ} → found ≡ Some r → (f : ℕ → List ℕ → Settled) → then_setting stop most (drop at s) f ≡ f r.value (drop r.next s)
   setting_told e f = setting_after most s f stop at ∙ ap (λ (r : FieldRead ℕ). after s r f) e
 
   pub setting_none : found ≡ None → (f : ℕ → List ℕ → Settled) → then_setting stop most (drop at s) f ≡ malformed
@@ -91,5 +91,5 @@ module _ (stop most at : ℕ) (s : List ℕ) where
       go false e x = tt
 
   -- the place after a setting, counted from the end of the input
-  pub setting_place : {r : Field ℕ} → found ≡ Some r → length s - length (drop r.next s) ≡ r.next
+  pub setting_place : {r : Scanned ℕ} → found ≡ Some r → length s - length (drop r.next s) ≡ r.next
   setting_place {r} e = let h : r.next ≤ length s = subst Ends e ends in omega (arith, length-drop r.next s)

@@ -8,7 +8,7 @@ ghost use Rattle.fields.specs.Numbers.{number_of};
 ghost use Rattle.settings.specs.Settings.{settings_of};
 ghost use Rattle.settings.specs.Reading.{digits_in, written_in, setting_read};
 
-use fields::Field;
+use fields::Scanned;
 use lists::{Reason, Refusal};
 
 // The three settings, and the place where the sheet starts.
@@ -64,13 +64,13 @@ fn written_in(field: &[u8], most: u32) -> Option<u32>
 }
 
 // The setting from 0 to most at a place, and the place after the byte that ends it.
-fn setting_at(bytes: &[u8], at: usize, stop: u8, most: u32) -> Option<Field<u32>>
+fn setting_at(bytes: &[u8], at: usize, stop: u8, most: u32) -> Option<Scanned<u32>>
     ensures { result ≡ setting_read stop most at (drop at bytes.now) }
 {
     let rest = bytes.get(at..)?;
     let end = stop_in(rest, stop)?;
     let value = written_in(&rest[..end], most)?;
-    Some(Field {
+    Some(Scanned {
         value,
         next: at + end + 1,
     })

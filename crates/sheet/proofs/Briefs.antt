@@ -13,17 +13,16 @@ use Rattle.records.specs.declared.Kept.{Kept}
 use Rattle.line.specs.LineAt.{LineRead, line_at}
 use Rattle.line.specs.declared.Node.{Node}
 use Rattle.line.proofs.Told.{good_line}
-use Rattle.eights.specs.inner.Briefs.{BriefOf}
-use Rattle.eights.specs.declared.Brief.{Brief}
+use Rattle.eights.specs.inner.Briefs.{Brief, BriefOf}
 use Rattle.sheet.specs.Steps.{breaks_nesting, judgement_of, Answers}
 
 -- a line as it is kept has its depth and its kind
 
 module _ {node : Node} {b : Brief} (w : BriefOf node b) where
-  pub depth_of : b.line.depth ≡ node.depth
+  pub depth_of : b.value.depth ≡ node.depth
   depth_of = ap (λ (k : Kept). k.depth) w.kept
 
-  pub kind_of : b.line.kind ≡ node.kind
+  pub kind_of : b.value.kind ≡ node.kind
   kind_of = ap (λ (k : Kept). k.kind) w.kept
 
 -- answers
@@ -44,7 +43,7 @@ faulty_answers why e =
 
 -- from a line by itself to the line after others
 
-pub read_deep : (s : List ℕ) (at : ℕ) (v : Node) (b : Brief) → line_at s at ≡ Ok v → BriefOf v b → b.line.depth ≤ max_depth
+pub read_deep : (s : List ℕ) (at : ℕ) (v : Node) (b : Brief) → line_at s at ≡ Ok v → BriefOf v b → b.value.depth ≤ max_depth
 read_deep s at v b e w = omega (arith, depth_of w, (good_line s at v e).deep)
 
 module _ (chain : List Kind) (lines previous : ℕ) where
@@ -52,7 +51,7 @@ module _ (chain : List Kind) (lines previous : ℕ) where
   unfolding judgement_of
   judged_faulty r why e = rw e
 
-  pub judged_sound : (r : LineRead) (v : Node) (b : Brief) (t : Bool) → r ≡ Ok v → BriefOf v b → breaks_nesting chain lines previous b.line.depth b.line.kind ≡ t
+  pub judged_sound : (r : LineRead) (v : Node) (b : Brief) (t : Bool) → r ≡ Ok v → BriefOf v b → breaks_nesting chain lines previous b.value.depth b.value.kind ≡ t
       → judgement_of chain lines previous r ≡ cond t (Err Nesting) (Ok v)
   unfolding judgement_of
   judged_sound r v b t e w q = rw (e, ← depth_of w, ← kind_of w, q)

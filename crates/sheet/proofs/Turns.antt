@@ -24,8 +24,7 @@ use Rattle.line.specs.LineAt.{LineRead, piece_at, node_of, line_in, line_at}
 use Rattle.line.proofs.Pieces.{pieces_at, pieces_end, feeds_at}
 use Rattle.line.proofs.Told.{good_line}
 use Rattle.line.specs.declared.Node.{Node}
-use Rattle.eights.specs.inner.Briefs.{figures_of, BriefOf}
-use Rattle.eights.specs.declared.Brief.{Brief}
+use Rattle.eights.specs.inner.Briefs.{Brief, figures_of, BriefOf}
 use Rattle.sheet.specs.Nesting.{misplaced}
 use Rattle.sheet.specs.Sheet.{lines_checks, lines_of, sheet_lines, sheet_checks}
 use Rattle.sheet.specs.Reading.{reading_of, kept_of}
@@ -205,7 +204,7 @@ module _ {s : List ℕ} {a b : List Kept} {chain : List Kind} {previous at n : �
 
   -- the line as it is kept
   module _ (x : Brief) (w : (node : Node) × (judgement_of chain n previous (line_at s at) ≡ Ok node) × BriefOf node x) where
-    pub turns_next : NextLine s at n x.line.depth x.next
+    pub turns_next : NextLine s at n x.value.depth x.next
     unfolding here
     turns_next =
         rw (depth_of w.2, w.2.next)
@@ -215,8 +214,8 @@ module _ {s : List ℕ} {a b : List Kept} {chain : List Kind} {previous at n : �
         let p = (piece_ranged (piece_at s at)).0 in
         record { deep = p.deep; ahead = omega arith; ends = l.inside; few = omega (arith, feeds_at s at l.ended, t.few) }))
 
-    pub turns_more : (c : List Kept) → n < length a → length c ≡ length b → c ≡ set b n x.line
-        → ReadingLoop s a c (set chain x.line.depth x.line.kind) x.line.depth x.next (n + 1)
+    pub turns_more : (c : List Kept) → n < length a → length c ≡ length b → c ≡ set b n x.value
+        → ReadingLoop s a c (set chain x.value.depth x.value.kind) x.value.depth x.next (n + 1)
     unfolding here
     turns_more c r m p =
         rw (depth_of w.2, kind_of w.2, w.2.next)

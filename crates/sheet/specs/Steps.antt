@@ -15,8 +15,7 @@ use Rattle.fields.specs.Lines.{feeds, headed}
 use Rattle.line.specs.Fields.{Line}
 use Rattle.line.specs.LineAt.{LineRead}
 use Rattle.line.specs.declared.Node.{Node}
-use Rattle.eights.specs.inner.Briefs.{BriefOf}
-use Rattle.eights.specs.declared.Brief.{Brief}
+use Rattle.eights.specs.inner.Briefs.{Brief, BriefOf}
 use Rattle.sheet.specs.Sheet.{is_empty, empty_checks}
 
 -- a line can be asked for at a place of the sheet

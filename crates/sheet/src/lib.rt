@@ -13,20 +13,20 @@ ghost use Rattle.eights.specs.inner.Briefs.{figures_of, BriefOf};
 ghost use Rattle.sheet.specs.Reading.{Reads};
 ghost use Rattle.sheet.specs.Steps.{AtLine, judgement_of, Answers, empty_at, lacks_child, NoneLacking, line_end, bare, Begun, room_for};
 
-use eights::Brief;
+use fields::Scanned;
 use kinds::Kind;
 use line::Node;
 use lists::{DEPTHS, Reason, Refusal};
 use records::Kept;
 use text::bytes::Classes;
 
-// What is kept of a line. No `From`: it asks that the line's depth and spans are in their ranges.
-fn brief(node: Node) -> Brief
+// What is kept of a line, and where the next one starts. No `From`: it asks that the line's depth and spans are in their ranges.
+fn brief(node: Node) -> Scanned<Kept>
     requires { InRanges (figures_of node) }
     ensures { BriefOf node result }
 {
-    Brief {
-        line: Kept {
+    Scanned {
+        value: Kept {
             depth: node.depth as u8,
             kind: node.kind,
             cols: node.cols as u16,
@@ -39,7 +39,7 @@ fn brief(node: Node) -> Brief
 }
 
 // The line that starts at a place, by itself: 2, 3, 13, 14. The commonest lines are told by few comparisons.
-fn line_of(classes: &Classes, bytes: &[u8], at: usize) -> Result<Brief, Reason>
+fn line_of(classes: &Classes, bytes: &[u8], at: usize) -> Result<Scanned<Kept>, Reason>
     requires { AtLine bytes.now at }
     ensures { Answers (line_at bytes.now at) result }
 {
@@ -58,13 +58,13 @@ fn judge(
     chain: &[Kind; DEPTHS],
     lines: usize,
     previous: u32,
-) -> Result<Brief, Reason>
+) -> Result<Scanned<Kept>, Reason>
     requires at_line { AtLine bytes.now at }
     requires previous_le_max_depth { previous ≤ max_depth }
     ensures { Answers (judgement_of chain.now lines previous (line_at bytes.now at)) result }
 {
     let b = line_of(classes, bytes, at)?;
-    if nesting::misplaced(chain, lines, previous, b.line.depth as u32, b.line.kind) {
+    if nesting::misplaced(chain, lines, previous, b.value.depth as u32, b.value.kind) {
         return Err(Reason::Nesting);
     }
     Ok(b)
@@ -138,11 +138,11 @@ fn read_lines(classes: &Classes, bytes: &[u8], lines: &mut [Kept]) -> Result<usi
             Ok(b) => b,
             Err(reason) => return Err(reason.at((n + 1) as u32)),
         };
-        previous = b.line.depth as u32;
-        chain[previous as usize] = b.line.kind;
+        previous = b.value.depth as u32;
+        chain[previous as usize] = b.value.kind;
         at = b.next;
-        filled = still_filled(filled, lines, n, b.line);
-        lines[n] = b.line;
+        filled = still_filled(filled, lines, n, b.value);
+        lines[n] = b.value;
         n += 1;
     }
     finish(&lines[..n], filled)

@@ -6,12 +6,13 @@
 use mathlib.Core.Path.{ap, ◌∙◌}
 use Prim.Native.Nat.{◌≤◌, ◌<◌}
 use native.Mathlib.Omega.{arith}
+use Rattle.std.proofs.lemmas.List.{map-set}
 use lib.ListN.{get_or, set, get_or-eq_default}
 use Rattle.records.specs.Kept.{no_kept}
 use Rattle.records.specs.declared.Kept.{Kept}
 use Rattle.cells.specs.Held.{cell_by, held_line, held_span, held_rows, lines_of, spans_of, rowspans_of}
 use Rattle.records.specs.Figures.{row_line, row_end, row_lines_of, row_ends_of}
-use Rattle.cells.proofs.Figures.{map_set, length_figures, figure_put, figures_still}
+use Rattle.cells.proofs.Figures.{length_figures, figure_put, figures_still}
 use Rattle.cells.proofs.Listing.{Room, list_start, list_room, body_held, body_rows, list_stop, list_body, list_row, list_cell, list_deeper}
 use Rattle.cells.proofs.list_rows.Goals as goal
 use Rattle.cells.proofs.list_rows.Goals.{Else-e-d, then-e-d-2, else-e-d-2+then-e-d-3, else-e-d-2+else-e-d-3+then-e-d-4, else-e-d-2+else-e-d-3+else-e-d-4, else-loop-i-test, then-loop-i-test+then-e-d}
@@ -65,8 +66,8 @@ loop-i-preserved c =
             w.r-is,
             w.first_cell-is,
             w.first_row-is,
-            map_set row_line c.loop-i.rows c.loop-i.r w.row_of.result ∙ ap (set (row_lines_of c.loop-i.rows) c.loop-i.r) q.0,
-            map_set row_end c.loop-i.rows c.loop-i.r w.row_of.result ∙ ap (set (row_ends_of c.loop-i.rows) c.loop-i.r) q.1,
+            map-set row_line c.loop-i.rows c.loop-i.r w.row_of.result ∙ ap (set (row_lines_of c.loop-i.rows) c.loop-i.r) q.0,
+            map-set row_end c.loop-i.rows c.loop-i.r w.row_of.result ∙ ap (set (row_ends_of c.loop-i.rows) c.loop-i.r) q.1,
           )
           (list_row c.requires z d (λ e. w.if-e-d-2.false (omega (arith, l, t))) (omega (arith, l, t, w.if-e-d-3.true)))
       | else-e-d-2+else-e-d-3+then-e-d-4 w ↦

@@ -3,15 +3,18 @@ use Rattle.std.specs.Prelude.{◌≡◌, List, ℕ, Option, Some, Ok}
 use Rattle.records.specs.declared.Kept.{Kept}
 use Rattle.line.specs.LineAt.{line_at}
 use Rattle.line.specs.declared.Node.{Node}
-use Rattle.eights.specs.declared.Brief.{Brief}
+use Rattle.fields.specs.declared.Scanned.{Scanned}
 
 -- the figures that are kept of a line that was read
 abbrev pub figures_of : Node → Kept
 figures_of n = record { depth = n.depth; kind = n.kind; cols = n.cols; rows = n.rows; number = n.number; own = n.own }
 
 -- a line in brief: its figures, and where the next line starts
+abbrev pub Brief : Type 0
+Brief = Scanned Kept
+
 pub record BriefOf (node : Node) (b : Brief) : Type 0 where
-  pub kept : b.line ≡ figures_of node
+  pub kept : b.value ≡ figures_of node
   pub next : b.next ≡ node.next
 
 -- it is the line that starts at the place

@@ -6,7 +6,7 @@ use Rattle.text.specs.declared.Front.{Front}
 use Rattle.kinds.specs.declared.Kind.{Kind}
 use Rattle.records.specs.Kept.{kept_bare, kept_cell, kept_text}
 use Rattle.fields.specs.Lines.{feed}
-use Rattle.eights.specs.declared.Brief.{Brief}
+use Rattle.eights.specs.inner.Briefs.{Brief}
 
 -- a depth of one digit stands at the place, and room for a line
 pub record Digit (s : List ℕ) (at depth : ℕ) : Type 0 where
@@ -21,7 +21,7 @@ ending cols rows = 32 ∷ 48 ∷ 32 ∷ (48 + cols) ∷ 32 ∷ (48 + rows) ∷ 3
 -- the line ends so from the place on, and has no figure
 pub record Bare (s : List ℕ) (at depth : ℕ) (kind : Kind) (b : Brief) : Type 0 where
   pub stands : take 8 (drop at s) ≡ ending 0 0
-  pub is : b ≡ record { line = kept_bare depth kind; next = at + 8 }
+  pub is : b ≡ record { value = kept_bare depth kind; next = at + 8 }
 
 -- a cell ends so, with a cols and a rows of one digit
 pub record Cell (s : List ℕ) (at depth : ℕ) (b : Brief) : Type 0 where
@@ -30,7 +30,7 @@ pub record Cell (s : List ℕ) (at depth : ℕ) (b : Brief) : Type 0 where
   pub narrow : cols ≤ 9
   pub low : rows ≤ 9
   pub stands : take 8 (drop at s) ≡ ending cols rows
-  pub is : b ≡ record { line = kept_cell depth cols rows; next = at + 8 }
+  pub is : b ≡ record { value = kept_cell depth cols rows; next = at + 8 }
 
 -- a text starts at the place, and a line feed ends it
 pub record Texts (s : List ℕ) (from depth : ℕ) (b : Brief) : Type 0 where
@@ -38,4 +38,4 @@ pub record Texts (s : List ℕ) (from depth : ℕ) (b : Brief) : Type 0 where
   pub scanned : FrontAt text_size feed s from front
   pub inside : front.end < length s
   pub ended : get_or s front.end 0 ≡ feed
-  pub is : b ≡ record { line = kept_text depth front.size; next = front.end + 1 }
+  pub is : b ≡ record { value = kept_text depth front.size; next = front.end + 1 }

@@ -14,4 +14,4 @@ slice_bounds-opened-start c = omega (arith, (settings_in_range _ _ (sym c.settin
 pub invariant_of-settings : goal.invariant_of-settings
 invariant_of-settings c =
     let r = settings_in_range _ _ (sym c.settings.ensures ∙ c.in_ok-given.was) in
-    record { wrap_bound = omega (arith, r.wrap); raw_bound = omega (arith, r.raw); width_bound = omega (arith, r.width); overflow_bound = omega arith }
+    record { raw_bound = omega (arith, r.raw); width_bound = omega (arith, r.width) }

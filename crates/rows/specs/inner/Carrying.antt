@@ -1,9 +1,9 @@
 -- What hangs on, carried over to the next row. These are definitions; nothing is assumed.
-use Rattle.std.specs.Prelude.{◌≡◌, List, ℕ, take}
+use Rattle.std.specs.Prelude.{◌≡◌, List, ℕ, length, take}
 use Rattle.rows.specs.inner.Overhangs.{lefts_in, ats_in, wides_in}
 
--- the first k of what hangs into the next row are the first k that hang on
-pub record Carried (k : ℕ) (nl na nw o : List ℕ) : Type 0 where
-  pub lefts : take k (lefts_in o) ≡ take k nl
-  pub ats : take k (ats_in o) ≡ take k na
-  pub wides : take k (wides_in o) ≡ take k nw
+-- those that hang on are the first that hang into the next row
+pub record Carried (nl na nw o : List ℕ) : Type 0 where
+  pub lefts : take (length nl) (lefts_in o) ≡ nl
+  pub ats : take (length na) (ats_in o) ≡ na
+  pub wides : take (length nw) (wides_in o) ≡ nw

@@ -23,7 +23,7 @@ use Rattle.sheet.proofs.read_lines.Goals.{In-Ok}
 known : (c : In-Ok) → (node : Node) × (judgement_of c.loop-at.chain c.loop-at.n c.loop-at.previous (line_at c.args.bytes.now c.loop-at.at) ≡ Ok node) × BriefOf node c.in-Ok.b
 known c = c.judge.ensures.kept _ c.in-Ok.is
 
-next-line : (c : In-Ok) → (let b = c.in-Ok.b in NextLine c.args.bytes.now c.loop-at.at c.loop-at.n b.line.depth b.next)
+next-line : (c : In-Ok) → (let b = c.in-Ok.b in NextLine c.args.bytes.now c.loop-at.at c.loop-at.n b.value.depth b.next)
 next-line c = turns_next c.loop-at.invariant.0 c.loop-at-test.true _ (known c)
 
 pub loop-at-init : goal.loop-at-init
@@ -35,7 +35,7 @@ returns-in-Err c =
 
 pub bounds-chain-previous : goal.bounds-chain-previous
 bounds-chain-previous c =
-    let h : c.in-Ok.b.line.depth ≤ max_depth = (next-line (goal.at.bounds-chain-previous c).In-Ok).deep in
+    let h : c.in-Ok.b.value.depth ≤ max_depth = (next-line (goal.at.bounds-chain-previous c).In-Ok).deep in
     omega arith
 
 pub bounds-lines-n : goal.bounds-lines-n
@@ -55,7 +55,7 @@ loop-at-preserved c =
       turns_more c.loop-at.invariant.0 c.loop-at-test.true _ (known (goal.at.loop-at-preserved c).In-Ok) _ room (length-set _ _ _) refl,
       λ e.
           let s = c.still_filled-filled.ensures e in
-          none_more c.loop-at.lines c.in-Ok.b.line (c.loop-at.invariant.1 s.0) s.1 (omega (arith, room, c.loop-at.invariant.0.same)) refl,
+          none_more c.loop-at.lines c.in-Ok.b.value (c.loop-at.invariant.1 s.0) s.1 (omega (arith, room, c.loop-at.invariant.0.same)) refl,
     )
 
 pub returns : goal.returns
