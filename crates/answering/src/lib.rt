@@ -6,11 +6,12 @@ mod calls; // calls.rt: what the calls answer of a sheet and of each table
 
 use calls::{each_table, estimates, grid, layout};
 use lists::{MAX_LINES, Refusal};
-use printing::Output;
 use settings::Given;
+use writing::lines::Listing;
 
 // Puts the layouts, the estimates and the grids of a sheet that is accepted. Its lines tell which are tables.
-fn listed(out: &mut Output, sheet: &[u8], given: Given) -> Result<(), Refusal> {
+#[tactic(auto, using(sheet::proofs::Bounds::accepted_lines))]
+fn listed(out: &mut Listing<'_>, sheet: &[u8], given: Given) -> Result<(), Refusal> {
     call_estimates::check(sheet)?;
     let mut kept = [records::NO_LINE; MAX_LINES];
     let n = opening::read_sheet(sheet, &mut kept)?;
@@ -22,13 +23,14 @@ fn listed(out: &mut Output, sheet: &[u8], given: Given) -> Result<(), Refusal> {
 }
 
 // The same of an input, which holds settings and a sheet.
-fn accepted(out: &mut Output, input: &[u8]) -> Result<(), Refusal> {
+#[tactic(auto, using(settings::proofs::Bounds::settings_in_range))]
+fn accepted(out: &mut Listing<'_>, input: &[u8]) -> Result<(), Refusal> {
     let given = settings::settings(input)?;
     listed(out, &input[given.sheet..], given)
 }
 
 // Puts what the public calls answer for an input: the layouts as `layout` prints them, the estimates of all lines and each table's grid; or why it is refused.
-pub fn answers(out: &mut Output, input: &[u8]) {
+pub fn answers(out: &mut Listing<'_>, input: &[u8]) {
     if let Err(why) = accepted(out, input) {
         writing::refusal(out, why);
     }

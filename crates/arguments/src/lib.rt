@@ -10,14 +10,13 @@ ghost use Rattle.lists.specs.declared.Reason.{Reason};
 
 use lists::{MAX_ENTRIES, MAX_LINES, MAX_WIDTH, MAX_WRAP, Reason, Refusal};
 
-// The settings of a call, with what a layout asks of them. Those that a call does not have are 0.
+// The settings of a call, with what a layout asks of the width. Those that a call does not have are 0.
 #[derive(Clone, Copy, Debug, PartialEq, Eq)]
 pub struct Settings {
     pub wrap: u32,
     pub raw: u32,
     pub width: u32,
     pub overflow: u32,
-    pub ghost raw_bound: { raw ≤ 1 },
     pub ghost width_bound: { width ≤ max_size },
 }
 

@@ -137,6 +137,7 @@ pub fn evaluate(text: &[u8]) -> Result<i64, Reason>
         sum: None,
         product: None,
     };
+    // The frames of the open brackets, and how many: a stack that grows would need a heap, which no crate here uses.
     let mut outer = [nothing; DEEP];
     let mut depth = 0usize;
     let mut place = Top::Want(nothing);

@@ -1,7 +1,7 @@
 -- The estimates of a sheet's lines, told of the records of a measured sheet. Assumes nothing.
 use Rattle.records.specs.declared.Kept.{Kept}
 use Rattle.lists.specs.declared.Refusal.{Refusal}
-use Rattle.std.specs.Prelude.{Err, Ok, None, Some}
+use Rattle.std.specs.Prelude.{Err, Ok, None}
 use mathlib.Core.Path.{◌≡◌, refl, sym, ap, ◌∙◌}
 use mathlib.Core.List.{List, map}
 use Prim.Native.Nat.{ℕ, ◌≤◌}
@@ -18,8 +18,7 @@ use Rattle.opening.specs.Opening.{kept_lines, open_checks, opened_of}
 use Rattle.opening.specs.inner.Measures.{SheetMeasured}
 use Rattle.sheet_figures.specs.Figures.{line_size, line_least, line_prefix}
 use Rattle.sheet_figures.specs.inner.Opened.{lines_in}
-use Rattle.call_estimates.specs.inner.Found.{LinesRoom, FiguresFit, FiguresWritten, EstimatesFound, EstimatesTried}
-use Rattle.std.specs.Prelude.{Some, None}
+use Rattle.call_estimates.specs.inner.Found.{LinesRoom, FiguresFit, FiguresWritten, EstimatesFound}
 use Rattle.opening.proofs.Passing.{passed}
 use Rattle.sheet_figures.proofs.Openings.{failed}
 
@@ -69,22 +68,3 @@ module _ {s : List ℕ} {wrap : ℕ} {size least prefix : List ℕ} where
         prefixes = sym (figures_fail cs _ p);
         sound = λ q. let z : ◌≡◌ {A = ℕ} 0 1 = cc in absurd (omega arith);
       }
-
-  -- what arrays of one size come to
-  pub tried_some : {cs : List Check} {n : ℕ} → EstimatesFound cs s wrap (Ok n) size least prefix → EstimatesTried cs s wrap (Ok (Some n)) size least prefix
-  tried_some {n = n} f = record {
-    found = λ q e. let z : n ≡ q = cc in rw (← z) f;
-    refused = λ why e. let z : ◌≡◌ {A = ℕ} 0 1 = cc in absurd (omega arith);
-  }
-
-  pub tried_none : {cs : List Check} → EstimatesTried cs s wrap (Ok None) size least prefix
-  tried_none = record {
-    found = λ q e. let z : ◌≡◌ {A = ℕ} 0 1 = cc in absurd (omega arith);
-    refused = λ why e. let z : ◌≡◌ {A = ℕ} 0 1 = cc in absurd (omega arith);
-  }
-
-  pub tried_err : {cs : List Check} {why : Refusal} → EstimatesFound cs s wrap (Err why) size least prefix → EstimatesTried cs s wrap (Err why) size least prefix
-  tried_err {why = why} f = record {
-    found = λ q e. let z : ◌≡◌ {A = ℕ} 0 1 = cc in absurd (omega arith);
-    refused = λ q e. let z : why ≡ q = cc in rw (← z) f;
-  }

@@ -1,12 +1,13 @@
-// The arrays in which a sheet is read and measured, of two sizes. They are cleared with each call, and for a small sheet short ones do.
-ghost use Rattle.std.specs.Prelude.{◌≡◌, ◌≤◌, None};
+// The arrays in which a sheet is read and measured, of four sizes. They are cleared with each call, and for a short sheet short ones do.
+ghost use Rattle.std.specs.Prelude.{◌≡◌, ◌≤◌, None, Result};
 ghost use Rattle.lists.specs.Limits.{max_entries, max_lines};
 ghost use Rattle.sheet.specs.Steps.{room_for};
 ghost use Rattle.opening.specs.Opening.{open_checks, opened_of};
-ghost use Rattle.opening.specs.inner.Measures.{Decided};
-ghost use Rattle.call_estimates.specs.inner.Found.{LinesRoom, FiguresFit, FiguresWritten, EstimatesFound, EstimatesTried};
+ghost use Rattle.opening.specs.inner.Measures.{Decided, Tried};
+ghost use Rattle.call_estimates.specs.inner.Found.{LinesRoom, FiguresFit, FiguresWritten, EstimatesFound};
 
-use lists::{MAX_ENTRIES, MAX_LINES, Refusal, SMALL_LINES};
+use lists::{MAX_ENTRIES, MAX_LINES, Refusal};
+use opening::{FEW_LINES, MANY_LINES, SMALL_LINES};
 use text::Estimate;
 
 // What reading a sheet and checking its tables answers, in arrays of L lines. It is never taken into its caller's
@@ -22,12 +23,17 @@ fn check_in<const L: usize>(sheet: &[u8]) -> Result<usize, Refusal>
     opening::open_sheet(sheet, None, &mut lines, &mut scratch)
 }
 
-// The same in short arrays if they do.
+// The same in the shortest arrays that do.
 pub fn check_within(sheet: &[u8]) -> Result<usize, Refusal>
     ensures { result ≡ opened_of None sheet.now }
 {
-    if opening::is_small(sheet) {
+    let lines = opening::most_lines(sheet);
+    if lines <= FEW_LINES {
+        check_in::<FEW_LINES>(sheet)
+    } else if lines <= SMALL_LINES {
         check_in::<SMALL_LINES>(sheet)
+    } else if lines <= MANY_LINES {
+        check_in::<MANY_LINES>(sheet)
     } else {
         check_in::<MAX_LINES>(sheet)
     }
@@ -56,7 +62,7 @@ fn estimates_in<const L: usize, const E: usize>(
     requires room { room_for sheet.now ≤ L }
     requires sizes { (L ≤ max_lines) × (E ≤ max_entries) }
     requires lines_room { LinesRoom size.old least.old prefix.old }
-    ensures tried { EstimatesTried (open_checks None sheet.now) sheet.now wrap result size.new least.new prefix.new }
+    ensures tried { Tried (λ r. EstimatesFound (open_checks None sheet.now) sheet.now wrap r size.new least.new prefix.new) result }
     ensures any { max_entries ≤ E → max_lines ≤ L → Decided result }
 {
     let mut lines = [records::NO_LINE; L];
@@ -73,7 +79,30 @@ fn estimates_in<const L: usize, const E: usize>(
     Ok(Some(n))
 }
 
-// The estimates in short arrays if they suffice, and else in long ones.
+// The estimates in short arrays, if the sheet has few lines.
+fn estimates_short(
+    sheet: &[u8],
+    wrap: u32,
+    size: &mut [u32],
+    least: &mut [u32],
+    prefix: &mut [u32],
+) -> Result<Option<usize>, Refusal>
+    requires { LinesRoom size.old least.old prefix.old }
+    ensures { Tried (λ r. EstimatesFound (open_checks None sheet.now) sheet.now wrap r size.new least.new prefix.new) result }
+{
+    let lines = opening::most_lines(sheet);
+    if lines <= FEW_LINES {
+        estimates_in::<FEW_LINES, FEW_LINES>(sheet, wrap, size, least, prefix)
+    } else if lines <= SMALL_LINES {
+        estimates_in::<SMALL_LINES, SMALL_LINES>(sheet, wrap, size, least, prefix)
+    } else if lines <= MANY_LINES {
+        estimates_in::<MANY_LINES, MAX_ENTRIES>(sheet, wrap, size, least, prefix)
+    } else {
+        Ok(None)
+    }
+}
+
+// The estimates in short arrays if they suffice, and else in the longest.
 pub fn estimates_within(
     sheet: &[u8],
     wrap: u32,
@@ -84,11 +113,9 @@ pub fn estimates_within(
     requires { LinesRoom size.old least.old prefix.old }
     ensures { EstimatesFound (open_checks None sheet.now) sheet.now wrap result size.new least.new prefix.new }
 {
-    if opening::is_small(sheet) {
-        let tried = estimates_in::<SMALL_LINES, SMALL_LINES>(sheet, wrap, size, least, prefix)?;
-        if let Some(n) = tried {
-            return Ok(n);
-        }
+    let tried = estimates_short(sheet, wrap, size, least, prefix)?;
+    if let Some(n) = tried {
+        return Ok(n);
     }
     let tried = estimates_in::<MAX_LINES, MAX_ENTRIES>(sheet, wrap, size, least, prefix)?;
     Ok(tried.unwrap())

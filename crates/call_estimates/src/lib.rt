@@ -50,7 +50,7 @@ pub fn estimates(
 {
     let asked = arguments::of_estimates(wrap, size.len(), least.len(), prefix.len());
     let read = find_estimates(sheet, wrap, asked, size, least, prefix);
-    let n = sheet_figures::line_count(read);
+    let n = read.unwrap_or(0);
     lists::keep_front(size, n);
     lists::keep_front(least, n);
     lists::keep_front(prefix, n);

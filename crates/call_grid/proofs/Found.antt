@@ -2,7 +2,7 @@
 use Rattle.answers.specs.Answers.{grid_with}
 use Rattle.answers.specs.declared.Grid.{Grid}
 use Rattle.lists.specs.declared.Refusal.{Refusal}
-use Rattle.std.specs.Prelude.{Err, Ok, None, Some}
+use Rattle.std.specs.Prelude.{Err, Ok, Some}
 use mathlib.Core.Path.{◌≡◌, refl, sym, ◌∙◌}
 use mathlib.Core.List.{List}
 use Prim.Native.Nat.{ℕ, ◌-◌, ◌≤◌}
@@ -21,7 +21,7 @@ use Rattle.opening.specs.Opening.{open_checks, opened_of}
 use Rattle.table.specs.inner.Asked.{Asked}
 use Rattle.sheet_figures.specs.inner.Opened.{OpenedAt}
 use Rattle.sheet_figures.proofs.Openings.{failed, told, opened_passed, asked_lines}
-use Rattle.call_grid.specs.inner.Found.{entries_in, rows_in, GridRoom, GridFound, GridTried}
+use Rattle.call_grid.specs.inner.Found.{entries_in, rows_in, GridRoom, GridFound}
 use Rattle.call_grid.specs.inner.Made.{answer_of, GridFits, GridWritten}
 use Rattle.call_grid.proofs.Told.{entries_length, rows_length, records_few, cells_are, firsts_are, spans_are, lines_are, ends_are}
 
@@ -94,22 +94,3 @@ module _ {s : List ℕ} {line : ℕ} {cell first' span row end : List ℕ} where
         row_lines = sym (figures_fail cs _ p);
         row_ends_are = sym (figures_fail cs _ p);
       }
-
-  -- what arrays of one size come to
-  pub tried_some : {cs : List Check} {r : Grid} → GridFound cs s line (Ok r) cell first' span row end → GridTried cs s line (Ok (Some r)) cell first' span row end
-  tried_some {r = r} f = record {
-    found = λ q e. let z : r ≡ q = cc in rw (← z) f;
-    refused = λ why e. let z : ◌≡◌ {A = ℕ} 0 1 = cc in absurd (omega arith);
-  }
-
-  pub tried_none : {cs : List Check} → GridTried cs s line (Ok None) cell first' span row end
-  tried_none = record {
-    found = λ q e. let z : ◌≡◌ {A = ℕ} 0 1 = cc in absurd (omega arith);
-    refused = λ why e. let z : ◌≡◌ {A = ℕ} 0 1 = cc in absurd (omega arith);
-  }
-
-  pub tried_err : {cs : List Check} {why : Refusal} → GridFound cs s line (Err why) cell first' span row end → GridTried cs s line (Err why) cell first' span row end
-  tried_err {why = why} f = record {
-    found = λ q e. let z : ◌≡◌ {A = ℕ} 0 1 = cc in absurd (omega arith);
-    refused = λ q e. let z : why ≡ q = cc in rw (← z) f;
-  }

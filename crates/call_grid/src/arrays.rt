@@ -1,14 +1,15 @@
-// The arrays in which a sheet is read and a grid made, of two sizes. They are cleared with each call, and for a small sheet short ones do.
-ghost use Rattle.std.specs.Prelude.{◌≤◌, Some};
+// The arrays in which a sheet is read and a grid made, of four sizes. They are cleared with each call, and for a short sheet short ones do.
+ghost use Rattle.std.specs.Prelude.{◌≤◌, Some, Result};
 ghost use Rattle.lists.specs.Limits.{max_entries, max_lines};
 ghost use Rattle.sheet.specs.Steps.{room_for};
 ghost use Rattle.opening.specs.Opening.{open_checks};
-ghost use Rattle.opening.specs.inner.Measures.{Decided};
-ghost use Rattle.call_grid.specs.inner.Found.{GridRoom, GridFound, GridTried};
+ghost use Rattle.opening.specs.inner.Measures.{Decided, Tried};
+ghost use Rattle.call_grid.specs.inner.Found.{GridRoom, GridFound};
 
 use super::made::{answer_of, write_grid};
 use answers::Grid;
-use lists::{MAX_ENTRIES, MAX_LINES, Refusal, SMALL_LINES};
+use lists::{MAX_ENTRIES, MAX_LINES, Refusal};
+use opening::{FEW_LINES, MANY_LINES, SMALL_LINES};
 
 // The grid of the table in a line of a sheet, in arrays of L lines and rows and E entries; none, if they do not suffice for the sheet's tables. `row` is scratch
 // until it is written. It is never taken into its caller's frame: so a small sheet does not pay for the room of a large one.
@@ -25,8 +26,8 @@ fn grid_in<const L: usize, const E: usize>(
     requires lines_room { room_for sheet.now ≤ L }
     requires sizes { (L ≤ max_lines) × (E ≤ max_entries) }
     requires grid_room { GridRoom cell.old first.old span.old row.old row_end.old }
-    ensures tried { GridTried (open_checks (Some line) sheet.now) sheet.now line result
-        cell.new first.new span.new row.new row_end.new }
+    ensures tried { Tried (λ r. GridFound (open_checks (Some line) sheet.now) sheet.now line r
+        cell.new first.new span.new row.new row_end.new) result }
     ensures any { max_entries ≤ E → max_lines ≤ L → Decided result }
 {
     let mut lines = [records::NO_LINE; L];
@@ -44,7 +45,33 @@ fn grid_in<const L: usize, const E: usize>(
     Ok(Some(answer_of(grid)))
 }
 
-// The grid in short arrays if they suffice, and else in long ones.
+// The grid in short arrays, if the sheet has few lines.
+fn grid_short(
+    sheet: &[u8],
+    line: u32,
+    cell: &mut [u32],
+    first: &mut [u32],
+    span: &mut [u32],
+    row: &mut [u32],
+    row_end: &mut [u32],
+) -> Result<Option<Grid>, Refusal>
+    requires { GridRoom cell.old first.old span.old row.old row_end.old }
+    ensures { Tried (λ r. GridFound (open_checks (Some line) sheet.now) sheet.now line r
+        cell.new first.new span.new row.new row_end.new) result }
+{
+    let lines = opening::most_lines(sheet);
+    if lines <= FEW_LINES {
+        grid_in::<FEW_LINES, FEW_LINES>(sheet, line, cell, first, span, row, row_end)
+    } else if lines <= SMALL_LINES {
+        grid_in::<SMALL_LINES, SMALL_LINES>(sheet, line, cell, first, span, row, row_end)
+    } else if lines <= MANY_LINES {
+        grid_in::<MANY_LINES, MAX_ENTRIES>(sheet, line, cell, first, span, row, row_end)
+    } else {
+        Ok(None)
+    }
+}
+
+// The grid in short arrays if they suffice, and else in the longest.
 pub fn grid_within(
     sheet: &[u8],
     line: u32,
@@ -58,13 +85,9 @@ pub fn grid_within(
     ensures { GridFound (open_checks (Some line) sheet.now) sheet.now line result
         cell.new first.new span.new row.new row_end.new }
 {
-    if opening::is_small(sheet) {
-        let tried = grid_in::<SMALL_LINES, SMALL_LINES>(
-            sheet, line, cell, first, span, row, row_end,
-        )?;
-        if let Some(grid) = tried {
-            return Ok(grid);
-        }
+    let tried = grid_short(sheet, line, cell, first, span, row, row_end)?;
+    if let Some(grid) = tried {
+        return Ok(grid);
     }
     let tried = grid_in::<MAX_LINES, MAX_ENTRIES>(sheet, line, cell, first, span, row, row_end)?;
     Ok(tried.unwrap())

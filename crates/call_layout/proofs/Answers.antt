@@ -3,7 +3,7 @@ use Rattle.answers.specs.declared.Layout.{Layout}
 use Rattle.lists.specs.declared.Refusal.{Refusal}
 use Rattle.std.specs.Prelude.{Err, Ok, Result, MatchResult, Some}
 use mathlib.Core.Path.{◌≡◌, refl, sym, ◌∙◌}
-use mathlib.Core.Bool.{true, false}
+use mathlib.Core.Bool.{true, false, ◌||◌}
 use mathlib.Core.List.{List, [], ◌∷◌}
 use Prim.Native.Nat.{ℕ, ◌≤◌}
 use native.Mathlib.Omega.{arith}
@@ -11,13 +11,13 @@ use lib.Dec.{ltb}
 use lib.ListN.{length, take}
 use borrow.Author.Tests.{ltb-false}
 use Rattle.lists.specs.Lists.{padded}
-use Rattle.lists.specs.Limits.{max_lines, max_entries}
+use Rattle.lists.specs.Limits.{max_lines, max_entries, max_wrap, max_width}
 use Rattle.lists.specs.Refusals.{Check, first_answer, verdict_of, passes, if_passes}
-use Rattle.sheet.proofs.First.{neither}
+use Rattle.sheet.proofs.First.{neither, passes_both}
 use Rattle.opening.specs.Opening.{after_reading, open_checks}
 use Rattle.table.specs.inner.Asked.{OutRoom}
 use Rattle.call_layout.specs.inner.Found.{columns_in, entries_in, LayoutFound}
-use Rattle.arguments.specs.Arguments.{any_shorter, layout_arguments}
+use Rattle.arguments.specs.Arguments.{any_shorter, settings_check, layout_arguments}
 use Rattle.call_layout.specs.Layout.{layout_checks, laid_out_of, LayoutAnswer}
 use Rattle.sheet_figures.specs.inner.Early.{early}
 use Rattle.arguments.specs.declared.Settings.{Settings}
@@ -40,7 +40,7 @@ layout_early why cs s line wrap raw width column x wide =
       widths = refl;
       xs = refl;
       wides = refl;
-      promised = λ p. let z : ◌≡◌ {A = ℕ} 0 1 = cc in absurd (omega arith);
+      promised = λ low p. let z : ◌≡◌ {A = ℕ} 0 1 = cc in absurd (omega arith);
     }
 
 -- not refused for the arguments
@@ -66,6 +66,12 @@ layout_opened {asked} {cs} {s} {line} {wrap} {raw} {width} {r} {column} {x} {wid
     asked (λ why. layout_early why cs s line wrap raw width column x wide) layout_late
 
 -- ---- the call
+
+-- where no check applies, raw is 0 or 1
+raw_low : (wrap raw width : ℕ) (cs : List Check) → passes (settings_check wrap raw width ∷ cs) ≡ true → raw ≤ 1
+raw_low wrap raw width cs e =
+    let (a, b) = neither (ltb max_wrap wrap || ltb 1 raw) (ltb max_width width) (passes_both (settings_check wrap raw width) cs e).0 in
+    ltb-false 1 raw (neither (ltb max_wrap wrap) (ltb 1 raw) a).1
 
 -- where the arguments are not refused, each lent buffer has room for a layout
 fit : (wrap raw width : ℕ) (v : Result (Unit {0}) Refusal) (a b c : ℕ) → v ≡ verdict_of (layout_arguments wrap raw width (a ∷ []) (b ∷ c ∷ [])) → v ≡ (Ok tt)
@@ -115,6 +121,6 @@ module _ {s : List ℕ} {line wrap raw width : ℕ} {v : Result (Unit {0}) Refus
               widths = leaving column₀ column (f _) k ka a found.widths;
               xs = leaving x₀ x (f _) l kb b found.xs;
               wides = leaving wide₀ wide (f _) l kc c found.wides;
-              promised = λ q. found.promised (early_nines (λ why. false) true v (open_checks (Some line) s) _ _ judged ∙ q);
+              promised = λ q. found.promised (raw_low wrap raw width _ q) (early_nines (λ why. false) true v (open_checks (Some line) s) _ _ judged ∙ q);
             };
       }

@@ -2,7 +2,7 @@
 use Rattle.answers.specs.Answers.{layout_with}
 use Rattle.answers.specs.declared.Layout.{Layout}
 use Rattle.lists.specs.declared.Refusal.{Refusal}
-use Rattle.std.specs.Prelude.{Err, Ok, None, Some}
+use Rattle.std.specs.Prelude.{Err, Ok, Some}
 use mathlib.Core.Path.{◌≡◌, sym, ◌∙◌}
 use mathlib.Core.List.{List}
 use Prim.Native.Nat.{ℕ, ◌+◌, ◌-◌, ◌≤◌}
@@ -23,7 +23,7 @@ use Rattle.table.specs.inner.Asked.{OutRoom}
 use Rattle.table.specs.declared.MeasuredTable.{MeasuredTable}
 use Rattle.sheet_figures.specs.inner.Opened.{LinesOf}
 use Rattle.sheet_figures.proofs.Openings.{failed, told, opened_passed, opened_apt}
-use Rattle.call_layout.specs.inner.Found.{columns_in, entries_in, LayoutFound, LayoutTried}
+use Rattle.call_layout.specs.inner.Found.{columns_in, entries_in, LayoutFound}
 use Rattle.call_layout.specs.inner.Made.{LayoutMade, answer_of}
 
 -- buffers that are as long as they were have the same room
@@ -53,10 +53,10 @@ layout_made k m = record {
 -- ---- the layout asked for
 
 module _ {s : List ℕ} {line wrap raw width : ℕ} {column x wide : List ℕ} where
-  pub layout_found : {n : ℕ} {lines : List Kept} {figures : List Estimate} → LinesOf s line wrap n lines figures → raw ≤ 1
+  pub layout_found : {n : ℕ} {lines : List Kept} {figures : List Estimate} → LinesOf s line wrap n lines figures
       → {r : Layout} → LayoutMade (take n lines) (line - 1) figures raw width r column x wide → LayoutFound (open_checks (Some line) s) s line wrap raw width (Ok r) column x wide
   unfolding columns_in entries_in
-  layout_found w low f =
+  layout_found w f =
       let p = (opened_passed w.opened).all in
       let m = rw w.opened.holds at f in
       let b = (opened_apt w.opened).from_one in
@@ -69,7 +69,7 @@ module _ {s : List ℕ} {line wrap raw width : ℕ} {column x wide : List ℕ} w
         widths = front_pass column (open_checks (Some line) s) p m.columns_are l.column_is;
         xs = front_pass x (open_checks (Some line) s) p m.entries_are l.xs_are;
         wides = front_pass wide (open_checks (Some line) s) p m.entries_are l.wides_are;
-        promised = λ _. l.promised low;
+        promised = λ low _. l.promised low;
       }
 
   pub layout_refused : {why : Refusal} → opened_of (Some line) s ≡ Err why → LayoutFound (open_checks (Some line) s) s line wrap raw width (Err why) column x wide
@@ -83,24 +83,5 @@ module _ {s : List ℕ} {line wrap raw width : ℕ} {column x wide : List ℕ} w
         widths = sym (figures_fail (open_checks (Some line) s) _ p);
         xs = sym (figures_fail (open_checks (Some line) s) _ p);
         wides = sym (figures_fail (open_checks (Some line) s) _ p);
-        promised = λ q. let z : ◌≡◌ {A = ℕ} 0 1 = cc in absurd (omega arith);
+        promised = λ low q. let z : ◌≡◌ {A = ℕ} 0 1 = cc in absurd (omega arith);
       }
-
-  -- what arrays of one size come to
-  pub tried_some : {r : Layout} → LayoutFound (open_checks (Some line) s) s line wrap raw width (Ok r) column x wide → LayoutTried (open_checks (Some line) s) s line wrap raw width (Ok (Some r)) column x wide
-  tried_some {r} f = record {
-    found = λ q e. let z : r ≡ q = cc in rw (← z) f;
-    refused = λ why e. let z : ◌≡◌ {A = ℕ} 0 1 = cc in absurd (omega arith);
-  }
-
-  pub tried_none : LayoutTried (open_checks (Some line) s) s line wrap raw width (Ok None) column x wide
-  tried_none = record {
-    found = λ q e. let z : ◌≡◌ {A = ℕ} 0 1 = cc in absurd (omega arith);
-    refused = λ why e. let z : ◌≡◌ {A = ℕ} 0 1 = cc in absurd (omega arith);
-  }
-
-  pub tried_err : {why : Refusal} → LayoutFound (open_checks (Some line) s) s line wrap raw width (Err why) column x wide → LayoutTried (open_checks (Some line) s) s line wrap raw width (Err why) column x wide
-  tried_err {why} f = record {
-    found = λ q e. let z : ◌≡◌ {A = ℕ} 0 1 = cc in absurd (omega arith);
-    refused = λ q e. let z : why ≡ q = cc in rw (← z) f;
-  }

@@ -1,16 +1,17 @@
-// The arrays in which a sheet is read and its table laid out, of two sizes. They are cleared with each call, and for a small sheet short ones do.
-ghost use Rattle.std.specs.Prelude.{◌≤◌, Some};
+// The arrays in which a sheet is read and its table laid out, of four sizes. They are cleared with each call, and for a short sheet short ones do.
+ghost use Rattle.std.specs.Prelude.{◌≤◌, Some, Result};
 ghost use Rattle.lists.specs.Limits.{max_entries, max_lines};
 ghost use Rattle.sheet.specs.Steps.{room_for};
 ghost use Rattle.opening.specs.Opening.{open_checks};
 ghost use Rattle.table.specs.inner.Asked.{OutRoom};
-ghost use Rattle.opening.specs.inner.Measures.{Decided};
-ghost use Rattle.call_layout.specs.inner.Found.{LayoutFound, LayoutTried};
+ghost use Rattle.opening.specs.inner.Measures.{Decided, Tried};
+ghost use Rattle.call_layout.specs.inner.Found.{LayoutFound};
 
 use super::read::layout_of;
 use answers::Layout;
 use arguments::Settings;
-use lists::{MAX_ENTRIES, MAX_LINES, Refusal, SMALL_LINES};
+use lists::{MAX_ENTRIES, MAX_LINES, Refusal};
+use opening::{FEW_LINES, MANY_LINES, SMALL_LINES};
 use table::MeasuredTable;
 
 // The layout of the table in a line of a sheet, in arrays of L lines, estimates and rows and E entries; none, if they do not suffice for the sheet's
@@ -28,8 +29,8 @@ fn layout_in<const L: usize, const E: usize>(
     requires lines_room { room_for sheet.now ≤ L }
     requires sizes { (L ≤ max_lines) × (E ≤ max_entries) }
     requires out_room { OutRoom column.old x.old wide.old }
-    ensures tried { LayoutTried (open_checks (Some line) sheet.now) sheet.now line settings.wrap settings.raw settings.width result
-        column.new x.new wide.new }
+    ensures tried { Tried (λ r. LayoutFound (open_checks (Some line) sheet.now) sheet.now line settings.wrap settings.raw settings.width r
+        column.new x.new wide.new) result }
     ensures any { max_entries ≤ E → max_lines ≤ L → Decided result }
 {
     let mut lines = [records::NO_LINE; L];
@@ -69,7 +70,32 @@ fn layout_in<const L: usize, const E: usize>(
     Ok(Some(layout))
 }
 
-// The layout in short arrays if they suffice, and else in long ones.
+// The layout in short arrays, if the sheet has few lines.
+fn layout_short(
+    sheet: &[u8],
+    line: u32,
+    settings: Settings,
+    column: &mut [u32],
+    x: &mut [u32],
+    wide: &mut [u32],
+) -> Result<Option<Layout>, Refusal>
+    requires { OutRoom column.old x.old wide.old }
+    ensures { Tried (λ r. LayoutFound (open_checks (Some line) sheet.now) sheet.now line settings.wrap settings.raw settings.width r
+        column.new x.new wide.new) result }
+{
+    let lines = opening::most_lines(sheet);
+    if lines <= FEW_LINES {
+        layout_in::<FEW_LINES, FEW_LINES>(sheet, line, settings, column, x, wide)
+    } else if lines <= SMALL_LINES {
+        layout_in::<SMALL_LINES, SMALL_LINES>(sheet, line, settings, column, x, wide)
+    } else if lines <= MANY_LINES {
+        layout_in::<MANY_LINES, MAX_ENTRIES>(sheet, line, settings, column, x, wide)
+    } else {
+        Ok(None)
+    }
+}
+
+// The layout in short arrays if they suffice, and else in the longest.
 pub fn layout_within(
     sheet: &[u8],
     line: u32,
@@ -82,11 +108,9 @@ pub fn layout_within(
     ensures { LayoutFound (open_checks (Some line) sheet.now) sheet.now line settings.wrap settings.raw settings.width result
         column.new x.new wide.new }
 {
-    if opening::is_small(sheet) {
-        let tried = layout_in::<SMALL_LINES, SMALL_LINES>(sheet, line, settings, column, x, wide)?;
-        if let Some(layout) = tried {
-            return Ok(layout);
-        }
+    let tried = layout_short(sheet, line, settings, column, x, wide)?;
+    if let Some(layout) = tried {
+        return Ok(layout);
     }
     let tried = layout_in::<MAX_LINES, MAX_ENTRIES>(sheet, line, settings, column, x, wide)?;
     Ok(tried.unwrap())

@@ -96,8 +96,7 @@ pub fn list_missing(entries: &[Entry], cause: &[u32], missing: &mut [u32]) -> us
     ensures { Listed entries.now cause.now missing.new result }
 {
     let mut n = 0;
-    for i in 0..entries.len() {
-        let e = entries[i];
+    for (i, e) in entries.iter().enumerate() {
         let from = e.first as usize;
         let to = from + e.span as usize;
         if none_shown(&cause[from..to]) {

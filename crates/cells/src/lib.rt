@@ -65,6 +65,7 @@ fn row_sum(cells: &[u32]) -> u32
     ensures { result ≡ row_sum (bare (spans_of cells.now)) }
 {
     let mut sum: u32 = 0;
+    // by places: a cell is three numbers of the slice, a form that the rules of the project ask for
     for i in 0..cells.len() / 3 {
         let c = cell_at(cells, i);
         sum += c.span.max(1);
@@ -98,6 +99,7 @@ fn resolve_row(cells: &mut [u32], instead: u32, left: u32)
         (lines_of cells.old) (spans_of cells.old) (rowspans_of cells.old)
         (lines_of cells.new) (spans_of cells.new) (rowspans_of cells.new) }
 {
+    // by places: a cell is three numbers of the slice, a form that the rules of the project ask for
     for i in 0..cells.len() / 3 {
         let c = cell_at(cells, i);
         let resolved = Cell {
@@ -110,7 +112,7 @@ fn resolve_row(cells: &mut [u32], instead: u32, left: u32)
 }
 
 // The largest sum of a body's rows: `max_columns` of `tbody_to_render_tree`. The first row's cells begin at `first`, and each row says where its
-// cells end.
+// cells end. That is told by a number among all cells, and so the cells are not cut to the body, here and below.
 fn widest_row(cells: &[u32], rows: &[RowEnd], first: usize) -> u32
     requires { BodyHeld first (row_ends_of rows.now) (spans_of cells.now) }
     ensures { LargestSum (rows_at first (row_ends_of rows.now) (spans_of cells.now)) result }
@@ -162,7 +164,7 @@ fn resolve_body(cells: &mut [u32], rows: &[RowEnd], from: usize, to: usize, firs
 pub fn below(lines: &[Kept], i: usize, d: u32) -> bool
     ensures { result ≡ ltb d (get_or lines.now i no_kept).depth }
 {
-    i < lines.len() && d < u32::from(lines[i].depth)
+    lines.get(i).is_some_and(|line| d < u32::from(line.depth))
 }
 
 // The row of the line at the place i, up to which there are n cells.
@@ -203,6 +205,7 @@ pub fn list_rows(lines: &[Kept], at: usize, cells: &mut [u32], rows: &mut [RowEn
     let mut r = 0;
     let mut first_cell = 0;
     let mut first_row = 0;
+    // by places: the place of a line says its number, which goes into the records
     for i in at + 1..lines.len() {
         let line = lines[i];
         let e = u32::from(line.depth);

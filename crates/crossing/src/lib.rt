@@ -119,6 +119,9 @@ pub fn as_img(img: u32) -> bool
     img != 0
 }
 
+// Each impl writes a refusal's two fields itself: a type parameter has no fields, so that a helper would need an impl for each of the eleven structs, which
+// the C interface has, and each would be as long as the arm.
+
 // The answer of `check`.
 impl From<Result<(), Refusal>> for CheckResult {
     ghost from_gives = { λ told r. r ≡ check_result told };

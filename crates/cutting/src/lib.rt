@@ -30,10 +30,11 @@ pub fn total(figures: &[u32]) -> u64
 fn beaten(e: u32, x: u32, f: u32, y: u32) -> bool
     ensures { result ≡ (ltb e f || (eqb e f && ltb x y)) }
 {
-    e < f || (e == f && x < y)
+    (e, x) < (f, y)
 }
 
-// The column to cut. The figures of the best one so far stand in locals: a look back at them for every column takes twice the time.
+// The column to cut. The figures of the best one so far stand in locals: a look back at them for every column takes twice the time. A loop and no
+// `max_by_key`, which would answer the last of equal ones: here the first is cut.
 fn pick_column(leasts: &[u32], wide: &[u32]) -> usize
     requires { Below leasts.now wide.now }
     ensures { result ≡ pick leasts.now wide.now (length wide.now) }
@@ -90,63 +91,69 @@ fn width_at(i: usize, least: u32, share: u32, level: u32, bound: u64) -> u32
     least + level
 }
 
-// The sum of all columns' widths at the level and the bound.
-fn total_at(leasts: &[u32], shares: &[u32], level: u32, bound: u64) -> u64
-    requires below { Below leasts.now shares.now }
-    requires shares_len_bound { length shares.now ≤ max_lines }
-    ensures { result ≡ sum (filled leasts.now shares.now level bound) }
-{
-    let mut t: u64 = 0;
-    for (i, share) in shares.iter().enumerate() {
-        t += u64::from(width_at(i, leasts[i], *share, level, bound));
-    }
-    t
+// Columns whose shares overflow the room: the least and the share of each, and the room without the gaps.
+#[derive(Clone, Copy)]
+struct Tight<'a> {
+    leasts: &'a [u32],
+    shares: &'a [u32],
+    room: u32,
+    ghost roomy: { Roomy leasts.now shares.now room },
+    ghost over: { room < sum shares.now },
 }
 
-// The level, by halving: at lo nothing overflows the room, above hi something does. No level above the room fits it.
-fn find_level(leasts: &[u32], shares: &[u32], room: u32) -> u32
-    requires roomy { Roomy leasts.now shares.now room }
-    requires room_bound { room < sum shares.now }
-    ensures { result ≡ level_of leasts.now shares.now (room + gaps (length shares.now)) }
-{
-    let mut lo: u32 = 0;
-    let mut hi = room;
-    // A while: each turn halves what is left between the two, so no range or list gives the turns.
-    while lo < hi {
-        let mid = hi - (hi - lo) / 2;
-        if total_at(leasts, shares, mid, 0) <= u64::from(room) {
-            lo = mid;
-        } else {
-            hi = mid - 1;
+impl Tight<'_> {
+    // The sum of all columns' widths at the level and the bound.
+    fn total_at(&self, level: u32, bound: u64) -> u64
+        ensures { result ≡ sum (filled self.now.leasts.now self.now.shares.now level bound) }
+    {
+        let mut t: u64 = 0;
+        for (i, share) in self.shares.iter().enumerate() {
+            t += u64::from(width_at(i, self.leasts[i], *share, level, bound));
         }
+        t
     }
-    lo
-}
 
-// The bound at which the widths fill the room, by halving. From one bound to the next at most one column has one more, so none is skipped.
-fn find_bound(leasts: &[u32], shares: &[u32], room: u32, level: u32) -> u64
-    requires roomy { Roomy leasts.now shares.now room }
-    requires room_bound { room < sum shares.now }
-    requires level_value { level ≡ level_of leasts.now shares.now (room + gaps (length shares.now)) }
-    ensures { sum (filled leasts.now shares.now level result) ≡ room }
-{
-    let full = u64::from(room);
-    let mut lo: u64 = 0;
-    let mut hi = full * 4096 + 4096;
-    // A while: it halves too, and it can end where the room is met.
-    while lo + 1 < hi {
-        let mid = lo + (hi - lo) / 2;
-        let t = total_at(leasts, shares, level, mid);
-        if t == full {
-            return mid;
+    // The level, by halving: at lo nothing overflows the room, above hi something does. No level above the room fits it.
+    fn level(&self) -> u32
+        ensures { result ≡ level_of self.now.leasts.now self.now.shares.now (self.now.room + gaps (length self.now.shares.now)) }
+    {
+        let mut lo: u32 = 0;
+        let mut hi = self.room;
+        // A while: each turn halves what is left between the two, so no range or list gives the turns.
+        while lo < hi {
+            let mid = hi - (hi - lo) / 2;
+            if self.total_at(mid, 0) <= u64::from(self.room) {
+                lo = mid;
+            } else {
+                hi = mid - 1;
+            }
         }
-        if t < full {
-            lo = mid;
-        } else {
-            hi = mid;
-        }
+        lo
     }
-    lo
+
+    // The bound at which the widths fill the room, by halving. From one bound to the next at most one column has one more, so none is skipped.
+    fn bound(&self, level: u32) -> u64
+        requires { level ≡ level_of self.now.leasts.now self.now.shares.now (self.now.room + gaps (length self.now.shares.now)) }
+        ensures { sum (filled self.now.leasts.now self.now.shares.now level result) ≡ self.now.room }
+    {
+        let full = u64::from(self.room);
+        let mut lo: u64 = 0;
+        let mut hi = full * 4096 + 4096;
+        // A while: it halves too, and it can end where the room is met.
+        while lo + 1 < hi {
+            let mid = lo + (hi - lo) / 2;
+            let t = self.total_at(level, mid);
+            if t == full {
+                return mid;
+            }
+            if t < full {
+                lo = mid;
+            } else {
+                hi = mid;
+            }
+        }
+        lo
+    }
 }
 
 // The shares become the widths at the level and the bound.
@@ -166,8 +173,13 @@ fn cut_by_level(leasts: &[u32], room: u32, wide: &mut [u32])
     requires room_bound { room < sum wide.old }
     ensures { wide.new ≡ cut leasts.now wide.old (room + gaps (length wide.old)) }
 {
-    let level = find_level(leasts, wide, room);
-    let bound = find_bound(leasts, wide, room, level);
+    let tight = Tight {
+        leasts,
+        shares: &*wide,
+        room,
+    };
+    let level = tight.level();
+    let bound = tight.bound(level);
     fill_widths(leasts, level, bound, wide);
 }
 

@@ -15,7 +15,7 @@ use Rattle.lists.specs.Limits.{max_cols, max_rows}
 use Rattle.lists.specs.Lists.{All}
 use Rattle.text.specs.Decimal.{plain, shift}
 use Rattle.text.specs.Text.{with_img}
-use Rattle.octets.specs.inner.Digits.{Eight}
+use Rattle.octets.specs.inner.Digits.{as_number, Eight}
 use Rattle.octets.proofs.Standing.{stand, joined}
 use Rattle.kinds.specs.declared.Kind.{Kind}
 use Rattle.kinds.specs.declared.Kind.TheVariants.{Text, Table, Body, Row, Cell}
@@ -53,12 +53,12 @@ abbrev pub text_end : List ℕ
 text_end = 116 ∷ 32 ∷ 48 ∷ 32 ∷ 48 ∷ 32 ∷ 48 ∷ 32 ∷ []
 
 -- a number that is ` 0 0 0 ` and a line feed with one digit more for cols and one for rows
-pub cell_ends : {s : List ℕ} {at depth r : ℕ} → Eight s at r → 729636054438522912 ≤ r → (r - 729636054438522912) % 16777216 ≡ 0
-    → (r - 729636054438522912) / 16777216 % 65536 ≤ 9 → (r - 729636054438522912) / 16777216 / 65536 ≤ 9 → (l : Kept)
-    → l ≡ kept_cell depth ((r - 729636054438522912) / 16777216 % 65536) ((r - 729636054438522912) / 16777216 / 65536) → (b : Brief) → Some (record { value = l; next = at + 8 }) ≡ Some b → bytes.Cell s at depth b
+pub cell_ends : {s : List ℕ} {at depth r z : ℕ} → Eight s at r → z ≡ as_number (ending 0 0) → z ≤ r → (r - z) % 16777216 ≡ 0
+    → (r - z) / 16777216 % 65536 ≤ 9 → (r - z) / 16777216 / 65536 ≤ 9 → (l : Kept)
+    → l ≡ kept_cell depth ((r - z) / 16777216 % 65536) ((r - z) / 16777216 / 65536) → (b : Brief) → Some (record { value = l; next = at + 8 }) ≡ Some b → bytes.Cell s at depth b
 unfolding All
-cell_ends {r = r} w h m p q l i b e =
-    let figure = (r - 729636054438522912) / 16777216 in
+cell_ends {r = r} {z = z} w n h m p q l i b e =
+    let figure = (r - z) / 16777216 in
     let cols = figure % 65536 in
     let rows = figure / 65536 in
     record {

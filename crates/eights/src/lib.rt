@@ -12,22 +12,8 @@ use kinds::Kind;
 use records::Kept;
 use text::bytes::Classes;
 
-// ` cell 0 `, ` text 0 `, ` row 0 0`, ` body 0 ` and ` table 0` as `octets::eight` takes them: what follows a depth of one digit.
-const CELL_FRONT: u64 = 2319389458142946080;
-
-const TEXT_FRONT: u64 = 2319389492704015392;
-
-const ROW_FRONT: u64 = 3467824629076161056;
-
-const BODY_FRONT: u64 = 2319389513843958304;
-
-const TABLE_FRONT: u64 = 3467883229256709152;
-
-// `t 0 0 0 `, after which a text starts.
-const TEXT_END: u64 = 2319389199166349428;
-
-// ` 0 0 0 ` and a line feed.
-const ZEROS: u64 = 729636054438522912;
+// What ends a line without figures.
+const ZEROS: [u8; 8] = *b" 0 0 0 \n";
 
 // What 1 more in the byte of cols adds to those eight.
 const COLS_STEP: u64 = 16777216;
@@ -43,7 +29,7 @@ fn bare_line(bytes: &[u8], depth: u8, kind: Kind, at: usize) -> Option<Scanned<K
     requires { at + 8 ≤ length bytes.now }
     ensures { (b : Brief) → result ≡ Some b → Bare bytes.now at depth kind b }
 {
-    if octets::eight(bytes, at) != ZEROS {
+    if octets::eight(bytes, at) != u64::from_le_bytes(ZEROS) {
         return None;
     }
     Some(Scanned {
@@ -59,10 +45,11 @@ fn cell_line(bytes: &[u8], depth: u8, at: usize) -> Option<Scanned<Kept>>
     ensures { (b : Brief) → result ≡ Some b → Cell bytes.now at depth b }
 {
     let end = octets::eight(bytes, at);
-    if end < ZEROS {
+    let zeros = u64::from_le_bytes(ZEROS);
+    if end < zeros {
         return None;
     }
-    let more = end - ZEROS;
+    let more = end - zeros;
     let cols = more / COLS_STEP % ROWS_STEP;
     let rows = more / COLS_STEP / ROWS_STEP;
     if more % COLS_STEP != 0 || cols > 9 || rows > 9 {
@@ -91,7 +78,7 @@ fn text_line(classes: &Classes, bytes: &[u8], depth: u8, from: usize) -> Option<
     })
 }
 
-// The line at a place, where its depth stands as one digit.
+// The line at a place, where its depth stands as one digit. The eight bytes after it tell a kind: the compiled code takes them as one number.
 fn line_with(classes: &Classes, bytes: &[u8], at: usize, depth: u8) -> Option<Scanned<Kept>>
     requires bytes_len_bound { length bytes.now ≤ max_bytes }
     requires digit { Digit bytes.now at depth }
@@ -99,22 +86,22 @@ fn line_with(classes: &Classes, bytes: &[u8], at: usize, depth: u8) -> Option<Sc
 {
     let front = octets::eight(bytes, at + 1);
     // Not a match: the commonest front is compared first.
-    if front == CELL_FRONT {
+    if front == u64::from_le_bytes(*b" cell 0 ") {
         return cell_line(bytes, depth, at + 6);
     }
-    if front == TEXT_FRONT {
-        if octets::eight(bytes, at + 5) != TEXT_END {
+    if front == u64::from_le_bytes(*b" text 0 ") {
+        if octets::eight(bytes, at + 5) != u64::from_le_bytes(*b"t 0 0 0 ") {
             return None;
         }
         return text_line(classes, bytes, depth, at + 13);
     }
-    if front == ROW_FRONT {
+    if front == u64::from_le_bytes(*b" row 0 0") {
         return bare_line(bytes, depth, Kind::Row, at + 5);
     }
-    if front == BODY_FRONT {
+    if front == u64::from_le_bytes(*b" body 0 ") {
         return bare_line(bytes, depth, Kind::Body, at + 6);
     }
-    if front == TABLE_FRONT {
+    if front == u64::from_le_bytes(*b" table 0") {
         return bare_line(bytes, depth, Kind::Table, at + 7);
     }
     None

@@ -84,7 +84,7 @@ fn is_filled(lines: &[Kept], i: usize) -> bool
     ensures { FilledAt lines.now i result }
 {
     let line = lines[i];
-    line.kind == Kind::Cell && i + 1 < lines.len() && line.depth < lines[i + 1].depth
+    line.kind == Kind::Cell && lines.get(i + 1).is_some_and(|next| line.depth < next.depth)
 }
 
 // Measures all below the table at `at`, and returns the line after those.

@@ -5,18 +5,17 @@ use mathlib.Core.Bool.{Bool, true, false, not, cond, ◌&&◌, and-true, false�
 use mathlib.Core.List.{List, [], ◌∷◌}
 use Prim.Native.Nat.{ℕ, suc, ◌+◌, ◌-◌, ◌*◌, ◌≤◌, ◌<◌}
 use native.Mathlib.Numerals.{add-one}
-use native.Mathlib.Nat.{add-zero}
 use native.Mathlib.Omega.{arith}
 use lib.Dec.{eqb, leb}
-use lib.ListN.{length, get_or, drop, length-drop, drop_of_length-le}
+use lib.ListN.{length, get_or, drop, length-drop}
 use lib.Seq.{drop-cons}
-use borrow.Author.Tests.{eq-eqb, ne_eqb, eqb-true, le-leb, lt-leb, leb-true, leb-false}
+use borrow.Author.Tests.{ne_eqb, eqb-true, leb-true}
 use Rattle.std.specs.Prelude.{None}
 use Rattle.text.specs.Decimal.{plain, minus}
 use Rattle.fields.specs.Numbers.{numeral, unwritten, is_digit, all_digits, value_from, is_natural, natural_of, negative_of, number_of, up_to, magnitude}
-use Rattle.fields.specs.Blanks.{field, longer, until_blank, blank}
-use Rattle.fields.specs.Reading.{FieldRead, sound, on_field, on_numeral, number_read, digits_read, is_lone}
-use Rattle.fields.proofs.OnField.{on_longer, on_same, on_unsound, and_fails, and_0, and_1}
+use Rattle.fields.specs.Blanks.{until_blank, blank}
+use Rattle.fields.specs.Reading.{FieldRead, sound, on_field, on_numeral, number_read, is_lone}
+use Rattle.fields.proofs.OnField.{on_same, and_0, and_1}
 
 pub digit_from : (b : ℕ) → is_digit b ≡ true → 48 ≤ b
 digit_from b e = leb-true 48 b (and_0 (leb 48 b) (leb b 57) e)
@@ -24,78 +23,11 @@ digit_from b e = leb-true 48 b (and_0 (leb 48 b) (leb b 57) e)
 digit_to : (b : ℕ) → is_digit b ≡ true → b ≤ 57
 digit_to b e = leb-true b 57 (and_1 (leb 48 b) (leb b 57) e)
 
--- the turns of `digits_at`
-
-module _ (most v i : ℕ) (s : List ℕ) where
-  abbrev here : FieldRead ℕ
-  here = digits_read most v i (drop i s)
-
-  abbrev b : ℕ
-  b = get_or s i 0
-
-  abbrev w : ℕ
-  w = v * 10 + (b - 48)
-
-  pub digits_out : length s ≤ i → here ≡ None
-  unfolding digits_read
-  digits_out h = rw (drop_of_length-le s h)
-
-  module _ (h : i < length s) where
-    pub digits_end : b ≡ blank → here ≡ sound v (i + 1)
-    unfolding digits_read
-    digits_end e = rw (drop-cons s i 0 h, eq-eqb _ _ e)
-
-    module _ (n : b ≡ blank → ⊥) where
-      pub digits_other : is_digit b ≡ false → here ≡ None
-      unfolding digits_read
-      digits_other d = rw (drop-cons s i 0 h, ne_eqb _ _ n, d)
-
-      module _ (d : is_digit b ≡ true) where
-        pub digits_past : most < w → here ≡ None
-        unfolding digits_read
-        digits_past g = rw (drop-cons s i 0 h, ne_eqb _ _ n, d, lt-leb _ _ g)
-
-        pub digits_more : w ≤ most → here ≡ digits_read most w (i + 1) (drop (i + 1) s)
-        unfolding digits_read
-        digits_more g = rw (drop-cons s i 0 h, ne_eqb _ _ n, d, le-leb _ _ g) (rw (add-one i))
-
 -- digits only make a value larger
 pub value_grows : (v : ℕ) (f : List ℕ) → v ≤ value_from v f
 unfolding value_from
 value_grows v [] = omega arith
 value_grows v (b ∷ f) = omega (arith, value_grows (v * 10 + (b - 48)) f)
-
--- what the loop reads, by the field
-abbrev digits_in : ℕ → ℕ → ℕ → List ℕ → FieldRead ℕ
-digits_in most v at f = cond (all_digits f && leb (value_from v f) most) (sound (value_from v f) (at + length f + 1)) None
-
-digits_field : (most v at : ℕ) (s : List ℕ) → v ≤ most → digits_read most v at s ≡ on_field (until_blank s) (digits_in most v at)
-unfolding digits_read until_blank all_digits value_from
-digits_field most v at [] h = refl
-digits_field most v at (b ∷ bs) h =
-    go (eqb b blank) (is_digit b) (leb w most) refl refl (digits_field most w (at + 1) bs)
-  where
-    w : ℕ
-    w = v * 10 + (b - 48)
-
-    go : (t d l : Bool) → is_digit b ≡ d → leb w most ≡ l
-        → (w ≤ most → digits_read most w (at + 1) bs ≡ on_field (until_blank bs) (digits_in most w (at + 1)))
-        → cond t (sound v (at + 1)) (cond (d && l) (digits_read most w (at + 1) bs) None)
-        ≡ on_field (cond t (field [] bs) (longer b (until_blank bs))) (digits_in most v at)
-    go true d l c e more = rw (le-leb v most h, add-zero)
-    go false false l c e more = sym (on_longer b (until_blank bs) _ ∙ on_unsound (until_blank bs) _ (λ f. rw c))
-    go false true false c e more =
-        let past : most < w = leb-false w most e in
-        sym
-        (on_longer b (until_blank bs) _
-        ∙ on_unsound (until_blank bs) _
-        (λ f. rw (and_fails (is_digit b && all_digits f) _ (lt-leb (value_from w f) most (omega (arith, value_grows w f))))))
-    go false true true c e more =
-        more (leb-true w most e)
-        ∙ sym
-        (on_longer b (until_blank bs) _
-        ∙ on_same (until_blank bs) _ _
-        (λ f. let n : at + suc (length f) + 1 ≡ at + 1 + length f + 1 = omega arith in rw (c, n)))
 
 -- a number from 0 to most, by the field
 
@@ -112,10 +44,6 @@ pub natural_digits : (b : ℕ) (f : List ℕ) → (b ≡ 48 → ⊥) → is_natu
 unfolding is_natural all_digits
 natural_digits b [] n = sym (and-true (is_digit b))
 natural_digits b (c ∷ f) n = rw (ne_eqb b 48 n, and-true)
-
-natural_zero : (c : ℕ) (f : List ℕ) → is_natural (48 ∷ c ∷ f) ≡ false
-unfolding is_natural
-natural_zero c f = refl
 
 natural_in_lem : (most at : ℕ) (f : List ℕ)
     → on_numeral (number_of f) (λ n. cond (up_to most n) (sound (magnitude n) (at + length f + 1)) None) ≡ natural_in most at f
@@ -158,23 +86,6 @@ natural_one most at b c bs e =
     let v : value_from 0 (b ∷ []) ≡ b - 48 = omega arith in
     rw (ne_eqb b blank other, and_1 (is_digit b) (eqb c blank) e, digit, n, v)
 
--- after a 0 that is none there are more bytes, or no space
-natural_after : (most at : ℕ) (bs : List ℕ) → is_lone (48 ∷ bs) ≡ false → on_field (until_blank (48 ∷ bs)) (natural_in most at) ≡ None
-unfolding is_lone until_blank is_natural
-natural_after most at [] e = refl
-natural_after most at (c ∷ bs) e =
-    rw e (on_longer 48 (longer c (until_blank bs)) _ ∙ on_longer c (until_blank bs) _ ∙ on_unsound (until_blank bs) _ (λ f. refl))
-
--- after another byte a number is all digits
-natural_other : (most at b : ℕ) (bs : List ℕ) → (b ≡ 48 → ⊥) → (b ≡ blank → ⊥)
-    → on_field (until_blank (b ∷ bs)) (natural_in most at) ≡ on_field (until_blank (b ∷ bs)) (digits_in most 0 at)
-unfolding until_blank
-natural_other most at b bs n m =
-    rw (ne_eqb b blank m)
-    (on_longer b (until_blank bs) _
-    ∙ on_same (until_blank bs) _ _ (λ f. rw (natural_digits b f n))
-    ∙ sym (on_longer b (until_blank bs) _))
-
 -- a single digit at a place
 
 lone_short : (l : List ℕ) → length l ≤ 1 → is_lone l ≡ false
@@ -215,33 +126,11 @@ module _ (most at : ℕ) (s : List ℕ) where
   abbrev found : FieldRead ℕ
   found = number_read (up_to most) magnitude at (drop at s)
 
-  pub natural_out : length s ≤ at → found ≡ None
-  unfolding number_read until_blank
-  natural_out h = rw (drop_of_length-le s h)
-
-  pub natural_lone : is_lone (drop at s) ≡ true → found ≡ cond (leb (get_or s at 0 - 48) most) (sound (get_or s at 0 - 48) (at + 2)) None
-  natural_lone e =
+  pub natural_lone : is_lone (drop at s) ≡ true → {v : ℕ} → v ≡ get_or s at 0 - 48 → found ≡ cond (leb v most) (sound v (at + 2)) None
+  natural_lone e q =
       let h = (lone s at e).inside in
       let two : drop at s ≡ get_or s at 0 ∷ get_or s (at + 1) 0 ∷ drop (suc (at + 1)) s =
       rw (drop-cons s at 0 (omega arith), ← add-one at, drop-cons s (at + 1) 0 h) in
-      rw two
+      rw (q, two)
       (natural_field most at (get_or s at 0 ∷ get_or s (at + 1) 0 ∷ drop (suc (at + 1)) s)
       ∙ natural_one most at (get_or s at 0) (get_or s (at + 1) 0) (drop (suc (at + 1)) s) (rw two at e))
-
-  module _ (h : at < length s) where
-    pub natural_blank : get_or s at 0 ≡ blank → found ≡ None
-    unfolding number_read until_blank number_of
-    natural_blank e = rw (drop-cons s at 0 h, eq-eqb _ _ e)
-
-    pub natural_more : get_or s at 0 ≡ 48 → is_lone (drop at s) ≡ false → found ≡ None
-    natural_more e n =
-        rw (drop-cons s at 0 h, e)
-        (natural_field most at (48 ∷ drop (suc at) s)
-        ∙ natural_after most at (drop (suc at) s) (rw (drop-cons s at 0 h, e) at n))
-
-    pub natural_rest : (get_or s at 0 ≡ 48 → ⊥) → (get_or s at 0 ≡ blank → ⊥) → found ≡ digits_read most 0 at (drop at s)
-    natural_rest n m =
-        rw (drop-cons s at 0 h)
-        (natural_field most at (get_or s at 0 ∷ drop (suc at) s)
-        ∙ natural_other most at (get_or s at 0) (drop (suc at) s) n m
-        ∙ sym (digits_field most 0 at (get_or s at 0 ∷ drop (suc at) s) (omega arith)))

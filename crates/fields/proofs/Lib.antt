@@ -1,6 +1,7 @@
 pub mod OnField
 pub mod Digits
+pub mod Written
+pub mod Fronts
 pub mod Signs
-pub mod Keys
-pub mod Names
 pub mod Words
+pub mod Names

@@ -1,80 +1,110 @@
--- Four bytes taken as one number, and the commonest names of kinds, which are read so: a kind's field that spells one is of that kind, by
--- computing. Assumes nothing.
-use mathlib.Core.Path.{◌≡◌, sym, ap, ◌∙◌}
-use mathlib.Core.List.{List, ◌∷◌}
-use Prim.Native.Nat.{ℕ, ◌+◌, ◌*◌, ◌/◌, ◌%◌, ◌≤◌, ◌<◌}
-use native.Mathlib.Numerals.{add-one}
+-- Names of kinds, by their bytes: a name whose length and bytes are a kind's is that kind's, and one that differs from each is no kind's.
+-- Assumes nothing.
+use mathlib.Core.Path.{◌≡◌, refl, sym, ap, ◌∙◌}
+use mathlib.Core.Bool.{Bool, true, false, false≢true}
+use mathlib.Core.List.{List, [], ◌∷◌}
+use Prim.Native.Nat.{ℕ, suc, ◌<◌}
 use native.Mathlib.Omega.{arith}
-use lib.ListN.{length, get_or, drop}
-use lib.Seq.{drop-cons, drop-drop}
-use Rattle.kinds.specs.declared.Kind.TheVariants.{Text, Table, Body, Row, Cell}
-use Rattle.kinds.specs.Kinds.{kind_at, same, place, kind_of}
-use Rattle.fields.specs.Blanks.{until_blank, blank}
-use Rattle.fields.specs.Reading.{sound, kind_read, Four, Spelt, Named}
+use lib.Dec.{eqb}
+use lib.ListN.{length, get_or, drop, length-drop}
+use lib.Seq.{drop-cons}
+use borrow.Author.Tests.{eqb-true}
+use Rattle.std.specs.Prelude.{Some, None}
+use Rattle.std.specs.Bool.{⊤}
+use Rattle.std.proofs.lemmas.Slice.Eq.{HasBytesAt, text_from_reads}
+use Rattle.kinds.specs.declared.Kind.{Kind}
+use Rattle.kinds.specs.declared.Kind.TheVariants.{Text, Img, Svg, Container, Link, Em, Strong, Strike, Code, Block, Head, Div, Quote, Ul, Ol, Dl, Dt, Dd, Break, Table, Body, Row, Cell, Frag, Item, Sup, Calc}
+use Rattle.kinds.specs.Kinds.{kind_number, kind_at, same, place, kind_of, kind_names}
+use Rattle.fields.specs.Reading.{kind_named}
+use Rattle.fields.proofs.OnField.{and_0, and_1}
 
--- the first of the bytes from a place on, with the place after it written as the code does
-from_next : (s : List ℕ) (i : ℕ) → i < length s → drop i s ≡ get_or s i 0 ∷ drop (i + 1) s
-from_next s i h = drop-cons s i 0 h ∙ rw (add-one i)
+-- the bytes from a place on are these
+abbrev pub Differs : List ℕ → ℕ → List ℕ → Type 0
+Differs s i [] = ⊥
+Differs s i (c ∷ m) = get_or s i 0 ≡ c → Differs s (suc i) m
 
--- a number taken apart into four bytes
-pub four_bytes : (a b c d four : ℕ) → a < 256 → b < 256 → c < 256 → a + 256 * (b + 256 * (c + 256 * d)) ≡ four → Four a b c d four
-four_bytes a b c d four p q r e = record { first = omega arith; second = omega arith; third = omega arith; fourth = omega arith }
+-- bytes differ from each of these names
+abbrev pub Unlike : List ℕ → List (List ℕ) → Type 0
+Unlike s [] = ⊤
+Unlike s (m ∷ ms) = (length s ≡ length m → Differs s 0 m) × Unlike s ms
 
--- four bytes of the sheet
-pub four_spelt : (s : List ℕ) (at four : ℕ) → at + 4 ≤ length s → Four (get_or s at 0) (get_or s (at + 1) 0) (get_or s (at + 2) 0) (get_or s (at + 3) 0) four
-    → Spelt four s at (at + 4) (drop (at + 4) s)
-four_spelt s at four h f = record { inside = h; is = go }
+pub same_eq : (f m : List ℕ) → same f m ≡ true → f ≡ m
+unfolding same
+same_eq [] [] e = refl
+same_eq [] (c ∷ m) e = absurd (false≢true e)
+same_eq (b ∷ f) [] e = absurd (false≢true e)
+same_eq (b ∷ f) (c ∷ m) e =
+    let bytes : b ≡ c = eqb-true b c (and_0 (eqb b c) (same f m) e) in
+    ap (λ (x : ℕ). x ∷ f) bytes ∙ ap (λ (l : List ℕ). c ∷ l) (same_eq f m (and_1 (eqb b c) (same f m) e))
+
+reads_differ : (s m : List ℕ) (i : ℕ) → HasBytesAt s i m → Differs s i m → ⊥
+reads_differ s [] i h d = d
+reads_differ s (c ∷ m) i h d = reads_differ s m (suc i) h.1 (d h.0)
+
+reads_from : (s m : List ℕ) (i : ℕ) → drop i s ≡ m → HasBytesAt s i m
+reads_from s [] i e = tt
+reads_from s (c ∷ m) i e = (ap (λ (l : List ℕ). get_or l 0 0) both, reads_from s m (suc i) (ap (drop 1) both))
   where
-    n₂ : at + 1 + 1 ≡ at + 2
-    n₂ = omega arith
+    inside : i < length s
+    inside = omega (arith, length-drop i s, ap length e)
 
-    n₃ : at + 2 + 1 ≡ at + 3
-    n₃ = omega arith
+    both : get_or s i 0 ∷ drop (suc i) s ≡ c ∷ m
+    both = sym (drop-cons s i 0 inside) ∙ e
 
-    n₄ : at + 3 + 1 ≡ at + 4
-    n₄ = omega arith
+not_same : (s m : List ℕ) → (length s ≡ length m → Differs s 0 m) → same s m ≡ false
+not_same s m h = go (same s m) refl
+  where
+    go : (t : Bool) → same s m ≡ t → t ≡ false
+    go true e = absurd (reads_differ s m 0 (reads_from s m 0 (same_eq s m e)) (h (ap length (same_eq s m e))))
+    go false e = refl
 
-    go : drop at s ≡ four % 256 ∷ four / 256 % 256 ∷ four / 65536 % 256 ∷ four / 16777216 ∷ drop (at + 4) s
-    go =
-        from_next s at (omega arith)
-        ∙ rw (from_next s (at + 1) (omega arith), n₂, from_next s (at + 2) (omega arith), n₃, from_next s (at + 3) (omega arith), n₄)
-        (rw (f.first, f.second, f.third, f.fourth))
+nowhere : (s : List ℕ) (ms : List (List ℕ)) → Unlike s ms → place s ms ≡ length ms
+unfolding place
+nowhere s [] u = refl
+nowhere s (m ∷ ms) u = rw (not_same s m u.0) (ap suc (nowhere s ms u.1))
 
--- and a space after them
-pub name_spelt : (s : List ℕ) (at four : ℕ) → at + 4 < length s → get_or s (at + 4) 0 ≡ blank → Spelt four s at (at + 4) (drop (at + 4) s)
-    → Spelt four s at (at + 5) (blank ∷ drop (at + 5) s)
-name_spelt s at four h e f =
-    let n : at + 4 + 1 ≡ at + 5 = omega arith in
-    record { inside = omega arith; is = f.is ∙ rw (from_next s (at + 4) h, n, e) }
+pub no_name : (s : List ℕ) → Unlike s kind_names → None ≡ kind_named (kind_of s)
+unfolding kind_of
+no_name s u = rw (nowhere s kind_names u)
 
--- of four bytes that stand two places on, the last two
-pub last_two : (s : List ℕ) (at four : ℕ) → Spelt four s (at + 2) (at + 2 + 4) (drop (at + 2 + 4) s)
-    → drop (at + 4) s ≡ four / 65536 % 256 ∷ four / 16777216 ∷ drop (at + 2 + 4) s
-last_two s at four f =
-    let two : at + 2 + 2 ≡ at + 4 = omega arith in
-    ap (λ (k : ℕ). drop k s) (sym two) ∙ sym (drop-drop 2 (at + 2) s) ∙ ap (drop 2) f.is
+-- the name of a kind, whose kind is the kind itself
 
--- the kinds of `cell`, `text`, `row`, `body` and `table`, whose bytes are these numbers
+abbrev pub name_of : Kind → List ℕ
+name_of k = get_or kind_names (kind_number k) []
 
-pub cell_name : (s : List ℕ) (at : ℕ) → Spelt 1819043171 s at (at + 5) (blank ∷ drop (at + 5) s) → kind_read at (drop at s) ≡ sound Cell (at + 5)
-unfolding kind_read until_blank kind_of kind_at place same
-cell_name s at f = let n : at + 4 + 1 ≡ at + 5 = omega arith in rw (f.is, n)
+own : (k : Kind) → Some k ≡ kind_named (kind_of (name_of k))
+unfolding kind_at kind_of place same
+own Text = refl
+own Img = refl
+own Svg = refl
+own Container = refl
+own Link = refl
+own Em = refl
+own Strong = refl
+own Strike = refl
+own Code = refl
+own Block = refl
+own Head = refl
+own Div = refl
+own Quote = refl
+own Ul = refl
+own Ol = refl
+own Dl = refl
+own Dt = refl
+own Dd = refl
+own Break = refl
+own Table = refl
+own Body = refl
+own Row = refl
+own Cell = refl
+own Frag = refl
+own Item = refl
+own Sup = refl
+own Calc = refl
 
-pub text_name : (s : List ℕ) (at : ℕ) → Spelt 1954047348 s at (at + 5) (blank ∷ drop (at + 5) s) → kind_read at (drop at s) ≡ sound Text (at + 5)
-unfolding kind_read until_blank kind_of kind_at place same
-text_name s at f = let n : at + 4 + 1 ≡ at + 5 = omega arith in rw (f.is, n)
+-- a name has these bytes
+abbrev pub Is : List ℕ → List ℕ → Type 0
+Is s m = (length s ≡ length m) × HasBytesAt s 0 m
 
-pub row_name : (s : List ℕ) (at : ℕ) → Spelt 544698226 s at (at + 4) (drop (at + 4) s) → kind_read at (drop at s) ≡ sound Row (at + 4)
-unfolding kind_read until_blank kind_of kind_at place same
-row_name s at f = let n : at + 3 + 1 ≡ at + 4 = omega arith in rw (f.is, n)
-
-pub body_name : (s : List ℕ) (at : ℕ) → Spelt 2036625250 s at (at + 5) (blank ∷ drop (at + 5) s) → kind_read at (drop at s) ≡ sound Body (at + 5)
-unfolding kind_read until_blank kind_of kind_at place same
-body_name s at f = let n : at + 4 + 1 ≡ at + 5 = omega arith in rw (f.is, n)
-
-pub table_name : (s : List ℕ) (at : ℕ) → Spelt 1818386804 s at (at + 4) (drop (at + 4) s)
-    → Spelt 543517794 s (at + 2) (at + 2 + 4) (drop (at + 2 + 4) s) → Named Table s at (at + 6)
-unfolding kind_read until_blank kind_of kind_at place same
-table_name s at p q =
-    let n : at + 5 + 1 ≡ at + 6 = omega arith in
-    record { inside = omega (arith, q.inside); is = rw (p.is, last_two s at 543517794 q, n) }
+pub named : (k : Kind) (s : List ℕ) → Is s (name_of k) → Some k ≡ kind_named (kind_of s)
+named k s h = own k ∙ ap (λ (n : List ℕ). kind_named (kind_of n)) (sym (text_from_reads s (name_of k) h.0 h.1))

@@ -1,5 +1,6 @@
 -- Cutting a line at its spaces: a field is the bytes up to one. These are definitions; nothing is assumed.
-use Rattle.std.specs.Prelude.{cond, List, [], ◌∷◌, ℕ, eqb}
+use Rattle.std.specs.Prelude.{cond, List, [], ◌∷◌, ℕ, eqb, take, position, Option}
+use Rattle.std.specs.Option.{option_map}
 
 abbrev pub blank : ℕ
 blank = 32
@@ -16,3 +17,7 @@ longer b endless = endless
 unfoldable pub until_blank : List ℕ → Field
 until_blank [] = endless
 until_blank (b ∷ bs) = cond (eqb b blank) (field [] bs) (longer b (until_blank bs))
+
+-- the bytes before the first byte that is `stop`, if there is one
+unfoldable pub front_to : ℕ → List ℕ → Option (List ℕ)
+front_to stop s = option_map (λ n. take n s) (position (λ b. eqb b stop) s)

@@ -1,34 +1,43 @@
 // Number fields of a sheet: digits without a leading zero, a minus only before a nonzero number, then one space.
 ghost use Rattle.std.specs.Prelude.{◌≡◌, ◌+◌, ◌-◌, ◌*◌, ◌≤◌, drop};
 ghost use Rattle.text.specs.Decimal.{shift, shifted};
-ghost use Rattle.fields.specs.Numbers.{up_to, within, magnitude};
-ghost use Rattle.fields.specs.Reading.{from_to, number_read, digits_read, is_lone};
+ghost use Rattle.fields.specs.Numbers.{number_of, up_to, within, magnitude};
+ghost use Rattle.fields.specs.Reading.{digits_in, written_in, from_to, number_read, is_lone};
 
 use super::Scanned;
+use super::places::field_at;
 use text::decimal::SHIFT;
 
-// Digits up to a space. Once their value is above most, no further digit brings it back, so the reading stops there.
-fn digits_at(bytes: &[u8], at: usize, most: u32) -> Option<Scanned<u32>>
-    ensures { result ≡ digits_read most 0 at (drop at bytes.now) }
+// The value of a field of digits. Once it is above most, no further digit brings it back, so the reading stops there: any number of digits may follow.
+fn digits_in(field: &[u8], most: u32) -> Option<u32>
+    ensures { result ≡ digits_in most 0 field.now }
 {
     let mut value = 0u64;
-    for i in at..bytes.len() {
-        let b = bytes[i];
-        if b == b' ' {
-            return Some(Scanned {
-                value: value as u32,
-                next: i + 1,
-            });
-        }
+    for b in field {
         if !b.is_ascii_digit() {
             return None;
         }
-        value = value * 10 + u64::from(b - b'0');
-        if value > most as u64 {
+        value = value * 10 + u64::from(*b - b'0');
+        if value > u64::from(most) {
             return None;
         }
     }
-    None
+    Some(value as u32)
+}
+
+// The number from 0 to most that a field writes: digits without a leading zero. A minus would stand before a number below 0.
+pub fn written_in(field: &[u8], most: u32) -> Option<u32>
+    ensures { result ≡ written_in most (number_of field.now) }
+{
+    if field.is_empty() {
+        return None;
+    }
+    let led_by_zero = field[0] == b'0';
+    if !led_by_zero {
+        return digits_in(field, most);
+    }
+    let goes_on = field.len() > 1;
+    if goes_on { None } else { Some(0) }
 }
 
 // Whether a single digit and its space stand at a place.
@@ -44,7 +53,7 @@ pub fn natural_at(bytes: &[u8], at: usize, most: u32) -> Option<Scanned<u32>>
     ensures { result ≡ number_read (up_to most) magnitude at (drop at bytes.now) }
 {
     if lone_at(bytes, at) {
-        let value = (bytes[at] - b'0') as u32;
+        let value = u32::from(bytes[at] - b'0');
         if value > most {
             return None;
         }
@@ -53,14 +62,12 @@ pub fn natural_at(bytes: &[u8], at: usize, most: u32) -> Option<Scanned<u32>>
             next: at + 2,
         });
     }
-    if at >= bytes.len() || bytes[at] == b' ' {
-        return None;
-    }
-    let led_by_zero = bytes[at] == b'0';
-    if led_by_zero {
-        return None; // more digits after a 0
-    }
-    digits_at(bytes, at, most)
+    let field = field_at(bytes, at, b' ')?;
+    let value = written_in(field, most)?;
+    Some(Scanned {
+        value,
+        next: at + field.len() + 1,
+    })
 }
 
 // A number from least to most, shifted up.

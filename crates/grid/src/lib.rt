@@ -28,7 +28,7 @@ fn number_rows(numbers: &Numbers, rows: &[RowEnd], entries: &mut [Entry]) -> Opt
     let mut start: usize = 0;
     for row in rows {
         let end = row.end as usize;
-        let n = numbers.renumber(start, end, entries)?;
+        let n = numbers.renumber(&mut entries[start..end])?;
         columns = columns.max(n);
         start = end;
     }

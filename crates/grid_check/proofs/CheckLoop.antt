@@ -12,6 +12,8 @@ use lib.ListN.{length, get_or, drop, drop_of_length-le}
 use lib.Seq.{drop-cons}
 use borrow.Author.Tests.{eq-eqb, ne_eqb}
 use Rattle.std.specs.Prelude.{Result, Ok, Err}
+use Rattle.std.specs.Result.{IsErrAnd, MatchResult}
+use Rattle.std.proofs.lemmas.Result.{err_from_is_err_and}
 use Rattle.lists.specs.Refusals.{refusal, first_answer, verdict_of}
 use Rattle.lists.specs.declared.Reason.{Reason}
 use Rattle.lists.specs.declared.Refusal.{Refusal}
@@ -97,6 +99,30 @@ module _ {ks : List Kept} {t : ℕ} (z : Sofar ks t) where
           each : (u : ℕ) → u < t + 1 → kind_number (get_or ks u no_kept).kind ≡ table_kind → Dec (u ≡ t) → Sound (table_rows ks u)
           each u l g (yes v) = subst (λ (i : ℕ). Sound (table_rows ks i)) (sym v) (none_sound (table_rows ks t) (sym j ∙ n))
           each u l g (no v) = z.sound u (omega arith) g
+
+      -- the reason with the table's line, or none: what `map_err` makes of the table's verdict
+      module _ (m : Result (Unit {0}) Refusal) (P : Reason → Refusal → Type 0) (k : (why : Reason) (y : Refusal) → P why y → y ≡ refusal why (t + 1))
+          (c : MatchResult r (λ x. m ≡ Ok x) (λ why. IsErrAnd m (P why))) where
+        pub turn_told : (y : Refusal) → m ≡ Err y → TablesChecked ks (Err y)
+        turn_told y n = go r refl c
+          where
+            go : (s : Result (Unit {0}) Reason) → r ≡ s → MatchResult s (λ x. m ≡ Ok x) (λ why. IsErrAnd m (P why)) → TablesChecked ks (Err y)
+            go (Ok x) e d = cc
+            go (Err why) e d =
+                let q = err_from_is_err_and m d in
+                let same : Err y ≡ Err q.0 = sym n ∙ q.1 in
+                let v : y ≡ refusal why (t + 1) = cc (k why q.0 q.2) in
+                subst (λ (x : Refusal). TablesChecked ks (Err x)) (sym v) (turn_refused why e)
+
+        pub turn_fine : (x : Unit {0}) → m ≡ Ok x → Sofar ks (t + 1)
+        turn_fine x n = go r refl c
+          where
+            go : (s : Result (Unit {0}) Reason) → r ≡ s → MatchResult s (λ x. m ≡ Ok x) (λ why. IsErrAnd m (P why)) → Sofar ks (t + 1)
+            go (Ok tt) e d = turn_table e
+            go (Err why) e d =
+                let q = err_from_is_err_and m d in
+                let same : Ok x ≡ Err q.0 = sym n ∙ q.1 in
+                absurd cc
 
 -- ---- a sheet each of whose tables fits
 

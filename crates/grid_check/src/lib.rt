@@ -31,30 +31,12 @@ fn check_each(lines: &[Kept], ends: &mut [u32]) -> Result<(), Refusal>
     requires lines_in_bounds { length lines.now ≤ length ends.old }
     ensures { TablesChecked lines.now result }
 {
-    for t in 0..lines.len() {
-        let here = lines[t];
-        let is_table = here.kind == Kind::Table;
-        if is_table {
-            if let Err(reason) = check_table(lines, t, ends) {
-                return Err(reason.at((t + 1) as u32));
-            }
+    for (t, here) in lines.iter().enumerate() {
+        if here.kind == Kind::Table {
+            check_table(lines, t, ends).map_err(|reason| reason.at((t + 1) as u32))?;
         }
     }
     Ok(())
-}
-
-// Checks each table of a sheet, of which it may be known that its cells are within the bound of a whole sheet: a reader that adds them up knows it.
-pub fn check_known(bounded: bool, lines: &[Kept], ends: &mut [u32]) -> Result<(), Refusal>
-    requires lined { Lined lines.now }
-    requires nests { Nests lines.now }
-    requires lines_in_bounds { length lines.now ≤ length ends.old }
-    requires sheet_bound { bounded ≡ true → SheetBound max_entries lines.now }
-    ensures { TablesChecked lines.now result }
-{
-    if bounded {
-        return Ok(());
-    }
-    check_each(lines, ends)
 }
 
 // Checks each table of a sheet, in the order of lines: the first refusal that applies, on the table's line. The bound on all cells of the sheet together
@@ -65,6 +47,8 @@ pub fn check_tables(lines: &[Kept], ends: &mut [u32]) -> Result<(), Refusal>
     requires lines_in_bounds { length lines.now ≤ length ends.old }
     ensures { TablesChecked lines.now result }
 {
-    let bounded = grid_bounds::whole::sheet_fits(lines, grid_bounds::MOST_ENTRIES);
-    check_known(bounded, lines, ends)
+    if grid_bounds::whole::sheet_fits(lines, grid_bounds::MOST_ENTRIES) {
+        return Ok(());
+    }
+    check_each(lines, ends)
 }

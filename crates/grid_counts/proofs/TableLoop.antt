@@ -4,41 +4,59 @@ use mathlib.Core.Bool.{Bool, true, false, cond, ◌||◌}
 use mathlib.Core.List.{List}
 use Prim.Native.Nat.{ℕ, suc, ◌+◌, ◌-◌, ◌≤◌, ◌<◌, min}
 use native.Mathlib.Decide.{dec_lt}
-use native.Mathlib.Numerals.{add-one}
 use native.Mathlib.Omega.{arith}
 use lib.Dec.{ltb}
-use lib.ListN.{length, get_or, drop}
+use lib.ListN.{length, get_or, take, drop, length-drop}
 use borrow.Author.Tests.{lt-ltb, le-ltb}
 use Rattle.lists.specs.Limits.{max_entries}
 use Rattle.records.specs.Kept.{no_kept}
 use Rattle.records.specs.declared.Kept.{Kept}
-use Rattle.cells.specs.Cells.{Row, frame, resolve_body, resolved}
+use Rattle.cells.specs.Cells.{Row, Frame, frame, resolve_body, resolved}
 use Rattle.cells.specs.Listed.{table_rows}
 use Rattle.positions.specs.Positions.{all_rows, ends_past, entry_count}
 use Rattle.grid_bounds.proofs.Tables.{past_bodies, count_bodies, past_none, count_none}
-use Rattle.std.specs.Prelude.{Ok, Err}
+use Rattle.std.specs.Prelude.{Result, Ok, Err}
+use Rattle.lists.specs.declared.Reason.{Reason}
 use Rattle.lists.specs.declared.Reason.TheVariants.{RowEnd, TooManyEntries}
 use Rattle.grid_counts.specs.Count.{count_of, judged_by}
-use Rattle.grid_counts.specs.inner.Tallies.{framed, many_entries, BodyDone}
-use Rattle.grid_counts.proofs.Scan.{there, bodies_none, bodies_more, bodies_on}
+use Rattle.grid_counts.specs.inner.Tallies.{many_entries, BodyReady, BodyCounted}
+use Rattle.grid_counts.proofs.Scan.{framed, framed_all, rest_is, lines_lent, there, bodies_none, bodies_more, bodies_on}
 
-pub record TableCounting (ks : List Kept) (at count i : ℕ) : Type 0 where
+-- the lines after the table's, as they are lent
+abbrev pub after_table : List Kept → ℕ → List Kept
+after_table ks at = take (length ks - (at + 1)) (drop (at + 1) ks)
+
+-- `ks` are the lines after the table's, of depth d; the first has the number n
+pub record TableCounting (table : List Row) (n : ℕ) (ks : List Kept) (d count i : ℕ) : Type 0 where
   pub place : i ≤ length ks
-  pub past : ends_past (all_rows (resolved (framed ks (get_or ks at no_kept).depth i).bodies)) ≡ ends_past (all_rows (table_rows ks at))
-  pub entries_are : min (count + entry_count (all_rows (resolved (framed ks (get_or ks at no_kept).depth i).bodies))) many_entries ≡ min (entry_count (all_rows (table_rows ks at))) many_entries
+  pub past : ends_past (all_rows (resolved (framed n ks d i).bodies)) ≡ ends_past (all_rows table)
+  pub entries_are : min (count + entry_count (all_rows (resolved (framed n ks d i).bodies))) many_entries ≡ min (entry_count (all_rows table)) many_entries
   pub few : count ≤ many_entries
 
-pub table_start : (ks : List Kept) (at : ℕ) → at < length ks → TableCounting ks at 0 (at + 1)
+pub table_start : (ks : List Kept) (at : ℕ) → TableCounting (table_rows ks at) (suc (at + 1)) (after_table ks at) (get_or ks at no_kept).depth 0 0
 unfolding table_rows
-table_start ks at h =
+table_start ks at =
     let d = (get_or ks at no_kept).depth in
-    let e : (framed ks d (at + 1)).bodies ≡ (frame d (suc (at + 1)) (drop (at + 1) ks)).bodies = ap (λ (k : ℕ). (frame d k (drop (at + 1) ks)).bodies) (add-one (at + 1)) in
+    let e : framed (suc (at + 1)) (after_table ks at) d 0 ≡ frame d (suc (at + 1)) (drop (at + 1) ks) =
+    framed_all (suc (at + 1)) (after_table ks at) d ∙ ap (frame d (suc (at + 1))) (rest_is ks (at + 1)) in
     record {
       place = omega arith;
-      past = ap (λ (bs : List (List Row)). ends_past (all_rows (resolved bs))) e;
-      entries_are = omega (arith, ap (λ (bs : List (List Row)). entry_count (all_rows (resolved bs))) e);
+      past = ap (λ (f : Frame). ends_past (all_rows (resolved f.bodies))) e;
+      entries_are = omega (arith, ap (λ (f : Frame). entry_count (all_rows (resolved f.bodies))) e);
       few = omega arith;
     }
+
+-- what counting a body takes, of the lines from the next place on
+pub body_ready : {table : List Row} {all : List Kept} {n d count i : ℕ} {ends₀ ends : List ℕ} (at : ℕ) → BodyReady all d 0 ends₀
+    → TableCounting table n (after_table all at) d count i → length ends ≡ length ends₀
+    → BodyReady (take (length (after_table all at) - (i + 1)) (drop (i + 1) (after_table all at))) d count ends
+body_ready {all = all} {i = i} at t z same = record {
+  lines = lines_lent (i + 1) (lines_lent (at + 1) t.lines);
+  room =
+      let rest = after_table all at in
+      omega (arith, ap length (rest_is rest (i + 1)), length-drop (i + 1) rest, ap length (rest_is all (at + 1)), length-drop (at + 1) all, t.room, same);
+  few = z.few;
+}
 
 -- more than 8,192, or not
 capped : (a b : ℕ) → a ≡ min b many_entries → ltb max_entries a ≡ ltb max_entries b
@@ -48,30 +66,27 @@ capped a b e = go (dec_lt max_entries b)
     go (yes h) = lt-ltb max_entries a (omega arith) ∙ sym (lt-ltb max_entries b h)
     go (no h) = le-ltb max_entries a (omega arith) ∙ sym (le-ltb max_entries b (omega arith))
 
-module _ {ks : List Kept} {at count i : ℕ} (z : TableCounting ks at count i) where
-  abbrev d : ℕ
-  d = (get_or ks at no_kept).depth
-
-  pub table_stop : (get_or ks i no_kept).depth ≤ d → judged_by count ≡ count_of (table_rows ks at)
+module _ {table : List Row} {n : ℕ} {ks : List Kept} {d count i : ℕ} (z : TableCounting table n ks d count i) where
+  pub table_stop : (get_or ks i no_kept).depth ≤ d → judged_by count ≡ count_of table
   unfolding count_of
   table_stop h =
-      let e = bodies_none ks d i h in
-      let p : false ≡ ends_past (all_rows (table_rows ks at)) = sym past_none ∙ rw e at z.past in
+      let e = bodies_none n ks d i h in
+      let p : false ≡ ends_past (all_rows table) = sym past_none ∙ rw e at z.past in
       let v = rw e at z.entries_are in
-      let c : count ≡ min (entry_count (all_rows (table_rows ks at))) many_entries = omega (arith, count_none, z.few) in
-      ap (λ (b : Bool). cond b (Err TooManyEntries) (Ok tt)) (capped count (entry_count (all_rows (table_rows ks at))) c)
-      ∙ ap (λ (b : Bool). cond b (Err RowEnd) (judged_by (entry_count (all_rows (table_rows ks at))))) p
+      let c : count ≡ min (entry_count (all_rows table)) many_entries = omega (arith, count_none, z.few) in
+      ap (λ (b : Bool). cond b (Err TooManyEntries) (Ok tt)) (capped count (entry_count (all_rows table)) c)
+      ∙ ap (λ (b : Bool). cond b (Err RowEnd) (judged_by (entry_count (all_rows table)))) p
 
   abbrev l : Kept
   l = get_or ks i no_kept
 
   module _ (h : d < l.depth) where
     pub table_there : i < length ks
-    table_there = there ks d i h
+    table_there = there n ks d i h
 
-    pub table_on : (l.depth - d ≡ 1 → ⊥) → TableCounting ks at count (i + 1)
-    table_on n =
-        let e = bodies_on ks d i h n in
+    pub table_on : (l.depth - d ≡ 1 → ⊥) → TableCounting table n ks d count (i + 1)
+    table_on other =
+        let e = bodies_on n ks d i h other in
         record {
           place = omega (arith, table_there);
           past = let w = rw e at z.past in w;
@@ -79,26 +94,33 @@ module _ {ks : List Kept} {at count i : ℕ} (z : TableCounting ks at count i) w
           few = z.few;
         }
 
-    module _ (e : l.depth - d ≡ 1) where
+    module _ (e : l.depth - d ≡ 1) {res : Result ℕ Reason}
+        (counted : (m : ℕ) → BodyCounted (frame d m (take (length ks - (i + 1)) (drop (i + 1) ks))).rows count res) where
       abbrev b : List Row
-      b = (framed ks d (i + 1)).rows
+      b = (framed n ks d (i + 1)).rows
 
       abbrev bs : List (List Row)
-      bs = (framed ks d (i + 1)).bodies
+      bs = (framed n ks d (i + 1)).bodies
 
-      past_here : (ends_past (all_rows (resolve_body b)) || ends_past (all_rows (resolved bs))) ≡ ends_past (all_rows (table_rows ks at))
-      past_here = sym (past_bodies b bs) ∙ rw (bodies_more ks d i h e) at z.past
+      counted_here : BodyCounted b count res
+      counted_here = rw (rest_is ks (i + 1)) at (counted (i + 1 + n))
 
-      pub table_past : ends_past (all_rows (resolve_body b)) ≡ true → Err RowEnd ≡ count_of (table_rows ks at)
+      past_here : (ends_past (all_rows (resolve_body b)) || ends_past (all_rows (resolved bs))) ≡ ends_past (all_rows table)
+      past_here = sym (past_bodies b bs) ∙ rw (bodies_more n ks d i h e) at z.past
+
+      pub table_past : (why : Reason) → res ≡ Err why → Err why ≡ count_of table
       unfolding count_of
-      table_past p =
-          let v : true ≡ ends_past (all_rows (table_rows ks at)) = sym (ap (λ (x : Bool). x || ends_past (all_rows (resolved bs))) p) ∙ past_here in
-          ap (λ (x : Bool). cond x (Err RowEnd) (judged_by (entry_count (all_rows (table_rows ks at))))) v
+      table_past why u =
+          let p = counted_here.past why u in
+          let v : true ≡ ends_past (all_rows table) = sym (ap (λ (x : Bool). x || ends_past (all_rows (resolved bs))) p.1) ∙ past_here in
+          rw p.0 (ap (λ (x : Bool). cond x (Err RowEnd) (judged_by (entry_count (all_rows table)))) v)
 
-      pub table_more : (n : ℕ) → BodyDone b count n → TableCounting ks at n (i + 1)
-      table_more n w = record {
-        place = omega (arith, table_there);
-        past = sym (ap (λ (x : Bool). x || ends_past (all_rows (resolved bs))) w.within) ∙ past_here;
-        entries_are = let v = rw (bodies_more ks d i h e) at z.entries_are in omega (arith, w.entries_are, count_bodies b bs);
-        few = omega (arith, w.entries_are);
-      }
+      pub table_more : (m : ℕ) → res ≡ Ok m → TableCounting table n ks d m (i + 1)
+      table_more m u =
+          let w = counted_here.counted m u in
+          record {
+            place = omega (arith, table_there);
+            past = sym (ap (λ (x : Bool). x || ends_past (all_rows (resolved bs))) w.within) ∙ past_here;
+            entries_are = let v = rw (bodies_more n ks d i h e) at z.entries_are in omega (arith, w.entries_are, count_bodies b bs);
+            few = omega (arith, w.entries_are);
+          }

@@ -2,12 +2,13 @@
 // its own cols and the spans that hang into it; a slice tells for each row of a body how much ends with it.
 #![tactic(auto)]
 
-ghost use Rattle.std.specs.Prelude.{◌≡◌, ◌≤◌, ◌<◌, ◌+◌, min, length, get_or, set};
+ghost use Rattle.std.specs.Prelude.{◌≡◌, ℕ, ◌≤◌, ◌<◌, ◌+◌, min, length, get_or, set};
 ghost use Rattle.lists.specs.Limits.{max_lines};
 ghost use Rattle.records.specs.Kept.{no_kept};
+ghost use Rattle.cells.specs.Cells.{frame};
 ghost use Rattle.cells.specs.Listed.{table_rows};
 ghost use Rattle.grid_counts.specs.Count.{count_of, judged_by};
-ghost use Rattle.grid_counts.specs.inner.Tallies.{framed, many_entries, Lines, RowSum, Surveyed, Hanging, ready, RowReady, RowCounted, BodyReady, BodyCounted};
+ghost use Rattle.grid_counts.specs.inner.Tallies.{many_entries, Lines, RowSum, Surveyed, Hanging, ready, RowReady, RowCounted, BodyReady, BodyCounted};
 
 use lists::{MAX_ENTRIES, MAX_POSITION, Reason};
 use records::Kept;
@@ -52,16 +53,15 @@ fn widen(ends: &mut [u32], at: usize, wide: u32)
     ends[at] += wide;
 }
 
-// The sum of the cols of the row whose cells stand from place i on, in a table of depth d; 0 counts as 1.
-fn row_sum(lines: &[Kept], i: usize, d: u8) -> u32
-    requires lines { Lines lines.now d }
-    requires i_in_bounds { i ≤ length lines.now }
-    ensures { RowSum (framed lines.now d i).cells result }
+// The sum of the cols of the row whose cells are the first of these lines, in a table of depth d; 0 counts as 1. Here and below a contract holds for
+// whatever number n the first of the lines has.
+fn row_sum(lines: &[Kept], d: u8) -> u32
+    requires { Lines lines.now d }
+    ensures { (n : ℕ) → RowSum (frame d n lines.now).cells result }
 {
     let row = d + 2;
     let mut sum: u32 = 0;
-    for j in i..lines.len() {
-        let line = lines[j];
+    for line in lines {
         if line.depth <= row {
             break;
         }
@@ -72,22 +72,20 @@ fn row_sum(lines: &[Kept], i: usize, d: u8) -> u32
     sum
 }
 
-// How many rows the body has that stands from place i on, and their largest sum; and a clear place for each of its rows.
-fn survey(lines: &[Kept], i: usize, d: u8, ends: &mut [u32]) -> Body
-    requires body_ready { BodyReady lines.now d 0 ends.old }
-    requires i_in_bounds { i ≤ length lines.now }
-    ensures { Surveyed (framed lines.now d i).rows result.rows result.most ends.new }
+// How many rows the body has that the first of these lines are, and their largest sum; and a clear place for each of its rows.
+fn survey(lines: &[Kept], d: u8, ends: &mut [u32]) -> Body
+    requires { BodyReady lines.now d 0 ends.old }
+    ensures { (n : ℕ) → Surveyed (frame d n lines.now).rows result.rows result.most ends.new }
 {
     let body = d + 1;
     let mut rows = 0;
     let mut most: u32 = 0;
-    for j in i..lines.len() {
-        let line = lines[j];
+    for (j, line) in lines.iter().enumerate() {
         if line.depth <= body {
             break;
         }
         if line.depth == body + 1 {
-            most = most.max(row_sum(lines, j + 1, d));
+            most = most.max(row_sum(&lines[j + 1..], d));
             ends[rows] = 0;
             rows += 1;
         }
@@ -95,28 +93,23 @@ fn survey(lines: &[Kept], i: usize, d: u8, ends: &mut [u32]) -> Body
     Body { rows, most }
 }
 
-// Counts the row whose cells stand from place i on: `instead` takes the place of cols 0, the row is row q of its body, and `left` rows follow it; `reach` hang
-// into it, and there are so many entries before it. Refusal 5 at the first cell that ends past 4,096.
+// Counts the row whose cells are the first of these lines: `instead` takes the place of cols 0, `left` rows follow it in its body, and before it so much
+// reaches into it and so many entries stand. Refusal 5 at the first cell that ends past 4,096.
 fn count_row(
     lines: &[Kept],
-    i: usize,
     d: u8,
     instead: u32,
-    q: usize,
     left: u32,
-    reach: u32,
-    entries: u32,
+    before: Tally,
     ends: &mut [u32],
 ) -> Result<Tally, Reason>
-    requires row_ready { RowReady lines.now d instead q left reach entries ends.old }
-    requires i_in_bounds { i ≤ length lines.now }
-    ensures { RowCounted (ready instead left (framed lines.now d i).cells) q left reach entries ends.old ends.new result }
+    requires { RowReady lines.now d instead left before.reach before.entries ends.old }
+    ensures { (n : ℕ) → RowCounted (ready instead left (frame d n lines.now).cells) left before.reach before.entries ends.old ends.new result }
 {
     let row = d + 2;
-    let mut sum = reach;
-    let mut n = entries;
-    for j in i..lines.len() {
-        let line = lines[j];
+    let mut sum = before.reach;
+    let mut n = before.entries;
+    for line in lines {
         if line.depth <= row {
             break;
         }
@@ -129,7 +122,7 @@ fn count_row(
                 return Err(Reason::RowEnd);
             }
             let hangs = hangs_within(rows, left);
-            widen(ends, q + hangs as usize, wide);
+            widen(ends, hangs as usize, wide);
             n = added(n, hangs);
         }
     }
@@ -139,35 +132,29 @@ fn count_row(
     })
 }
 
-// Counts the body that stands from place i on, where there are so many entries before it: how many there are up to its end, or refusal 5. Row q is next,
-// and `reach` hang into it.
-fn count_body(
-    lines: &[Kept],
-    i: usize,
-    d: u8,
-    entries: u32,
-    ends: &mut [u32],
-) -> Result<u32, Reason>
-    requires body_ready { BodyReady lines.now d entries ends.old }
-    requires i_in_bounds { i ≤ length lines.now }
-    ensures { BodyCounted (framed lines.now d i).rows entries result }
+// Counts the body that the first of these lines are, where there are so many entries before it: how many there are up to its end, or refusal 5. Row q is
+// next, and `reach` hang into it.
+fn count_body(lines: &[Kept], d: u8, entries: u32, ends: &mut [u32]) -> Result<u32, Reason>
+    requires { BodyReady lines.now d entries ends.old }
+    ensures { (n : ℕ) → BodyCounted (frame d n lines.now).rows entries result }
 {
-    let found = survey(lines, i, d, ends);
+    let found = survey(lines, d, ends);
     let rows = found.rows;
     let most = found.most;
     let body = d + 1;
     let mut reach: u32 = 0;
     let mut n = entries;
     let mut q = 0;
-    for j in i..lines.len() {
-        let line = lines[j];
+    for (j, line) in lines.iter().enumerate() {
         if line.depth <= body {
             break;
         }
         if line.depth == body + 1 {
-            let instead = most - row_sum(lines, j + 1, d) + 1;
+            let row = &lines[j + 1..];
+            let instead = most - row_sum(row, d) + 1;
             let left = (rows - q - 1) as u32;
-            let counted = count_row(lines, j + 1, d, instead, q, left, reach, n, ends)?;
+            let before = Tally { reach, entries: n };
+            let counted = count_row(row, d, instead, left, before, &mut ends[q..])?;
             reach = counted.reach - ends[q];
             n = counted.entries;
             q += 1;
@@ -192,16 +179,15 @@ pub fn count_table(lines: &[Kept], at: usize, ends: &mut [u32]) -> Result<(), Re
     requires body_ready { BodyReady lines.now (get_or lines.now at no_kept).depth 0 ends.old }
     ensures { result ≡ count_of (table_rows lines.now at) }
 {
-    let table = lines[at];
-    let d = table.depth;
+    let d = lines[at].depth;
+    let rest = &lines[at + 1..];
     let mut n: u32 = 0;
-    for i in at + 1..lines.len() {
-        let line = lines[i];
+    for (i, line) in rest.iter().enumerate() {
         if line.depth <= d {
             break;
         }
         if line.depth == d + 1 {
-            n = count_body(lines, i + 1, d, n, ends)?;
+            n = count_body(&rest[i + 1..], d, n, ends)?;
         }
     }
     judged(n)

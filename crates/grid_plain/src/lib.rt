@@ -25,13 +25,14 @@ fn is_plain(cols: u16, rows: u16) -> bool
 }
 
 // The entries of a row of a table of depth d, from entry n on, by the row's lines, which begin at the place `from`: its cells are three deeper than the
-// table, and what is still deeper stands in them. None at the first cell that is not plain.
+// table, and what is still deeper stands in them. None at the first cell that is not plain. Of the entries before n it is promised that they stay.
 fn try_row(lines: &[Kept], from: usize, d: u32, n: usize, entries: &mut [Entry]) -> Option<RowCells>
     requires { RowReady lines.now d from n entries.old }
     ensures { RowWalked lines.now d from n result entries.old entries.new }
 {
     let count = lines.len();
     let mut k = 0;
+    // by places: a line's place says its number, and the answer says where the next lines begin
     for i in from..count {
         let line = lines[i];
         let e = u32::from(line.depth);

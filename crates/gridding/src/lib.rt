@@ -61,13 +61,10 @@ fn end_of(lines: &[Kept], at: usize) -> usize
     ensures { Ended lines.now at result }
 {
     let d = lines[at].depth;
-    let count = lines.len();
-    for end in at + 1..count {
-        if lines[end].depth <= d {
-            return end;
-        }
-    }
-    count
+    lines[at + 1..]
+        .iter()
+        .position(|line| line.depth <= d)
+        .map_or(lines.len(), |k| at + 1 + k)
 }
 
 // The grid of a table in room that does for it: for its cells, for what hangs into a row, and for what hangs into the next.

@@ -1,18 +1,6 @@
 // Reads settings and a sheet from standard input, and prints how each table of the sheet is laid out, or why it is refused.
 #![tactic(auto)]
 
-use printing::Output;
-
-// Settings take at most 28 bytes, so a full buffer holds a sheet that is too long.
-const INPUT_BYTES: usize = 65565;
-
-// The descriptor of standard input.
-const STANDARD_INPUT: i32 = 0;
-
 fn main() {
-    let mut input = [0u8; INPUT_BYTES];
-    let mut out = Output::new();
-    let n = io::read_full(STANDARD_INPUT, &mut input);
-    report::answer(&mut out, &input[..n], report::Form::Layout);
-    out.flush();
+    report::run(report::Form::Layout);
 }

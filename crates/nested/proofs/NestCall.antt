@@ -6,7 +6,7 @@ use Rattle.answers.specs.declared.Nested.{Nested}
 use Rattle.lists.specs.declared.Refusal.{Refusal}
 use Rattle.std.specs.Prelude.{Err, Ok, Option, Result, MatchResult, None, Some}
 use mathlib.Core.Path.{◌≡◌, refl, sym, ap, ◌∙◌}
-use mathlib.Core.Bool.{Bool, true, false}
+use mathlib.Core.Bool.{Bool, true, false, ◌||◌}
 use mathlib.Core.List.{List, [], ◌∷◌, append-nil}
 use Prim.Native.Nat.{ℕ, ◌-◌, ◌≤◌, ◌<◌}
 use native.Mathlib.Omega.{arith}
@@ -15,19 +15,19 @@ use lib.ListN.{length, get_or, take}
 use lib.Seq.{get_or-take}
 use borrow.Author.Tests.{ltb-false}
 use Rattle.lists.specs.Lists.{padded}
-use Rattle.lists.specs.Limits.{max_lines, max_entries, max_size}
+use Rattle.lists.specs.Limits.{max_lines, max_entries, max_size, max_wrap, max_width}
 use Rattle.lists.specs.Refusals.{Check, first_answer, verdict_of, passes, if_passes}
 use Rattle.text.specs.declared.Estimate.{Estimate}
 use Rattle.sheet.specs.Sheet.{sheet_lines}
 use Rattle.sheet.specs.Steps.{room_for}
-use Rattle.sheet.proofs.First.{neither, first_passes, first_accepts, first_carries, figures_pass, figures_fail}
+use Rattle.sheet.proofs.First.{neither, passes_both, first_passes, first_accepts, first_carries, figures_pass, figures_fail}
 use Rattle.opening.specs.Opening.{kept_lines, after_reading, open_checks}
 use Rattle.opening.specs.inner.Opened.{Apt}
 use Rattle.opening.proofs.Answers.{table_apt}
 use Rattle.opening.proofs.Opens.{opened_asked}
 use Rattle.table.specs.inner.Asked.{OutRoom}
 use Rattle.table.proofs.Grids.{all_cells}
-use Rattle.arguments.specs.Arguments.{any_shorter, nested_arguments}
+use Rattle.arguments.specs.Arguments.{any_shorter, walk_settings, nested_arguments}
 use Rattle.arguments.specs.declared.Settings.{Settings}
 use Rattle.arguments.specs.Asked.{Asks, verdict_in}
 use Rattle.arguments.proofs.Opened.{opened}
@@ -93,14 +93,14 @@ module _ {s : List ℕ} {line wrap raw width overflow : ℕ} {r : Result ℕ Ref
 
     -- ---- what is found
 
-    module _ (low : raw ≤ 1) {t : Option Nested} {column x wide : List ℕ} (g : NestMade (take n lines) (line - 1) figures raw (get_or ps (line - 1) None) t column x wide) where
+    module _ {t : Option Nested} {column x wide : List ℕ} (g : NestMade (take n lines) (line - 1) figures raw (get_or ps (line - 1) None) t column x wide) where
       -- with a width
       laid_found : (k : ℕ) → get_or ps (line - 1) None ≡ Some k → NestFound (walked_checks (Some line) s wrap raw width overflow) s line wrap raw width (Ok t) column x wide
       unfolding told_at columns_in entries_in columns_for xs_for wides_for layouts.columns_in layouts.entries_in
       laid_found k d =
           let cs = walked_checks (Some line) s wrap raw width overflow in
           let u : width_to s line wrap raw width ≡ Some k = sym width_is ∙ d in
-          let l = layout_found lines_of low (g.laid k d) in
+          let l = layout_found lines_of (g.laid k d) in
           let p = (opened_passed (w.opened n e) n refl).all in
           let q = all_pass in
           let a = l.answer ∙ first_passes Err _ (open_checks (Some line) s) p in
@@ -114,7 +114,7 @@ module _ {s : List ℕ} {line wrap raw width overflow : ℕ} {r : Result ℕ Ref
             widths = l.widths ∙ figures_pass (open_checks (Some line) s) _ p ∙ sym (figures_pass cs _ q ∙ ap (columns_for s line wrap raw) u);
             xs = l.xs ∙ figures_pass (open_checks (Some line) s) _ p ∙ sym (figures_pass cs _ q ∙ ap (xs_for s line wrap raw) u);
             wides = l.wides ∙ figures_pass (open_checks (Some line) s) _ p ∙ sym (figures_pass cs _ q ∙ ap (wides_for s line wrap raw) u);
-            promised = λ _ y h. let z : k ≡ y = same_width (sym u ∙ h) in rw (← z) (l.promised p);
+            promised = λ low _ y h. let z : k ≡ y = same_width (sym u ∙ h) in rw (← z) (l.promised low p);
           })
 
       -- without one
@@ -132,7 +132,7 @@ module _ {s : List ℕ} {line wrap raw width overflow : ℕ} {r : Result ℕ Ref
             widths = sym (figures_pass cs _ q ∙ ap (columns_for s line wrap raw) u);
             xs = sym (figures_pass cs _ q ∙ ap (xs_for s line wrap raw) u);
             wides = sym (figures_pass cs _ q ∙ ap (wides_for s line wrap raw) u);
-            promised = λ _ m h. let c = sym u ∙ h in let z : ◌≡◌ {A = ℕ} 0 1 = cc in absurd (omega arith);
+            promised = λ low _ m h. let c = sym u ∙ h in let z : ◌≡◌ {A = ℕ} 0 1 = cc in absurd (omega arith);
           })
 
       pub nest_found : NestFound (walked_checks (Some line) s wrap raw width overflow) s line wrap raw width (Ok t) column x wide
@@ -156,7 +156,7 @@ module _ {s : List ℕ} {line wrap raw width overflow : ℕ} {r : Result ℕ Ref
         widths = sym (figures_fail cs _ q);
         xs = sym (figures_fail cs _ q);
         wides = sym (figures_fail cs _ q);
-        promised = λ p. let z : ◌≡◌ {A = ℕ} 0 1 = cc in absurd (omega arith);
+        promised = λ low p. let z : ◌≡◌ {A = ℕ} 0 1 = cc in absurd (omega arith);
       }
     where
       fails : {why : Refusal} → first_answer Err (Ok (length (sheet_lines s))) (walked_checks (Some line) s wrap raw width overflow) ≡ Err why
@@ -201,7 +201,7 @@ nest_early why cs s line wrap raw width column x wide =
       widths = refl;
       xs = refl;
       wides = refl;
-      promised = λ p. let z : ◌≡◌ {A = ℕ} 0 1 = cc in absurd (omega arith);
+      promised = λ low p. let z : ◌≡◌ {A = ℕ} 0 1 = cc in absurd (omega arith);
     }
 
 nest_late : {cs : List Check} {s : List ℕ} {line wrap raw width : ℕ} {r : Result (Option Nested) Refusal} {column x wide : List ℕ}
@@ -227,6 +227,13 @@ nest_opened {asked} {s} {line} {wrap} {raw} {width} {overflow} {r} {column} {x} 
     opened (λ v q. NestFound (early v ∷ cs wrap raw width overflow) s line wrap raw width q column x wide)
     (λ p q l o. NestFound (cs p q l o) s line p q l r column x wide)
     asked (λ why. nest_early why (cs wrap raw width overflow) s line wrap raw width column x wide) nest_late
+
+-- where no check applies, raw is 0 or 1
+raw_low : (wrap raw width overflow : ℕ) (cs : List Check) → passes (walk_settings wrap raw width overflow ∷ cs) ≡ true → raw ≤ 1
+raw_low wrap raw width overflow cs e =
+    let (a, b) = neither (ltb max_wrap wrap || ltb 1 raw || ltb max_width width) (ltb 1 overflow) (passes_both (walk_settings wrap raw width overflow) cs e).0 in
+    let (c, d) = neither (ltb max_wrap wrap || ltb 1 raw) (ltb max_width width) a in
+    ltb-false 1 raw (neither (ltb max_wrap wrap) (ltb 1 raw) c).1
 
 fit : (wrap raw width overflow : ℕ) (v : Result (Unit {0}) Refusal) (a b c : ℕ) → v ≡ verdict_of (nested_arguments wrap raw width overflow (a ∷ []) (b ∷ c ∷ [])) → v ≡ (Ok tt)
     → (max_lines ≤ a) × (max_entries ≤ b) × (max_entries ≤ c)
@@ -274,6 +281,6 @@ module _ {s : List ℕ} {line wrap raw width overflow : ℕ} {v : Result (Unit {
               widths = leaving column₀ column (f _) k ka a found.widths;
               xs = leaving x₀ x (f _) l kb b found.xs;
               wides = leaving wide₀ wide (f _) l kc c found.wides;
-              promised = λ q. found.promised (early_nines (λ why. false) true v ds _ _ judged ∙ q);
+              promised = λ q. found.promised (raw_low wrap raw width overflow _ q) (early_nines (λ why. false) true v ds _ _ judged ∙ q);
             };
       }

@@ -18,6 +18,7 @@ const EACH_96: u64 = 6944656592455360608;
 const LAST: u64 = 72057594037927936;
 
 // The front of eight bytes that holds characters and spaces alone: how many bytes, what they add to a text's size, and 1 if a space stands last.
+// That gap is a number: the next eight add it as a digit, and a bool would be turned back into it in each contract.
 #[derive(Clone, Copy)]
 pub struct Plain {
     pub count: usize,
@@ -70,7 +71,7 @@ fn after_of(chars: u64, gap: u32) -> u64
     requires { (gap ≤ 1) × (chars ≤ all_ones) }
     ensures { (cs : List ℕ) → Bits cs → chars ≡ as_number cs → result ≡ as_number (after_from gap cs) }
 {
-    (ONES - chars) % LAST * 256 + gap as u64
+    (ONES - chars) % LAST * 256 + u64::from(gap)
 }
 
 // By these, what each adds to the size of a text: a character 1, and 1 more after a space.

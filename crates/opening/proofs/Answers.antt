@@ -30,9 +30,9 @@ module _ (ks : List Kept) (line : ℕ) where
   unfolding is_table
   past_lines z h = rw (le-leb 1 line (omega arith), lt-leb line (length ks) (omega arith))
 
-  pub at_line : (line ≡ 0 → ⊥) → line - 1 < length ks → (k : Kept) → k ≡ get_or ks (line - 1) no_kept → eqb (kind_number k.kind) table_kind ≡ is_table ks line
+  pub at_line : (line ≡ 0 → ⊥) → line - 1 < length ks → eqb (kind_number (get_or ks (line - 1) no_kept).kind) table_kind ≡ is_table ks line
   unfolding is_table
-  at_line z h k q = rw (le-leb 1 line (omega arith), le-leb line (length ks) (omega arith), q)
+  at_line z h = rw (le-leb 1 line (omega arith), le-leb line (length ks) (omega arith))
 
 module _ {A : Type 0} (refused : Refusal → A) (accepted : A) (ks : List Kept) where
   amiss : (asked : Option ℕ) → asks_amiss asked ks ≡ true → first_answer refused accepted (after_reading asked ks) ≡ refused (refusal NoTable 0)

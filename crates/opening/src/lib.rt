@@ -4,36 +4,40 @@
 pub mod measuring; // measuring.rt: the lines measured too
 
 ghost use Rattle.std.specs.Prelude.{◌≡◌, true, ◌≤◌, length};
-ghost use Rattle.lists.specs.Sizes.{small_lines};
 ghost use Rattle.sheet.specs.Steps.{room_for};
 ghost use Rattle.sheet.specs.Reading.{Reads};
 ghost use Rattle.opening.specs.Opening.{is_table};
 ghost use Rattle.opening.specs.inner.Opened.{asks_amiss, TablesReady, TablesOpened, Opened};
 
 use kinds::Kind;
-use lists::{MAX_BYTES, Reason, Refusal, SMALL_LINES};
+use lists::{MAX_BYTES, MAX_LINES, Reason, Refusal};
 use records::Kept;
 
-// Whether arrays for few lines do for a sheet. They are for speed alone.
-pub fn is_small(sheet: &[u8]) -> bool
-    ensures { result ≡ true → room_for sheet.now ≤ small_lines }
+// For how many lines the arrays are that a call works in, but for the longest. It clears them, and for a short sheet short ones do: with long ones a
+// table of two cells would take as long as one of a hundred. They are for speed alone.
+pub const FEW_LINES: usize = 128;
+
+pub const SMALL_LINES: usize = 512;
+
+pub const MANY_LINES: usize = 2048;
+
+// For how many lines arrays do for a sheet.
+pub fn most_lines(sheet: &[u8]) -> usize
+    ensures { room_for sheet.now ≤ result }
 {
-    sheet.len() <= MAX_BYTES && sheet::front::feeds_of(sheet) as usize <= SMALL_LINES
+    if sheet.len() > MAX_BYTES {
+        return MAX_LINES;
+    }
+    sheet::front::feeds_of(sheet) as usize
 }
 
 // Whether a line is a table: record k is of line k + 1.
 fn is_table(lines: &[Kept], line: u32) -> bool
     ensures { result ≡ is_table lines.now line }
 {
-    if line == 0 {
-        return false;
-    }
-    let at = (line - 1) as usize;
-    if at >= lines.len() {
-        return false;
-    }
-    let here = lines[at];
-    here.kind == Kind::Table
+    line.checked_sub(1)
+        .and_then(|at| lines.get(at as usize))
+        .is_some_and(|here| here.kind == Kind::Table)
 }
 
 // Whether a line is asked for that is no table.
@@ -41,10 +45,7 @@ fn is_table(lines: &[Kept], line: u32) -> bool
 fn asks_amiss(asked: Option<u32>, lines: &[Kept]) -> bool
     ensures { result ≡ asks_amiss asked lines.now }
 {
-    match asked {
-        Some(line) => !is_table(lines, line),
-        None => false,
-    }
+    asked.is_some_and(|line| !is_table(lines, line))
 }
 
 // Reads a sheet.

@@ -46,5 +46,5 @@ pub fn too_narrow(kind: Kind, e: Estimate, w: Option<u32>) -> bool
 pub fn printed(w: u32) -> Option<u32>
     ensures { result ≡ printed w }
 {
-    if w == 0 { None } else { Some(w) }
+    (w != 0).then_some(w)
 }

@@ -1,5 +1,5 @@
-// What lies under the pointer in a row of a table that lies sideways. The entries of all rows stand in two slices, x and width of each; a row
-// is those from first up to end. A sum of x and width is nowhere taken, so that any figures do.
+// What lies under the pointer in a row of a table that lies sideways. The entries of all rows stand in two slices, x and width of each. A sum
+// of x and width is nowhere taken, so that any figures do.
 #![tactic(auto)]
 
 ghost use Rattle.std.specs.Prelude.{◌≡◌};
@@ -31,37 +31,6 @@ fn lies_inside(x: u32, wide: u32, from: u32, to: u32) -> bool
     wide != 0 && from <= x && x <= to && wide <= to - x
 }
 
-// What lies at the column. Once a printed cell ends there, it is a gap if another is printed.
-pub fn at(x: &[u32], wide: &[u32], first: usize, end: usize, column: u32) -> Under<usize>
-    requires { InSlices first end x.now wide.now }
-    ensures { result ≡ pointed first column (slice first end (placed x.now wide.now)) }
-{
-    let mut ended = false;
-    for i in first..end {
-        let w = wide[i];
-        if ended {
-            if w != 0 {
-                return Under::Gap;
-            }
-        } else {
-            let start = x[i];
-            if covers_column(start, w, column) {
-                return Under::Cell(i);
-            }
-            ended = closes_at(start, w, column);
-        }
-    }
-    Under::Nothing
-}
-
-// Whether the row has a gap at the column.
-pub fn gap_at(x: &[u32], wide: &[u32], first: usize, end: usize, column: u32) -> bool
-    requires { InSlices first end x.now wide.now }
-    ensures { result ≡ gap_at column (slice first end (placed x.now wide.now)) }
-{
-    matches!(at(x, wide, first, end, column), Under::Gap)
-}
-
 // The joining character by whether a gap stands above, and below.
 #[tactic(auto, unfolding(crate::specs::Point::joint_of))]
 fn joint_of(up: bool, down: bool) -> Joint
@@ -75,38 +44,68 @@ fn joint_of(up: bool, down: bool) -> Joint
     }
 }
 
-// The joining character between a row and the next, whose entries are those from end up to next; below the last row there are none.
-pub fn joining(x: &[u32], wide: &[u32], first: usize, end: usize, next: usize, column: u32) -> Joint
-    requires in_slices { InSlices first end x.now wide.now }
-    requires next_in_slices { InSlices end next x.now wide.now }
-    ensures { result ≡ joined column (slice first end (placed x.now wide.now)) (slice end next (placed x.now wide.now)) }
-{
-    joint_of(
-        gap_at(x, wide, first, end, column),
-        gap_at(x, wide, end, next, column),
-    )
+// A row: its entries are those from first up to end, of all whose x and width stand in the two slices. The place of an entry is the number that an
+// answer gives, so that the slices are not cut to the row.
+#[derive(Clone, Copy)]
+pub struct PlacedRow<'a> {
+    pub x: &'a [u32],
+    pub wide: &'a [u32],
+    pub first: usize,
+    pub end: usize,
+    pub ghost in_slices: { InSlices first end x.now wide.now },
 }
 
-// The printed entries that lie wholly in the stretch, left to right: their numbers, written over the front of the lent slice, and how many.
-pub fn within(
-    x: &[u32],
-    wide: &[u32],
-    first: usize,
-    end: usize,
-    from: u32,
-    to: u32,
-    entry: &mut [u32],
-) -> usize
-    requires in_slices { InSlices first end x.now wide.now }
-    requires room { Room first end entry.old }
-    ensures { Listed first from to (slice first end (placed x.now wide.now)) entry.old result entry.new }
-{
-    let mut n: usize = 0;
-    for i in first..end {
-        if lies_inside(x[i], wide[i], from, to) {
-            entry[n] = i as u32;
-            n += 1;
+impl PlacedRow<'_> {
+    // What lies at the column. Once a printed cell ends there, it is a gap if another is printed.
+    pub fn at(&self, column: u32) -> Under<usize>
+        ensures { result ≡ pointed self.now.first column (slice self.now.first self.now.end (placed self.now.x.now self.now.wide.now)) }
+    {
+        let mut ended = false;
+        for i in self.first..self.end {
+            let w = self.wide[i];
+            if ended {
+                if w != 0 {
+                    return Under::Gap;
+                }
+            } else {
+                let start = self.x[i];
+                if covers_column(start, w, column) {
+                    return Under::Cell(i);
+                }
+                ended = closes_at(start, w, column);
+            }
         }
+        Under::Nothing
     }
-    n
+
+    // Whether the row has a gap at the column.
+    pub fn gap_at(&self, column: u32) -> bool
+        ensures { result ≡ gap_at column (slice self.now.first self.now.end (placed self.now.x.now self.now.wide.now)) }
+    {
+        matches!(self.at(column), Under::Gap)
+    }
+
+    // The joining character between the row and the next; below the last row there is one without entries.
+    pub fn joining(&self, next: &PlacedRow, column: u32) -> Joint
+        ensures { result ≡ joined column
+            (slice self.now.first self.now.end (placed self.now.x.now self.now.wide.now))
+            (slice next.now.first next.now.end (placed next.now.x.now next.now.wide.now)) }
+    {
+        joint_of(self.gap_at(column), next.gap_at(column))
+    }
+
+    // The printed entries that lie wholly in the stretch, left to right: their numbers, written over the front of the lent slice, and how many.
+    pub fn within(&self, from: u32, to: u32, entry: &mut [u32]) -> usize
+        requires { Room self.now.first self.now.end entry.old }
+        ensures { Listed self.now.first from to (slice self.now.first self.now.end (placed self.now.x.now self.now.wide.now)) entry.old result entry.new }
+    {
+        let mut n: usize = 0;
+        for i in self.first..self.end {
+            if lies_inside(self.x[i], self.wide[i], from, to) {
+                entry[n] = i as u32;
+                n += 1;
+            }
+        }
+        n
+    }
 }

@@ -188,9 +188,6 @@ cell_fits column {first'} {end} {next} {x} {wide} f n e =
       f.here.order,
     )
 
-pub row_room : {first' end next : ℕ} {x wide entry : List ℕ} → RowFits first' end next x wide → end ≤ length entry → rows.Room first' end entry
-row_room f h = record { places = omega arith; few = f.few }
-
 pub listed_none : (ps : List Placed) (from to : ℕ) {spot : Result Span Refusal} {why : Refusal} {entry : List ℕ} → spot ≡ Err why → EntriesListed (entries_by ps from to spot) 0 entry
 unfolding entries_by
 listed_none ps from to e = rw e (record { count = refl; few = omega arith; there = omega arith; front = refl })

@@ -12,6 +12,7 @@ ghost use Rattle.preview.specs.inner.Said.{SpotFits, SpotRoom, pointed_by, joine
 use answers::{Joint, Under};
 use arguments::Settings;
 use lists::{MAX_ENTRIES, Refusal};
+use pointing::PlacedRow;
 use spots::Span;
 
 // What lies under the pointer, with the cell's number in 32 bits.
@@ -38,7 +39,13 @@ fn point_in(
     ensures { result ≡ pointed_by (placed x.now wide.now) column spot }
 {
     let row = spot?;
-    Ok(told(pointing::at(x, wide, row.first, row.end, column)))
+    let placed = PlacedRow {
+        x,
+        wide,
+        first: row.first,
+        end: row.end,
+    };
+    Ok(told(placed.at(column)))
 }
 
 // What lies at character column x of a row.
@@ -72,7 +79,19 @@ fn join_in(
     ensures { result ≡ joined_by (placed x.now wide.now) column spot }
 {
     let row = spot?;
-    Ok(pointing::joining(x, wide, row.first, row.end, row.next, column))
+    let above = PlacedRow {
+        x,
+        wide,
+        first: row.first,
+        end: row.end,
+    };
+    let below = PlacedRow {
+        x,
+        wide,
+        first: row.end,
+        end: row.next,
+    };
+    Ok(above.joining(&below, column))
 }
 
 // The joining character at character column x between a row and the next.
@@ -108,7 +127,15 @@ fn list_in(
     ensures { EntriesListed (entries_by (placed x.now wide.now) from to spot) result entry.new }
 {
     match spot {
-        Ok(row) => pointing::within(x, wide, row.first, row.end, from, to, entry),
+        Ok(row) => {
+            let placed = PlacedRow {
+                x,
+                wide,
+                first: row.first,
+                end: row.end,
+            };
+            placed.within(from, to, entry)
+        }
         Err(_) => 0,
     }
 }

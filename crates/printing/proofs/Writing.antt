@@ -5,7 +5,6 @@ use Prim.Native.Nat.{ℕ, ◌+◌, ◌≤◌}
 use native.Mathlib.Omega.{arith}
 use lib.ListN.{length, take, drop, length-append}
 use lib.Seq.{take_at, drop_at, drop-drop, length-take-le}
-use Rattle.std.proofs.Common.{length-drop}
 use Rattle.printing.specs.Printing.{written, Put, PutWithin}
 
 -- two words, one after the other
@@ -28,15 +27,6 @@ module _ (d w v : List ℕ) (at : ℕ) (h : at + length w ≤ length d) where
         append_assoc (take at d) w v,
         e,
       )
-
--- the buffer keeps its length
-pub kept_length : {most at r : ℕ} {w before after : List ℕ} → PutWithin most w at before after r → at + most ≤ length before → length after ≡ length before
-unfolding written
-kept_length {most} {at} {r} {w} {before} {after} p room =
-    let front = take at before ++ w in
-    let rest = drop (at + length w) before in
-    rw (p.put.bytes, length-append front rest, length-append (take at before) w, length-take-le at before (omega arith), length-drop (at + length w) before)
-    (omega (arith, p.within, p.put.place))
 
 module _ {most at r q : ℕ} {w v before middle after : List ℕ} (p : PutWithin most w at before middle r) (room : at + most ≤ length before) where
   -- a word of at most `more` bytes after another

@@ -57,7 +57,7 @@ impl Kept {
     }
 }
 
-// An entry of a table's grid: the line of its cell, or 0 for a filler, its first column and its span.
+// An entry of a table's grid: the line of its cell, or 0 for a filler, its first column and its span. The format and the C interface have that 0.
 #[derive(Clone, Copy)]
 pub struct Entry {
     pub cell: u32,

@@ -4,8 +4,7 @@
 
 ghost use Rattle.std.specs.Prelude.{◌≡◌, ◌≤◌, ◌<◌, length, IfSome};
 
-use printing::Output;
-use writing::lines;
+use writing::lines::Listing;
 
 // The descriptor of standard input.
 const STANDARD_INPUT: i32 = 0;
@@ -34,15 +33,15 @@ fn first_case(input: &[u8]) -> Option<(&[u8], &[u8])>
 }
 
 // Puts the number of a case and what is listed of it.
-fn case_listed(out: &mut Output, number: u32, case: &[u8]) {
-    lines::words(out, b"case ");
-    lines::number(out, number);
-    lines::words(out, b"\n");
+fn case_listed(out: &mut Listing<'_>, number: u32, case: &[u8]) {
+    out.words(b"case ");
+    out.number(number);
+    out.words(b"\n");
     answering::answers(out, case);
 }
 
 // Puts what is listed of each case, up to the end of the input or the first malformed frame.
-fn cases(out: &mut Output, input: &[u8])
+fn cases(out: &mut Listing<'_>, input: &[u8])
     requires { length input.now ≤ 1048576 }
 {
     let mut rest = input;
@@ -64,8 +63,9 @@ fn input_buffer() -> [u8; INPUT_BYTES]
 
 fn main() {
     let mut input = input_buffer();
-    let mut out = Output::new();
+    let mut buffer = io::large_buffer();
+    let mut out = Listing::new(&mut buffer);
     let n = io::read_full(STANDARD_INPUT, &mut input);
     cases(&mut out, &input[..n]);
-    out.flush();
+    out.output.flush();
 }

@@ -7,15 +7,15 @@ use super::{Asked, Form, Walked};
 use answers::Way;
 use gridding::Records;
 use kinds::Kind;
-use printing::Output;
 use table::MeasuredTable;
 use text::Estimate;
 use walking::{Measured, Scratch};
 use writing::entries::Entries;
+use writing::lines::Listing;
 
 // Puts what is asked for of a table that is laid out. An explanation prints no places of entries: it takes their room.
 fn shown(
-    out: &mut Output,
+    out: &mut Listing<'_>,
     asked: Asked,
     way: Way,
     figures: &[Estimate],
@@ -52,7 +52,7 @@ fn shown(
 }
 
 // Puts the table at a place. The sheet is accepted, so none of its tables is refused.
-fn table(out: &mut Output, place: usize, asked: Asked, m: Measured<'_>, s: &mut Scratch<'_>)
+fn table(out: &mut Listing<'_>, place: usize, asked: Asked, m: Measured<'_>, s: &mut Scratch<'_>)
     requires { TableAt m.lines.now place }
 {
     let t = MeasuredTable {
@@ -87,7 +87,13 @@ fn table(out: &mut Output, place: usize, asked: Asked, m: Measured<'_>, s: &mut 
 }
 
 // Puts the table at a place, at the width that the walk gives it; if it gives none, nothing.
-fn walked_table(out: &mut Output, place: usize, asked: Asked, w: Walked<'_>, s: &mut Scratch<'_>)
+fn walked_table(
+    out: &mut Listing<'_>,
+    place: usize,
+    asked: Asked,
+    w: Walked<'_>,
+    s: &mut Scratch<'_>,
+)
     requires { TableAt w.measured.lines.now place }
 {
     let Some(width) = w.widths[place] else {
@@ -103,9 +109,9 @@ fn walked_table(out: &mut Output, place: usize, asked: Asked, w: Walked<'_>, s: 
 
 // Puts every table of a sheet that has a width, in the order of their lines. Every table is laid out in the same room, of which nothing is cleared in
 // between.
-pub fn all_tables(out: &mut Output, asked: Asked, w: Walked<'_>, s: &mut Scratch<'_>) {
-    for i in 0..w.measured.lines.len() {
-        if w.measured.lines[i].kind == Kind::Table {
+pub fn all_tables(out: &mut Listing<'_>, asked: Asked, w: Walked<'_>, s: &mut Scratch<'_>) {
+    for (i, line) in w.measured.lines.iter().enumerate() {
+        if line.kind == Kind::Table {
             walked_table(out, i, asked, w, s);
         }
     }

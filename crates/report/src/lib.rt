@@ -10,8 +10,14 @@ ghost use Rattle.report.specs.inner.Read.{WalkNarrow};
 
 use arguments::Settings;
 use lists::{MAX_ENTRIES, MAX_LINES, MAX_POSITION, Refusal};
-use printing::Output;
 use walking::{Measured, Scratch};
+use writing::lines::Listing;
+
+// Settings take at most 28 bytes, so a full buffer holds a sheet that is too long.
+const INPUT_BYTES: usize = 65565;
+
+// The descriptor of standard input.
+const STANDARD_INPUT: i32 = 0;
 
 // What is printed of a table: its layout, or what explains it. A switch and no type parameter: seven functions would carry it for one `match`.
 #[derive(Clone, Copy)]
@@ -20,13 +26,12 @@ pub enum Form {
     Explain,
 }
 
-// What is asked for: the form, and the settings of a layout, which are in their ranges.
+// What is asked for: the form, and the settings of a layout.
 #[derive(Clone, Copy)]
 pub struct Asked {
     pub form: Form,
     pub raw: u32,
     pub width: u32,
-    pub ghost raw_bound: { raw ≤ 1 },
     pub ghost width_bound: { width ≤ max_size },
 }
 
@@ -38,8 +43,9 @@ pub struct Walked<'a> {
     pub ghost narrow: { WalkNarrow (length measured.lines.now) widths.now },
 }
 
-// Puts every table of a walked sheet. All tables are laid out in the same arrays.
-fn laid(out: &mut Output, asked: Asked, w: Walked<'_>) {
+// Puts every table of a walked sheet. All tables are laid out in the same arrays, which pacing makes likewise: no function can hand out slices of its own
+// arrays, and a struct that owned them would fix their lengths, where `Scratch` takes slices of any length that do.
+fn laid(out: &mut Listing<'_>, asked: Asked, w: Walked<'_>) {
     let mut entries = [records::NO_ENTRY; MAX_ENTRIES];
     let mut rows = [records::NO_ROW; MAX_LINES];
     let mut column = [0u32; MAX_POSITION];
@@ -57,7 +63,12 @@ fn laid(out: &mut Output, asked: Asked, w: Walked<'_>) {
 
 // Puts every table of a sheet at the width that the walk gives it, unless the sheet is refused. The sheet is read, measured and walked once, however many
 // tables it has; no width overflows.
-fn opened(out: &mut Output, sheet: &[u8], form: Form, settings: Settings) -> Result<(), Refusal> {
+fn opened(
+    out: &mut Listing<'_>,
+    sheet: &[u8],
+    form: Form,
+    settings: Settings,
+) -> Result<(), Refusal> {
     let mut kept = [records::NO_LINE; MAX_LINES];
     let mut figures = [estimates::NONE; MAX_LINES];
     let mut walk = [None; MAX_LINES];
@@ -89,7 +100,8 @@ fn opened(out: &mut Output, sheet: &[u8], form: Form, settings: Settings) -> Res
 }
 
 // Puts what is printed of an input, settings and sheet, unless it is refused.
-fn accepted(out: &mut Output, input: &[u8], form: Form) -> Result<(), Refusal> {
+#[tactic(auto, using(settings::proofs::Bounds::settings_in_range))]
+fn accepted(out: &mut Listing<'_>, input: &[u8], form: Form) -> Result<(), Refusal> {
     let given = settings::settings(input)?;
     let settings = Settings {
         wrap: given.wrap,
@@ -101,8 +113,18 @@ fn accepted(out: &mut Output, input: &[u8], form: Form) -> Result<(), Refusal> {
 }
 
 // Puts what is printed of an input, or why it is refused. What no longer fits the buffer is written to standard output on the way.
-pub fn answer(out: &mut Output, input: &[u8], form: Form) {
+pub fn answer(out: &mut Listing<'_>, input: &[u8], form: Form) {
     if let Err(why) = accepted(out, input, form) {
         writing::refusal(out, why);
     }
+}
+
+// Reads an input from standard input, settings and sheet, and writes what is printed of it to standard output.
+pub fn run(form: Form) {
+    let mut input = [0u8; INPUT_BYTES];
+    let mut buffer = io::large_buffer();
+    let mut out = Listing::new(&mut buffer);
+    let n = io::read_full(STANDARD_INPUT, &mut input);
+    answer(&mut out, &input[..n], form);
+    out.output.flush();
 }

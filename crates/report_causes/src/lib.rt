@@ -9,15 +9,15 @@ ghost use Rattle.std.specs.Prelude.{◌≤◌, length};
 ghost use Rattle.causes.specs.inner.Tables.{Explainable};
 
 use answers::Way;
-use columns_told::columns;
+use columns_told::Columns;
 use gridding::Records;
 use losses::Missed;
-use printing::Output;
 use text::Estimate;
+use writing::lines::Listing;
 
 // Puts what is told of a table, whose grid and final widths are given. The last two are room for the missing entries and the causes.
 pub fn told(
-    out: &mut Output,
+    out: &mut Listing<'_>,
     way: Way,
     raw: u32,
     width: u32,
@@ -32,7 +32,15 @@ pub fn told(
 {
     let cause = &mut cause[..column.len()];
     let count = causes::tables::explain(grid.entries, figures, raw, width, missing, cause);
-    columns(out, way, width, figures, grid.entries, column, cause);
+    let columns = Columns {
+        way,
+        width,
+        entries: grid.entries,
+        figures,
+        column,
+        cause,
+    };
+    columns.put(out);
     let missed = Missed {
         grid,
         figures,

@@ -1,13 +1,12 @@
 // Which entries of a table are missing, by their numbers in the grid, which ascend. What stands in the slices is not trusted: each index is tested.
-ghost use Rattle.std.specs.Prelude.{◌≤◌, length};
-ghost use Rattle.lists.specs.Limits.{max_entries};
+ghost use Rattle.std.specs.Prelude.{◌<◌, length};
 
 use super::columns_told::four_spaced;
 use gridding::Records;
-use printing::Output;
+use records::RowEnd;
 use text::Estimate;
 use writing::entries::entry_at;
-use writing::lines::{number, two, words};
+use writing::lines::Listing;
 
 // The grid of a table, the estimates of its cells, and the numbers of its missing entries.
 #[derive(Clone, Copy)]
@@ -15,7 +14,7 @@ pub struct Missed<'a> {
     pub grid: Records<'a>,
     pub figures: &'a [Estimate],
     pub missing: &'a [u32],
-    pub ghost few: { length missing.now ≤ max_entries },
+    pub ghost few: { length missing.now < 4294967296 },
 }
 
 impl Missed<'_> {
@@ -25,11 +24,7 @@ impl Missed<'_> {
             return 0;
         }
         let at = (cell - 1) as usize;
-        if at < self.figures.len() {
-            self.figures[at].size
-        } else {
-            0
-        }
+        self.figures.get(at).map_or(0, |e| e.size)
     }
 
     // With how many of the missing entries something is lost: a cell of a size above 0.
@@ -38,38 +33,28 @@ impl Missed<'_> {
         self.missing.iter().filter(is_lost).count() as u32
     }
 
-    // The row of an entry, from a row on: the first whose entries end after it.
-    fn row_of(&self, from: usize, e: u32) -> usize {
-        let rows = self.grid.rows;
-        for i in from..rows.len() {
-            if e < rows[i].end {
-                return i;
-            }
+    // Puts the line of one entry, which stands in this row: row, cell, first column, span and size.
+    fn put_one(&self, out: &mut Listing<'_>, row: RowEnd, e: u32) {
+        if let Some(entry) = self.grid.entries.get(e as usize) {
+            four_spaced(out, row.line, entry.cell, entry.first, entry.span);
+            out.number(self.size_of(entry.cell));
+            out.words(b"\n");
         }
-        rows.len()
     }
 
-    // Puts the line of one entry: row, cell, first column, span and size.
-    fn put_one(&self, out: &mut Output, row: usize, e: usize) {
-        if row >= self.grid.rows.len() || e >= self.grid.entries.len() {
-            return;
-        }
-        let shown = self.grid.rows[row];
-        let entry = self.grid.entries[e];
-        four_spaced(out, shown.line, entry.cell, entry.first, entry.span);
-        number(out, self.size_of(entry.cell));
-        words(out, b"\n");
-    }
-
-    // Puts how many entries are missing, with how many of them something is lost, and a line for each. They ascend, and so do their rows.
-    pub fn put(&self, out: &mut Output) {
-        words(out, b"missing lost\n");
-        two(out, self.missing.len() as u32, self.lost());
-        words(out, b"row cell first span size\n");
-        let mut row = 0;
-        for e in self.missing {
-            row = self.row_of(row, *e);
-            self.put_one(out, row, *e as usize);
+    // Puts how many entries are missing, with how many of them something is lost, and a line for each. They ascend, and so do their rows: that of an
+    // entry is the first from the last one's on that ends after it.
+    pub fn put(&self, out: &mut Listing<'_>) {
+        out.words(b"missing lost\n");
+        out.two(self.missing.len() as u32, self.lost());
+        out.words(b"row cell first span size\n");
+        let mut rows = self.grid.rows;
+        for &e in self.missing {
+            let Some(i) = rows.iter().position(|row| e < row.end) else {
+                return;
+            };
+            rows = &rows[i..];
+            self.put_one(out, rows[0], e);
         }
     }
 }

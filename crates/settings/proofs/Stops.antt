@@ -1,4 +1,4 @@
--- Bytes up to a stop: what a search for it tells, and the two parts, cut where the search ends. Assumes nothing.
+-- Bytes up to a stop and after it: the two parts, cut where a search for it ends. Assumes nothing.
 use mathlib.Core.Path.{◌≡◌, refl}
 use mathlib.Core.Bool.{Bool, true, false, cond}
 use mathlib.Core.List.{List, [], ◌∷◌}
@@ -8,25 +8,9 @@ use native.Mathlib.Omega.{arith}
 use lib.Dec.{eqb, ltb, leb-suc-suc}
 use lib.ListN.{length, take, drop}
 use borrow.Author.Tests.{lt-ltb}
-use Rattle.std.specs.Prelude.{Some, None, not, position}
+use Rattle.std.specs.Prelude.{not}
 use Rattle.settings.specs.Settings.{Part, part, unstopped, longer, until}
 use Rattle.settings.specs.Reading.{count_before}
-
--- what a search tells
-found_at : (t : Bool) {n end : ℕ} → cond t (Some n) None ≡ Some end → (t ≡ true) × (n ≡ end)
-found_at true e = (refl, cc)
-found_at false e = let z : ◌≡◌ {A = ℕ} 0 1 = cc in absurd (omega arith)
-
-found_none : (t : Bool) (n : ℕ) → cond t (Some n) None ≡ None → t ≡ false
-found_none true n e = let z : ◌≡◌ {A = ℕ} 0 1 = cc in absurd (omega arith)
-found_none false n e = refl
-
-module _ (stop : ℕ) (s : List ℕ) where
-  pub stop_found : {end : ℕ} → position (λ b. eqb b stop) s ≡ Some end → (ltb (count_before stop s) (length s) ≡ true) × (count_before stop s ≡ end)
-  stop_found e = found_at (ltb (count_before stop s) (length s)) e
-
-  pub stop_none : position (λ b. eqb b stop) s ≡ None → ltb (count_before stop s) (length s) ≡ false
-  stop_none e = found_none (ltb (count_before stop s) (length s)) _ e
 
 -- bytes cut before a place and after it, where there is such a place
 abbrev pub cut_at : ℕ → List ℕ → Part

@@ -1,20 +1,23 @@
 -- What a setting that was read tells of the definition: its number and what follows it, and that this lies in the input. Assumes nothing.
-use mathlib.Core.Path.{◌≡◌, refl, ap, subst, ◌∙◌}
+use mathlib.Core.Path.{◌≡◌, refl, sym, ap, subst, ◌∙◌}
 use mathlib.Core.Bool.{Bool, true, false, cond}
 use mathlib.Core.List.{List}
-use Prim.Native.Nat.{ℕ, suc, ◌+◌, ◌-◌, ◌≤◌, ◌<◌}
+use Prim.Native.Nat.{ℕ, suc, ◌+◌, ◌-◌, ◌≤◌}
 use native.Mathlib.Omega.{arith}
-use lib.Dec.{eqb, ltb}
-use lib.ListN.{length, take, drop, length-drop, drop_of_length-le}
+use lib.Dec.{ltb}
+use lib.ListN.{length, take, drop, length-drop}
 use lib.Seq.{drop-drop}
+use Rattle.std.proofs.lemmas.List.{length-take-le}
 use borrow.Author.Tests.{ltb-true}
-use Rattle.std.specs.Prelude.{Option, Some, None, position}
+use Rattle.std.specs.Prelude.{Option, Some, None}
+use Rattle.std.specs.Option.{option_map, option_and_then}
 use Rattle.fields.specs.Numbers.{Numeral, numeral, unwritten, number_of, up_to, magnitude}
-use Rattle.fields.specs.Reading.{FieldRead}
+use Rattle.fields.specs.Blanks.{front_to}
+use Rattle.fields.specs.Reading.{FieldRead, written_in, ended_at}
 use Rattle.fields.specs.declared.Scanned.{Scanned}
 use Rattle.settings.specs.Settings.{part, unstopped, with_part, with_numeral, then_setting, Settled, malformed}
-use Rattle.settings.specs.Reading.{count_before, written_in, ended_at, setting_read}
-use Rattle.settings.proofs.Stops.{until_cut, stop_found, stop_none}
+use Rattle.settings.specs.Reading.{count_before, setting_read}
+use Rattle.settings.proofs.Stops.{until_cut}
 
 -- what follows a setting that was read at a place
 abbrev after : List ℕ → FieldRead ℕ → (ℕ → List ℕ → Settled) → Settled
@@ -53,20 +56,29 @@ module _ (stop most at : ℕ) (s : List ℕ) where
   abbrev found : FieldRead ℕ
   found = setting_read stop most at (drop at s)
 
-  -- by what the search for the stop tells
+  -- by the bytes up to the stop
 
-  pub setting_out : length s < at → found ≡ None
-  unfolding setting_read
-  setting_out h = let e : length s ≤ at = omega arith in rw (drop_of_length-le s e)
+  setting_front : found ≡ option_and_then (λ f. ended_at (at + length f + 1) (written_in most (number_of f))) (front_to stop (drop at s))
+  unfolding setting_read front_to
+  setting_front = go (ltb n (length (drop at s))) refl
+    where
+      n : ℕ
+      n = count_before stop (drop at s)
 
-  pub setting_open : position (λ b. eqb b stop) (drop at s) ≡ None → found ≡ None
-  unfolding setting_read
-  setting_open e = rw (stop_none stop (drop at s) e)
+      go : (t : Bool) → ltb n (length (drop at s)) ≡ t
+          → cond t (ended_at (at + n + 1) (written_in most (number_of (take n (drop at s))))) None
+          ≡ option_and_then (λ f. ended_at (at + length f + 1) (written_in most (number_of f)))
+          (option_map (λ (k : ℕ). take k (drop at s)) (cond t (Some n) None))
+      go true e =
+          let h : n ≤ length (drop at s) = omega (arith, ltb-true n (length (drop at s)) e) in
+          rw (length-take-le n (drop at s) h)
+      go false e = refl
 
-  pub setting_ended : {end : ℕ} → position (λ b. eqb b stop) (drop at s) ≡ Some end
-      → found ≡ ended_at (at + end + 1) (written_in most (number_of (take end (drop at s))))
-  unfolding setting_read
-  setting_ended e = let told = stop_found stop (drop at s) e in rw (told.0, ← told.1)
+  pub setting_open : None ≡ front_to stop (drop at s) → found ≡ None
+  setting_open e = setting_front ∙ sym (ap (option_and_then (λ (f : List ℕ). ended_at (at + length f + 1) (written_in most (number_of f)))) e)
+
+  pub setting_ended : {f : List ℕ} → Some f ≡ front_to stop (drop at s) → found ≡ ended_at (at + length f + 1) (written_in most (number_of f))
+  setting_ended e = setting_front ∙ sym (ap (option_and_then (λ (f : List ℕ). ended_at (at + length f + 1) (written_in most (number_of f)))) e)
 
   pub setting_told : {r : Scanned ℕ} → found ≡ Some r → (f : ℕ → List ℕ → Settled) → then_setting stop most (drop at s) f ≡ f r.value (drop r.next s)
   setting_told e f = setting_after most s f stop at ∙ ap (λ (r : FieldRead ℕ). after s r f) e

@@ -45,7 +45,8 @@ pub fn raise_columns(entries: &[Entry], figures: &[Estimate], sizes: &mut [u32],
     }
 }
 
-// `render_table_tree` as far as the table's width: the columns' sizes and leasts, and then their widths.
+// `render_table_tree` as far as the table's width: the columns' sizes and leasts, and then their widths. `Entered` is a fact of the entries, the figures
+// and as many columns as `column` has places: a struct of the first two would hold that number too, and each call would ask that `column` is as long.
 fn lay_in(
     entries: &[Entry],
     figures: &[Estimate],
@@ -65,7 +66,8 @@ fn lay_in(
     widths::lay_columns(sizes, leasts, raw, width, column)
 }
 
-// The same in room of N places of its own.
+// The same in room of N places of its own. The arrays are cut here, two of them, and in `causes` four: one function that makes and cuts them would ask
+// of a closure that it may be called with slices so long, and promise again what it leaves.
 fn lay_sized<const N: usize>(
     entries: &[Entry],
     figures: &[Estimate],

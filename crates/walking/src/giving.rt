@@ -9,7 +9,7 @@ use records::{Entry, Kept};
 use table::MeasuredTable;
 use text::Estimate;
 
-// Writes the width of each entry to the place of its cell's line; a filler has none.
+// Writes the width of each entry to the place of its cell's line; a filler has none. By place: two slices are read at it, from the last to the first.
 fn print_cells(entries: &[Entry], wide: &[u32], walk: &mut [Option<u32>])
     requires { CellsFit entries.now wide.now walk.old }
     ensures { walk.new ≡ printed_by (map entry_cell entries.now) wide.now walk.old }

@@ -41,7 +41,7 @@ pub fn walk(
     walk: &mut [Option<u32>],
     s: &mut Scratch<'_>,
 ) -> Result<(), Refusal>
-    requires raw_bound { (raw ≤ 1) × (width ≤ max_size) }
+    requires width_bound { width ≤ max_size }
     requires lines_in_bounds { length m.lines.now ≤ length walk.old }
     ensures { Walked m.entry.lines.now m.entry.figures.now raw width overflow result walk.new }
 {

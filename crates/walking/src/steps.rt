@@ -76,12 +76,13 @@ pub fn walk_lines(
     walk: &mut [Option<u32>],
     s: &mut Scratch<'_>,
 ) -> Result<(), Refusal>
-    requires raw_bound { (raw ≤ 1) × (width ≤ max_size) }
+    requires width_bound { width ≤ max_size }
     requires cleared { Cleared (length m.lines.now) walk.old }
     ensures { Walked m.entry.lines.now m.entry.figures.now raw width overflow result walk.new }
 {
     let mut passed = [None; DEPTHS];
     let n = m.lines.len();
+    // By place: a line's place says its number, and its estimate and its width stand there too.
     for i in 0..n {
         let own = step(m, i, width, walk, &mut passed);
         if ends(m, i, own, overflow) {

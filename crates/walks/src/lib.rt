@@ -23,7 +23,7 @@ pub fn walk(
 {
     let asked = Settings::of_walk(wrap, raw, width, overflow, given.len(), wide.len());
     let read = walking_out::find_walk(sheet, asked, given, wide);
-    let n = sheet_figures::line_count(read);
+    let n = read.unwrap_or(0);
     lists::keep_front(given, n);
     lists::keep_front(wide, n);
     Ok(read? as u32)

@@ -1,6 +1,5 @@
 // The entries of a grid, row by row, with two figures of each. What is in the slices is not trusted: a figure or an entry outside counts as 0.
-use super::lines::{four, two};
-use printing::Output;
+use super::lines::Listing;
 use records::{Entry, NO_ENTRY, RowEnd};
 
 // The rows of a grid, its entries, and two figures of each entry.
@@ -25,16 +24,17 @@ pub fn entry_at(grid: &[Entry], e: u32) -> Entry {
 impl Entries<'_> {
     // Puts the line of one entry: row, cell, and its two figures. An entry whose second figure is 0 is left out: in a layout the missing
     // ones have width 0, and in a grid each span is at least 1.
-    fn put_one(&self, out: &mut Output, line: u32, e: u32) {
+    fn put_one(&self, out: &mut Listing<'_>, line: u32, e: u32) {
         let figure = number_at(self.extent, e);
         if figure != 0 {
             let cell = entry_at(self.grid, e).cell;
-            four(out, line, cell, number_at(self.start, e), figure);
+            out.four(line, cell, number_at(self.start, e), figure);
         }
     }
 
-    // Puts the entries of all rows: those of a row end where it says, and the next row's begin there.
-    pub fn put(&self, out: &mut Output) {
+    // Puts the entries of all rows: those of a row end where it says, and the next row's begin there. By place: three slices are read at it, and a row may
+    // end after them.
+    pub fn put(&self, out: &mut Listing<'_>) {
         let mut from = 0;
         for row in self.rows {
             for e in from..row.end {
@@ -46,15 +46,15 @@ impl Entries<'_> {
 }
 
 // Puts the line and the end of each row.
-pub fn row_ends(out: &mut Output, rows: &[RowEnd]) {
+pub fn row_ends(out: &mut Listing<'_>, rows: &[RowEnd]) {
     for row in rows {
-        two(out, row.line, row.end);
+        out.two(row.line, row.end);
     }
 }
 
 // Puts a line for each number: its place, from 0 on, and the number.
-pub fn numbered(out: &mut Output, values: &[u32]) {
+pub fn numbered(out: &mut Listing<'_>, values: &[u32]) {
     for (j, n) in (0..u32::MAX).zip(values) {
-        two(out, j, *n);
+        out.two(j, *n);
     }
 }

@@ -6,11 +6,11 @@ pub mod lines; // lines.rt: one line of a listing
 pub mod entries; // entries.rt: the entries of a grid, row by row
 pub mod tables; // tables.rt: one table
 
+use lines::Listing;
 use lists::Refusal;
-use printing::Output;
 
 // Puts a refusal: the number of its reason, and its line.
-pub fn refusal(out: &mut Output, why: Refusal) {
-    lines::words(out, b"refusal line\n");
-    lines::two(out, why.reason.number(), why.line);
+pub fn refusal(out: &mut Listing<'_>, why: Refusal) {
+    out.words(b"refusal line\n");
+    out.two(why.reason.number(), why.line);
 }

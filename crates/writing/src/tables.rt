@@ -3,9 +3,8 @@ ghost use Rattle.std.specs.Prelude.{◌≡◌};
 ghost use Rattle.writing.specs.Writing.{way_letter};
 
 use super::entries::{Entries, numbered};
-use super::lines::{number, two, words};
+use super::lines::Listing;
 use answers::Way;
-use printing::Output;
 
 // The letter of a way.
 #[tactic(auto, unfolding(crate::specs::Writing::way_letter))]
@@ -19,17 +18,17 @@ fn letter_of(way: Way) -> u8
 }
 
 // Puts the first two lines of a table: its line, its way, its columns and its width.
-pub fn heading(out: &mut Output, line: u32, way: Way, columns: u32, width: u32) {
-    words(out, b"table way cols wide\n");
-    number(out, line);
-    words(out, &[b' ', letter_of(way), b' ']);
-    two(out, columns, width);
+pub fn heading(out: &mut Listing<'_>, line: u32, way: Way, columns: u32, width: u32) {
+    out.words(b"table way cols wide\n");
+    out.number(line);
+    out.words(&[b' ', letter_of(way), b' ']);
+    out.two(columns, width);
 }
 
 // Puts the columns' widths, and each entry that is printed with its start and its width.
-pub fn cells(out: &mut Output, column: &[u32], entries: Entries) {
-    words(out, b"column width\n");
+pub fn cells(out: &mut Listing<'_>, column: &[u32], entries: Entries) {
+    out.words(b"column width\n");
     numbered(out, column);
-    words(out, b"row cell x width\n");
+    out.words(b"row cell x width\n");
     entries.put(out);
 }

@@ -10,34 +10,30 @@ pub find_estimates-read-requires : goal.find_estimates-read-requires
 find_estimates-read-requires c = figures_fit c.args.wrap _ _ _ _ c.of_estimates-asked.ensures
 
 pub keep_front-requires : goal.keep_front-requires
-keep_front-requires c =
-    let n = c.line_count-n.ensures in
-    let f = c.find_estimates-read in
-    omega (arith, (rooms c.of_estimates-asked.ensures c.find_estimates-read.ensures).0, c.find_estimates-read.auto.size)
+unfolding lines_in
+keep_front-requires c = grind (arith, (rooms c.of_estimates-asked.ensures c.find_estimates-read.ensures).0, c.find_estimates-read.auto.size)
 
 pub keep_front-requires-2 : goal.keep_front-requires-2
-keep_front-requires-2 c =
-    let n = c.line_count-n.ensures in
-    let f = c.find_estimates-read in
-    omega (arith, (rooms c.of_estimates-asked.ensures c.find_estimates-read.ensures).1, c.find_estimates-read.auto.least)
+unfolding lines_in
+keep_front-requires-2 c = grind (arith, (rooms c.of_estimates-asked.ensures c.find_estimates-read.ensures).1, c.find_estimates-read.auto.least)
 
 pub keep_front-requires-3 : goal.keep_front-requires-3
-keep_front-requires-3 c =
-    let n = c.line_count-n.ensures in
-    let f = c.find_estimates-read in
-    omega (arith, (rooms c.of_estimates-asked.ensures c.find_estimates-read.ensures).2, c.find_estimates-read.auto.prefix)
+unfolding lines_in
+keep_front-requires-3 c = grind (arith, (rooms c.of_estimates-asked.ensures c.find_estimates-read.ensures).2, c.find_estimates-read.auto.prefix)
 
 pub overflow_cast-result : goal.overflow_cast-result
 unfolding lines_in
 overflow_cast-result c = omega (arith, rw c.in_ok-read.was at c.find_estimates-read.ensures.few)
 
 pub returns : goal.returns
+unfolding lines_in
 returns c =
-    answered c.of_estimates-asked.ensures c.find_estimates-read.ensures (sym c.in_ok-read.was) c.line_count-n.ensures
+    answered c.of_estimates-asked.ensures c.find_estimates-read.ensures (sym c.in_ok-read.was) (search rules)
     c.find_estimates-read.auto.size c.find_estimates-read.auto.least c.find_estimates-read.auto.prefix c.keep_front.ensures c.keep_front-2.ensures c.keep_front-3.ensures
 
 pub returns-in_err-read : goal.returns-in_err-read
+unfolding lines_in
 returns-in_err-read c =
     let q : c.from_residual.result ≡ Err c.in_err-read.field-0.0 = search rules in
-    answered c.of_estimates-asked.ensures c.find_estimates-read.ensures (q ∙ sym c.in_err-read.was) c.line_count-n.ensures
+    answered c.of_estimates-asked.ensures c.find_estimates-read.ensures (q ∙ sym c.in_err-read.was) (search rules)
     c.find_estimates-read.auto.size c.find_estimates-read.auto.least c.find_estimates-read.auto.prefix c.keep_front.ensures c.keep_front-2.ensures c.keep_front-3.ensures

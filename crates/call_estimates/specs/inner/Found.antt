@@ -1,6 +1,6 @@
 -- What is found of a sheet's lines, where the checks pass or one of them refuses. These are definitions; nothing is assumed.
 use Rattle.lists.specs.declared.Refusal.{Refusal}
-use Rattle.std.specs.Prelude.{◌≡◌, true, List, map, ℕ, ◌≤◌, length, take, Err, Ok, Result, Option, Some}
+use Rattle.std.specs.Prelude.{◌≡◌, true, List, map, ℕ, ◌≤◌, length, take, Err, Ok, Result}
 use Rattle.lists.specs.Limits.{max_lines}
 use Rattle.lists.specs.Refusals.{Check, first_answer, passes, if_passes}
 use Rattle.text.specs.declared.Estimate.{Estimate}
@@ -37,8 +37,3 @@ pub record EstimatesFound (cs : List Check) (s : List ℕ) (wrap : ℕ) (r : Res
   pub leasts : take (lines_in r) least ≡ if_passes cs (map line_least (estimates wrap (kept_lines s)))
   pub prefixes : take (lines_in r) prefix ≡ if_passes cs (map line_prefix (estimates wrap (kept_lines s)))
   pub sound : passes cs ≡ true → AllBounded (estimates wrap (kept_lines s))
-
--- the same if the arrays did
-pub record EstimatesTried (cs : List Check) (s : List ℕ) (wrap : ℕ) (t : Result (Option ℕ) Refusal) (size least prefix : List ℕ) : Type 0 where
-  pub found : (n : ℕ) → t ≡ Ok (Some n) → EstimatesFound cs s wrap (Ok n) size least prefix
-  pub refused : (why : Refusal) → t ≡ Err why → EstimatesFound cs s wrap (Err why) size least prefix

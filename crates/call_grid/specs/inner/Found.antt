@@ -2,7 +2,7 @@
 use Rattle.answers.specs.Answers.{grid_with}
 use Rattle.answers.specs.declared.Grid.{Grid}
 use Rattle.lists.specs.declared.Refusal.{Refusal}
-use Rattle.std.specs.Prelude.{◌≡◌, List, map, ℕ, ◌≤◌, length, take, Err, Result, Option, Some, Ok}
+use Rattle.std.specs.Prelude.{◌≡◌, List, map, ℕ, ◌≤◌, length, take, Err, Result, Ok}
 use Rattle.lists.specs.Limits.{max_lines, max_entries}
 use Rattle.lists.specs.Refusals.{Check, first_answer, if_passes}
 use Rattle.grid.specs.Grid.{shown_line, entries_of, row_ends, first_of, span_of, row_line}
@@ -35,8 +35,3 @@ pub record GridFound (cs : List Check) (s : List ℕ) (line : ℕ) (r : Result G
   pub spans : take (entries_in r) span ≡ if_passes cs (map span_of (entries_of (rows_at s line)))
   pub row_lines : take (rows_in r) row ≡ if_passes cs (map row_line (rows_at s line))
   pub row_ends_are : take (rows_in r) end ≡ if_passes cs (row_ends 0 (rows_at s line))
-
--- the same if the arrays did
-pub record GridTried (cs : List Check) (s : List ℕ) (line : ℕ) (t : Result (Option Grid) Refusal) (cell first' span row end : List ℕ) : Type 0 where
-  pub found : (r : Grid) → t ≡ Ok (Some r) → GridFound cs s line (Ok r) cell first' span row end
-  pub refused : (why : Refusal) → t ≡ Err why → GridFound cs s line (Err why) cell first' span row end

@@ -2,7 +2,7 @@
 use Rattle.answers.specs.Answers.{layout_with}
 use Rattle.answers.specs.declared.Layout.{Layout}
 use Rattle.lists.specs.declared.Refusal.{Refusal}
-use Rattle.std.specs.Prelude.{◌≡◌, true, List, map, ℕ, ◌≤◌, length, take, Err, Result, Option, Some, Ok}
+use Rattle.std.specs.Prelude.{◌≡◌, true, List, map, ℕ, ◌≤◌, length, take, Err, Result, Ok}
 use Rattle.lists.specs.Limits.{max_lines, max_entries}
 use Rattle.lists.specs.Refusals.{Check, first_answer, passes, if_passes}
 use Rattle.grid.specs.Grid.{entries_of}
@@ -27,10 +27,5 @@ pub record LayoutFound (cs : List Check) (s : List ℕ) (line wrap raw width : �
   pub widths : take (columns_in r) column ≡ if_passes cs (widths_at s line wrap raw width)
   pub xs : take (entries_in r) x ≡ if_passes cs (map x_of (places_at s line wrap raw width))
   pub wides : take (entries_in r) wide ≡ if_passes cs (map width_of (places_at s line wrap raw width))
-  pub promised : passes cs ≡ true →
+  pub promised : raw ≤ 1 → passes cs ≡ true →
       Promised (columns_at s line) (boxes_at s line wrap) raw width (way_at s line wrap raw width) (widths_at s line wrap raw width)
-
--- the same if the arrays did
-pub record LayoutTried (cs : List Check) (s : List ℕ) (line wrap raw width : ℕ) (t : Result (Option Layout) Refusal) (column x wide : List ℕ) : Type 0 where
-  pub found : (r : Layout) → t ≡ Ok (Some r) → LayoutFound cs s line wrap raw width (Ok r) column x wide
-  pub refused : (why : Refusal) → t ≡ Err why → LayoutFound cs s line wrap raw width (Err why) column x wide

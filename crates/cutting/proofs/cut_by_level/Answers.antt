@@ -6,7 +6,7 @@ use Rattle.cutting.proofs.cut_by_level.Goals as goal
 
 pub returns : goal.returns
 returns c =
-    let level = c.find_level-level.result in
-    let bound = c.find_bound-bound in
+    let level = c.level-level.result in
+    let bound = c.bound-bound in
     c.fill_widths.ensures
     ∙ filled_cut c.args.leasts.now c.args.wide.now c.args.room level bound.result c.requires.roomy c.requires.room_bound bound.ensures

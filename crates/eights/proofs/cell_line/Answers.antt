@@ -4,4 +4,4 @@ use Rattle.eights.proofs.Told.{cell_ends}
 use Rattle.eights.proofs.cell_line.Goals as goal
 
 pub returns : goal.returns
-returns c b e = cell_ends c.eight-end.ensures c.if-end-lt-ZEROS.false c.if-more-ne0.false (omega arith) (omega arith) _ c.cell.ensures b e
+returns c b e = cell_ends c.eight-end.ensures c.from_le_bytes-zeros.ensures c.if-end-zeros.false c.if-more-ne0.false (omega arith) (omega arith) _ c.cell.ensures b e

@@ -4,21 +4,28 @@ use Prim.Native.Nat.{◌<◌}
 use native.Mathlib.Omega.{arith}
 use lib.ListN.{length}
 use borrow.Author.Tests.{eqb-true, eqb-false}
-use Rattle.grid_check.proofs.CheckLoop.{stop, turn_other, turn_refused, turn_table}
+use Rattle.std.proofs.Common.{rules}
+use Rattle.std.proofs.lemmas.Result.{err_from_is_err_and}
+use Rattle.grid_check.proofs.CheckLoop.{stop, turn_other, turn_told, turn_fine}
 use Rattle.grid_check.proofs.check_each.Goals as goal
-use Rattle.grid_check.proofs.check_each.Goals.{then-is_table+in_default, else-is_table}
+use Rattle.grid_check.proofs.check_each.Goals.{then-eq+in_ok-map_err, else-eq}
 
-pub returns-in-Err : goal.returns-in-Err
-returns-in-Err c =
-    let here : c.loop-t.t < length c.args.lines.now = omega arith in
-    rw c.at.ensures (turn_refused c.loop-t.invariant here (eqb-true _ _ (sym c.eq-is_table.ensures ∙ c.if-is_table.true)) _ c.check_table.ensures _ c.in-Err.is)
+pub returns-in_err-map_err : goal.returns-in_err-map_err
+returns-in_err-map_err c =
+    let here : c.loop-t.t-counter < length c.args.lines.now = omega arith in
+    let p = err_from_is_err_and c.from_residual.result c.from_residual.ensures.1 in
+    rw (p.1, p.2)
+    (turn_told c.loop-t.invariant here (eqb-true _ _ (sym c.eq.ensures ∙ c.if-eq.true)) _ c.check_table.ensures
+    c.map_err.result _ (λ why y q. search rules) c.map_err.ensures.cases _ c.in_err-map_err.was)
 
 pub loop-t-preserved : goal.loop-t-preserved
 loop-t-preserved c =
-    let here : c.loop-t.t < length c.args.lines.now = omega arith in
-    elim c.if-is_table.branch [
-      | then-is_table+in_default w ↦ turn_table c.loop-t.invariant here (eqb-true _ _ (sym c.eq-is_table.ensures ∙ w.if-is_table.true)) _ w.check_table.ensures w.in_default.is
-      | else-is_table w ↦ turn_other c.loop-t.invariant here (eqb-false _ _ (sym c.eq-is_table.ensures ∙ w.if-is_table.false))
+    let here : c.loop-t.t-counter < length c.args.lines.now = omega arith in
+    elim c.if-eq.branch [
+      | then-eq+in_ok-map_err w ↦
+          turn_fine c.loop-t.invariant here (eqb-true _ _ (sym c.eq.ensures ∙ w.if-eq.true)) _ w.check_table.ensures
+          w.map_err.result _ (λ why y q. search rules) w.map_err.ensures.cases _ w.in_ok-map_err.was
+      | else-eq w ↦ turn_other c.loop-t.invariant here (eqb-false _ _ (sym c.eq.ensures ∙ w.if-eq.false))
     ]
 
 pub returns : goal.returns

@@ -3,4 +3,4 @@ use Rattle.grid_check.proofs.CheckLoop.{Sofar}
 use Rattle.grid_check.proofs.check_each.Given as goal
 
 abbrev pub invariant-loop-t : goal.invariant-loop-t
-invariant-loop-t l = Sofar l.lines l.t
+invariant-loop-t l = Sofar l.lines l.t-counter

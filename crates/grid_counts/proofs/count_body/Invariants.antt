@@ -3,4 +3,4 @@ use Rattle.grid_counts.proofs.BodyLoop.{BodyCounting}
 use Rattle.grid_counts.proofs.count_body.Given as goal
 
 abbrev pub invariant-loop-j : goal.invariant-loop-j
-invariant-loop-j l = BodyCounting l.lines l.d l.i l.rows l.most l.entries l.initial.ends l.ends l.reach l.n l.q l.j
+invariant-loop-j l = BodyCounting l.lines l.d l.rows l.most l.entries l.initial.ends l.ends l.reach l.n l.q l.j

@@ -1,4 +1,4 @@
--- `grid_counts::count_row` meets its contract. The loop's invariant, `Counting`: what is counted, with what the cells from place j on add, is what the row adds.
+-- `grid_counts::count_row` meets its contract. The loop's invariant, `Counting`: what is counted, with what the cells from the next line on add, is what the row adds.
 -- Assumes nothing.
 use Prim.Native.Nat.{◌+◌, ◌<◌}
 use native.Mathlib.Omega.{arith}
@@ -11,14 +11,14 @@ use Rattle.grid_counts.proofs.count_row.Goals.{then-line-row-2+else-sum-gt-MAX_P
 
 pub returns-then-sum-gt-MAX_POSITION : goal.returns-then-sum-gt-MAX_POSITION
 returns-then-sum-gt-MAX_POSITION c =
-    row_past c.requires.row_ready c.loop-j.invariant (omega arith) (omega (arith, c.if-line-row-2.true)) _ (filled_at (rw c.from-cols.ensures at c.filled-wide.ensures))
+    λ n. row_past c.requires c.loop-line.invariant (omega arith) (omega (arith, c.if-line-row-2.true)) _ (filled_at (rw c.from-cols.ensures at c.filled-wide.ensures)) n
     (omega (arith, c.if-sum-gt-MAX_POSITION.true)) _
 
-pub loop-j-preserved : goal.loop-j-preserved
-loop-j-preserved c =
-    let t = c.requires.row_ready in
-    let z = c.loop-j.invariant in
-    let deep : c.args.d + 2 < (get_or c.args.lines.now c.loop-j.j no_kept).depth = omega arith in
+pub loop-line-preserved : goal.loop-line-preserved
+loop-line-preserved c =
+    let t = c.requires in
+    let z = c.loop-line.invariant in
+    let deep : c.args.d + 2 < (get_or c.args.lines.now c.loop-line.line-index no_kept).depth = omega arith in
     elim c.if-line-row-2.branch [
       | then-line-row-2+else-sum-gt-MAX_POSITION w ↦
           rw (w.ends-is, w.sum-is, w.n-is, w.widen.ensures)
@@ -27,9 +27,9 @@ loop-j-preserved c =
       | else-line-row-2 w ↦ rw (w.ends-is, w.sum-is, w.n-is) (row_on t z deep (λ o. w.if-line-row-2.false (omega arith)))
     ]
 
-pub returns-after-loop-j : goal.returns-after-loop-j
-returns-after-loop-j c =
-    row_stop c.requires.row_ready c.loop-j.invariant (omega (arith, past_lines c.args.lines.now c.loop-j.j (omega arith)))
+pub returns-after-loop-line : goal.returns-after-loop-line
+returns-after-loop-line c =
+    λ n. row_stop c.requires c.loop-line.invariant n (omega (arith, past_lines c.args.lines.now c.loop-line.line-index (omega arith)))
 
 pub returns-then-line-row : goal.returns-then-line-row
-returns-then-line-row c = row_stop c.requires.row_ready c.loop-j.invariant (omega arith)
+returns-then-line-row c = λ n. row_stop c.requires c.loop-line.invariant n (omega arith)

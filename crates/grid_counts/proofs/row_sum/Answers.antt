@@ -1,4 +1,4 @@
--- `grid_counts::row_sum` meets its contract. The loop's invariant, `Summing`: what is added up, with the sum of the cells from place j on, is the row's sum.
+-- `grid_counts::row_sum` meets its contract. The loop's invariant, `Summing`: what is added up, with the sum of the cells from the next line on, is the row's sum.
 -- Assumes nothing.
 use mathlib.Core.Path.{◌∙◌}
 use Prim.Native.Nat.{◌+◌, ◌<◌}
@@ -10,17 +10,17 @@ use Rattle.grid_counts.proofs.SumLoop.{sum_stop, sum_more, sum_on}
 use Rattle.grid_counts.proofs.row_sum.Goals as goal
 use Rattle.grid_counts.proofs.row_sum.Goals.{then-line-row-2, else-line-row-2}
 
-pub loop-j-preserved : goal.loop-j-preserved
-loop-j-preserved c =
-    let z = c.loop-j.invariant in
-    let deep : c.args.d + 2 < (get_or c.args.lines.now c.loop-j.j no_kept).depth = omega arith in
+pub loop-line-preserved : goal.loop-line-preserved
+loop-line-preserved c =
+    let z = c.loop-line.invariant in
+    let deep : c.args.d + 2 < (get_or c.args.lines.now c.loop-line.line-index no_kept).depth = omega arith in
     elim c.if-line-row-2.branch [
-      | then-line-row-2 w ↦ rw w.sum-is (sum_more c.requires.lines z deep (omega (arith, w.if-line-row-2.true)) _ (w.from-sum.ensures ∙ w.max.ensures))
-      | else-line-row-2 w ↦ rw w.sum-is (sum_on c.requires.lines z deep (λ o. w.if-line-row-2.false (omega arith)))
+      | then-line-row-2 w ↦ rw w.sum-is (sum_more c.requires z deep (omega (arith, w.if-line-row-2.true)) _ (w.from-sum.ensures ∙ w.max.ensures))
+      | else-line-row-2 w ↦ rw w.sum-is (sum_on c.requires z deep (λ o. w.if-line-row-2.false (omega arith)))
     ]
 
-pub returns-after-loop-j : goal.returns-after-loop-j
-returns-after-loop-j c = sum_stop c.requires.lines c.loop-j.invariant (omega (arith, past_lines c.args.lines.now c.loop-j.j (omega arith)))
+pub returns-after-loop-line : goal.returns-after-loop-line
+returns-after-loop-line c = λ n. sum_stop c.requires c.loop-line.invariant n (omega (arith, past_lines c.args.lines.now c.loop-line.line-index (omega arith)))
 
 pub returns-then-line-row : goal.returns-then-line-row
-returns-then-line-row c = sum_stop c.requires.lines c.loop-j.invariant (omega arith)
+returns-then-line-row c = λ n. sum_stop c.requires c.loop-line.invariant n (omega arith)

@@ -3,4 +3,4 @@ use Rattle.grid_counts.proofs.SumLoop.{Surveying}
 use Rattle.grid_counts.proofs.survey.Given as goal
 
 abbrev pub invariant-loop-j : goal.invariant-loop-j
-invariant-loop-j l = Surveying l.lines l.d l.i l.initial.ends l.ends l.rows l.most l.j
+invariant-loop-j l = Surveying l.lines l.d l.initial.ends l.ends l.rows l.most l.j

@@ -1,20 +1,16 @@
--- What is counted of a row and of a body, where the lines from a place on hold them. These are definitions; nothing is assumed.
-use Rattle.std.specs.Prelude.{◌≡◌, true, false, cond, List, map, ℕ, suc, ◌+◌, ◌-◌, ◌*◌, ◌≤◌, ◌<◌, min, eqb, length, get_or, drop, Result, Ok, Err}
+-- What is counted of a row and of a body. These are definitions; nothing is assumed.
+use Rattle.std.specs.Prelude.{◌≡◌, true, false, cond, List, map, ℕ, suc, ◌+◌, ◌-◌, ◌*◌, ◌≤◌, ◌<◌, min, eqb, length, get_or, Result, Ok, Err}
 use Rattle.lists.specs.Lists.{sum}
 use Rattle.lists.specs.Limits.{max_lines, max_depth, max_cols, max_position, max_entries}
 use Rattle.lists.specs.declared.Reason.{Reason}
 use Rattle.lists.specs.declared.Reason.TheVariants.{RowEnd}
 use Rattle.records.specs.Kept.{no_kept}
 use Rattle.records.specs.declared.Kept.{Kept}
-use Rattle.cells.specs.Cells.{Cell, Row, Frame, frame, row_sum, widest, resolve_cell, hangs, cut_cell, resolve_body}
+use Rattle.cells.specs.Cells.{Cell, Row, row_sum, widest, resolve_cell, hangs, cut_cell, resolve_body}
 use Rattle.cells.specs.Listed.{cell_cols}
 use Rattle.rows.specs.Row.{Item, item_of}
 use Rattle.positions.specs.Positions.{all_rows, ends_past, entry_count}
 use Rattle.grid_counts.specs.declared.Tally.{Tally}
-
--- what the lines from place i on hold, below a table of depth d: the cells of the open row, the other rows of its body, and the other bodies
-abbrev pub framed : List Kept → ℕ → ℕ → Frame
-framed ks d i = frame d (i + 1) (drop i ks)
 
 -- entries are counted up to one more than a table may have
 abbrev pub many_entries : ℕ
@@ -64,25 +60,25 @@ rows_taken cs = sum (map (λ c. suc (c.rows - 1)) cs)
 abbrev pub wides_of : ℕ → List Item → ℕ
 wides_of k xs = sum (map (λ x. cond (eqb (x.left - 1) k) x.span 0) xs)
 
--- what counting a row takes: `reach` hang into it, and place q + k of the slice tells how much of it hangs into k rows more
-pub record RowReady (ks : List Kept) (d instead q left reach entries : ℕ) (ends : List ℕ) : Type 0 where
+-- what counting a row takes: `reach` hang into it, and place k of the slice tells how much of it hangs into k rows more
+pub record RowReady (ks : List Kept) (d instead left reach entries : ℕ) (ends : List ℕ) : Type 0 where
   pub lines : Lines ks d
   pub small : instead ≤ max_lines * max_cols + 1
   pub few_left : left < max_lines
-  pub room : q + left < length ends
+  pub room : left < length ends
   pub within : reach ≤ max_position
   pub few : entries ≤ many_entries
-  pub ends_small : (k : ℕ) → k ≤ left → get_or ends (q + k) 0 ≤ reach
+  pub ends_small : (k : ℕ) → k ≤ left → get_or ends k 0 ≤ reach
 
-pub record RowDone (cs : List Cell) (q left reach entries : ℕ) (ends₀ ends : List ℕ) (reach' entries' : ℕ) : Type 0 where
+pub record RowDone (cs : List Cell) (left reach entries : ℕ) (ends₀ ends : List ℕ) (reach' entries' : ℕ) : Type 0 where
   pub reach_is : reach' ≡ reach + cols_sum cs
   pub within : reach' ≤ max_position
   pub entries_are : entries' ≡ min (entries + rows_taken cs) many_entries
-  pub ends_are : (k : ℕ) → k ≤ left → get_or ends (q + k) 0 ≡ get_or ends₀ (q + k) 0 + wides_of k (map item_of cs)
+  pub ends_are : (k : ℕ) → k ≤ left → get_or ends k 0 ≡ get_or ends₀ k 0 + wides_of k (map item_of cs)
 
-pub record RowCounted (cs : List Cell) (q left reach entries : ℕ) (ends₀ ends : List ℕ) (r : Result Tally Reason) : Type 0 where
+pub record RowCounted (cs : List Cell) (left reach entries : ℕ) (ends₀ ends : List ℕ) (r : Result Tally Reason) : Type 0 where
   pub past : (why : Reason) → r ≡ Err why → (why ≡ RowEnd) × (max_position < reach + cols_sum cs)
-  pub counted : (t : Tally) → r ≡ Ok t → RowDone cs q left reach entries ends₀ ends t.reach t.entries
+  pub counted : (t : Tally) → r ≡ Ok t → RowDone cs left reach entries ends₀ ends t.reach t.entries
 
 -- ---- a body
 

@@ -39,5 +39,5 @@ pub record NestFound (cs : List Check) (s : List ℕ) (line wrap raw width : ℕ
   pub widths : take (columns_in r) column ≡ if_passes cs (columns_for s line wrap raw (width_to s line wrap raw width))
   pub xs : take (entries_in r) x ≡ if_passes cs (xs_for s line wrap raw (width_to s line wrap raw width))
   pub wides : take (entries_in r) wide ≡ if_passes cs (wides_for s line wrap raw (width_to s line wrap raw width))
-  pub promised : passes cs ≡ true → (v : ℕ) → width_to s line wrap raw width ≡ Some v →
+  pub promised : raw ≤ 1 → passes cs ≡ true → (v : ℕ) → width_to s line wrap raw width ≡ Some v →
       Promised (columns_at s line) (boxes_at s line wrap) raw v (way_at s line wrap raw v) (widths_at s line wrap raw v)

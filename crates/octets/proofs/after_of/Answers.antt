@@ -3,4 +3,4 @@ use Rattle.octets.proofs.Answers.{after_answer}
 use Rattle.octets.proofs.after_of.Goals as goal
 
 pub returns : goal.returns
-returns c = λ cs o e. after_answer c.args.chars c.args.gap cs o e
+returns c = λ cs o e. rw c.from.ensures (after_answer c.args.chars c.args.gap cs o e)

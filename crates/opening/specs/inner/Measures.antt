@@ -1,6 +1,6 @@
 -- What measuring an opened sheet takes and promises. These are definitions; nothing is assumed.
 use Rattle.lists.specs.declared.Refusal.{Refusal}
-use Rattle.std.specs.Prelude.{◌≡◌, ◌⊎◌, List, ℕ, ◌-◌, ◌≤◌, ◌<◌, length, get_or, take, Ok, Result, Option, Some, IsSome}
+use Rattle.std.specs.Prelude.{◌≡◌, ◌⊎◌, List, ℕ, ◌-◌, ◌≤◌, ◌<◌, length, get_or, take, Ok, Err, Result, Option, Some, IsSome, IfSome, MatchResult}
 use Rattle.lists.specs.Limits.{max_position, max_entries, max_lines}
 use Rattle.text.specs.declared.Estimate.{Estimate}
 use Rattle.records.specs.declared.Kept.{Kept}
@@ -32,6 +32,10 @@ Enough entries rows ks = Suffice entries rows ks ⊎ ((max_entries ≤ entries) 
 -- something is found, or the sheet is refused
 abbrev pub Decided : {A : Type 0} → Result (Option A) Refusal → Type 0
 Decided {A} r = (t : Option A) → r ≡ Ok t → IsSome t
+
+-- what is tried in arrays of one size: if they suffice, it is found, or the sheet refused
+abbrev pub Tried : {A : Type 0} → (Result A Refusal → Type 0) → Result (Option A) Refusal → Type 0
+Tried Found t = MatchResult t (λ o. IfSome o (λ r. Found (Ok r))) (λ why. Found (Err why))
 
 -- scratch for any table
 pub record ScratchForAny (leasts : List ℕ) (entries : List Entry) (rows : List RowEnd) : Type 0 where

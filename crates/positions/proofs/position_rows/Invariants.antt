@@ -9,10 +9,10 @@ use Rattle.rows.specs.inner.Overhangs.{lefts_of, ats_of, wides_of, lefts_in, ats
 use Rattle.positions.proofs.RowsLoop.{Bounds, Sofar, Held}
 use Rattle.positions.proofs.position_rows.Given as goal
 
-abbrev pub invariant-loop-r : goal.invariant-loop-r
-invariant-loop-r l =
+abbrev pub invariant-loop-row : goal.invariant-loop-row
+invariant-loop-row l =
     Bounds (lines_of l.cells) (row_ends_of l.initial.rows) (entry_cells_of l.initial.entries) (entry_spans_of l.initial.entries) (row_ends_of l.initial.rows) (lefts_in l.initial.overhang) (ats_in l.initial.overhang) (wides_in l.initial.overhang) (lefts_of l.initial.next) (ats_of l.initial.next) (wides_of l.initial.next)
-    (entry_cells_of l.entries) (entry_spans_of l.entries) (row_ends_of l.rows) (lefts_in l.overhang) (ats_in l.overhang) (wides_in l.overhang) (lefts_of l.next) (ats_of l.next) (wides_of l.next) l.first l.r l.n l.k
+    (entry_cells_of l.entries) (entry_spans_of l.entries) (row_ends_of l.rows) (lefts_in l.overhang) (ats_in l.overhang) (wides_in l.overhang) (lefts_of l.next) (ats_of l.next) (wides_of l.next) l.first l.row-index l.n l.k
     × ((row_lines : List ℕ) → Sofar (lines_of l.cells) (spans_of l.cells) (rowspans_of l.cells) (row_ends_of l.initial.rows) row_lines (entry_cells_of l.initial.entries) (entry_spans_of l.initial.entries) (row_ends_of l.initial.rows)
-    (entry_cells_of l.entries) (entry_spans_of l.entries) (row_ends_of l.rows) (lefts_in l.overhang) (ats_in l.overhang) (wides_in l.overhang) l.first l.r l.n l.k)
+    (entry_cells_of l.entries) (entry_spans_of l.entries) (row_ends_of l.rows) (lefts_in l.overhang) (ats_in l.overhang) (wides_in l.overhang) l.first l.row-index l.n l.k)
     × Held l.initial.rows l.initial.entries l.initial.overhang l.initial.next l.rows l.entries l.overhang l.next

@@ -1,13 +1,9 @@
 -- `preview::joining` meets its contract: the arrays have a place for each entry, and the joining character below the row that was found is the answer.
 -- Assumes nothing.
 use mathlib.Core.Path.{◌∙◌}
-use native.Mathlib.Omega.{arith}
 use Rattle.spots.proofs.Early.{spot_opened}
 use Rattle.preview.proofs.Calls.{spot_fits, joined_said}
 use Rattle.preview.proofs.joining.Goals as goal
-
-pub find-spot-requires : goal.find-spot-requires
-find-spot-requires c = record { x_room = omega arith; wide_room = omega arith }
 
 pub join_in-requires : goal.join_in-requires
 join_in-requires c = spot_fits _ (spot_opened c.of_pointing-asked.ensures.asks c.find-spot.ensures)

@@ -1,13 +1,6 @@
 -- `preview::list_in` meets its contract: the row's entries are there, each has a place in the buffer, and a refusal lists none. Assumes nothing.
-use Rattle.preview.proofs.Calls.{row_room, listed_none, listed_row}
+use Rattle.preview.proofs.Calls.{listed_none, listed_row}
 use Rattle.preview.proofs.list_in.Goals as goal
-
-pub within-requires : goal.within-requires
-within-requires c =
-    let f = c.requires.spot_fits _ c.in-Ok.is in record {
-      in_slices = f.here;
-      room = row_room f (c.requires.spot_room _ c.in-Ok.is);
-    }
 
 pub returns-in-Err : goal.returns-in-Err
 returns-in-Err c = listed_none _ _ _ c.in-Err.is

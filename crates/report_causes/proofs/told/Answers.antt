@@ -4,12 +4,6 @@ use lib.Seq.{length-take-le}
 use Rattle.causes.proofs.Told.{missing_few}
 use Rattle.report_causes.proofs.told.Goals as goal
 
-pub explain-count-requires : goal.explain-count-requires
-explain-count-requires c = rw (length-take-le _ c.args.cause.now c.requires.cause_in) c.requires.explainable
-
-pub columns-requires : goal.columns-requires
-columns-requires c = record { entered = c.requires.explainable.entered; column_len_bound = c.requires.explainable.columns_few }
-
 pub invariant_of-missed : goal.invariant_of-missed
 invariant_of-missed c =
     let p = c.requires.explainable in

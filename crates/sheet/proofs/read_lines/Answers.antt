@@ -52,7 +52,7 @@ pub loop-at-preserved : goal.loop-at-preserved
 loop-at-preserved c =
     let l = next-line (goal.at.loop-at-preserved c).In-Ok in
     let room : c.loop-at.n < length c.args.lines.now = omega (arith, l.few, c.requires.begun.few, c.requires.bytes_bound) in (
-      turns_more c.loop-at.invariant.0 c.loop-at-test.true _ (known (goal.at.loop-at-preserved c).In-Ok) _ room (length-set _ _ _) refl,
+      rw c.from-previous.ensures (turns_more c.loop-at.invariant.0 c.loop-at-test.true _ (known (goal.at.loop-at-preserved c).In-Ok) _ room (length-set _ _ _) refl),
       λ e.
           let s = c.still_filled-filled.ensures e in
           none_more c.loop-at.lines c.in-Ok.b.value (c.loop-at.invariant.1 s.0) s.1 (omega (arith, room, c.loop-at.invariant.0.same)) refl,

@@ -28,7 +28,7 @@ loop-i-preserved c =
     let text = c.args.text.now in
     let class = c.class-class.ensures in
     let few : class_of (get_or text c.loop-i.i 0) ≤ 3 = omega (arith, class.value, class.upper_bound, c.if-class-eq-REFUSED.false) in
-    rw class.value
+    rw (c.from.ensures, class.value)
     (sum_turn c.loop-i.invariant (omega arith) c.if-text-i.false few c.space_bit-space.result (omega (arith, c.space_bit-space.ensures, class.value)))
 
 pub returns : goal.returns

@@ -12,24 +12,24 @@ find_walk-read-requires c =
     walk_fit a.wrap a.raw a.width a.overflow _ a.given.now a.wide.now c.of_walk-asked.ensures.verdict
 
 pub keep_front-requires : goal.keep_front-requires
-keep_front-requires c =
-    let a = c.args in
-    omega (arith, c.line_count-n.ensures, (walk_rooms a.wrap a.raw a.width a.overflow _ _ _ c.of_walk-asked.ensures.verdict (walk_opened c.of_walk-asked.ensures.asks c.find_walk-read.ensures)).0, c.find_walk-read.auto.given)
+unfolding lines_in
+keep_front-requires c = grind (arith, (walk_rooms _ _ _ _ _ _ _ c.of_walk-asked.ensures.verdict (walk_opened c.of_walk-asked.ensures.asks c.find_walk-read.ensures)).0, c.find_walk-read.auto.given)
 
 pub keep_front-requires-2 : goal.keep_front-requires-2
-keep_front-requires-2 c =
-    let a = c.args in
-    omega (arith, c.line_count-n.ensures, (walk_rooms a.wrap a.raw a.width a.overflow _ _ _ c.of_walk-asked.ensures.verdict (walk_opened c.of_walk-asked.ensures.asks c.find_walk-read.ensures)).1, c.find_walk-read.auto.wide)
+unfolding lines_in
+keep_front-requires-2 c = grind (arith, (walk_rooms _ _ _ _ _ _ _ c.of_walk-asked.ensures.verdict (walk_opened c.of_walk-asked.ensures.asks c.find_walk-read.ensures)).1, c.find_walk-read.auto.wide)
 
 pub overflow_cast-result : goal.overflow_cast-result
 unfolding lines_in
 overflow_cast-result c = omega (arith, rw c.in_ok-read.was at (walk_opened c.of_walk-asked.ensures.asks c.find_walk-read.ensures).few)
 
 pub returns : goal.returns
+unfolding lines_in
 returns c =
-    walk_answered c.of_walk-asked.ensures.verdict (walk_opened c.of_walk-asked.ensures.asks c.find_walk-read.ensures) (sym c.in_ok-read.was) c.line_count-n.ensures c.find_walk-read.auto.given c.find_walk-read.auto.wide c.keep_front.ensures c.keep_front-2.ensures
+    walk_answered c.of_walk-asked.ensures.verdict (walk_opened c.of_walk-asked.ensures.asks c.find_walk-read.ensures) (sym c.in_ok-read.was) (search rules) c.find_walk-read.auto.given c.find_walk-read.auto.wide c.keep_front.ensures c.keep_front-2.ensures
 
 pub returns-in_err-read : goal.returns-in_err-read
+unfolding lines_in
 returns-in_err-read c =
     let q : c.from_residual.result ≡ Err c.in_err-read.field-0.0 = search rules in
-    walk_answered c.of_walk-asked.ensures.verdict (walk_opened c.of_walk-asked.ensures.asks c.find_walk-read.ensures) (q ∙ sym c.in_err-read.was) c.line_count-n.ensures c.find_walk-read.auto.given c.find_walk-read.auto.wide c.keep_front.ensures c.keep_front-2.ensures
+    walk_answered c.of_walk-asked.ensures.verdict (walk_opened c.of_walk-asked.ensures.asks c.find_walk-read.ensures) (q ∙ sym c.in_err-read.was) (search rules) c.find_walk-read.auto.given c.find_walk-read.auto.wide c.keep_front.ensures c.keep_front-2.ensures

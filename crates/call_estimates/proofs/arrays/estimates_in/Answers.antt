@@ -6,22 +6,19 @@ use native.Mathlib.Omega.{arith}
 use lib.Seq.{length-take-le}
 use Rattle.opening.proofs.Measurable.{front_measurable, lent_enough, sheet_measured}
 use Rattle.sheet_figures.proofs.Openings.{lines_in_fits}
-use Rattle.call_estimates.proofs.Found.{lines_still, figures_fit, estimates_found, estimates_refused, tried_some, tried_none, tried_err}
+use Rattle.call_estimates.proofs.Found.{lines_still, figures_fit, estimates_found, estimates_refused}
 use Rattle.call_estimates.proofs.arrays.estimates_in.Goals as goal
 
 pub returns-in_err-n-clause-tried : goal.returns-in_err-n-clause-tried
 returns-in_err-n-clause-tried g c =
     let q : c.from_residual.result ≡ Err c.in_err-n.field-0.0 = search rules in
-    rw q (tried_err (estimates_refused (sym c.open_sheet.ensures.answer ∙ c.in_err-n.was)))
+    rw q (estimates_refused (sym c.open_sheet.ensures.answer ∙ c.in_err-n.was))
 
 pub shared_whole_as_front-lines : goal.shared_whole_as_front-lines
 shared_whole_as_front-lines g c = (
   omega (arith, lines_in_fits _ _ c.open_sheet.ensures c.in_ok-n.was (omega (arith, c.requires.room))),
   omega (arith, c.requires.sizes.0),
 )
-
-pub returns-then-not-enough-clause-tried : goal.returns-then-not-enough-clause-tried
-returns-then-not-enough-clause-tried g c = tried_none
 
 pub measure-requires : goal.measure-requires
 measure-requires g c =
@@ -38,4 +35,4 @@ write_figures-requires g c =
 pub returns-clause-tried : goal.returns-clause-tried
 returns-clause-tried g c =
     let n = lines_in_fits _ _ c.open_sheet.ensures c.in_ok-n.was (omega (arith, c.requires.room)) in
-    tried_some (estimates_found _ (omega (arith, n, c.measure.auto.figures)) (sheet_measured c.open_sheet.ensures _ c.in_ok-n.was c.measure.ensures) c.write_figures.ensures)
+    estimates_found _ (omega (arith, n, c.measure.auto.figures)) (sheet_measured c.open_sheet.ensures _ c.in_ok-n.was c.measure.ensures) c.write_figures.ensures

@@ -7,22 +7,19 @@ use Rattle.opening.proofs.Measurable.{front_table}
 use Rattle.gridding.proofs.Cut.{made_within, made_records}
 use Rattle.table.proofs.Rooms.{grid_room, asked_ready}
 use Rattle.sheet_figures.proofs.Openings.{opened_at, opened_front, asked_lines, most_enough}
-use Rattle.call_grid.proofs.Found.{room_still, figures_fit, records_small, grid_found, grid_refused, tried_some, tried_none, tried_err}
+use Rattle.call_grid.proofs.Found.{room_still, figures_fit, records_small, grid_found, grid_refused}
 use Rattle.call_grid.proofs.arrays.grid_in.Goals as goal
 
 pub returns-in_err-n-clause-tried : goal.returns-in_err-n-clause-tried
 returns-in_err-n-clause-tried g c =
     let q : c.from_residual.result ≡ Err c.in_err-n.field-0.0 = search rules in
-    rw q (tried_err (grid_refused (sym c.open_sheet.ensures.answer ∙ c.in_err-n.was)))
+    rw q (grid_refused (sym c.open_sheet.ensures.answer ∙ c.in_err-n.was))
 
 pub shared_whole_as_front-lines : goal.shared_whole_as_front-lines
 shared_whole_as_front-lines g c = (
   omega (arith, opened_front (opened_at c.open_sheet.ensures c.in_ok-n.was) (omega (arith, c.requires.lines_room))),
   omega (arith, c.requires.sizes.0),
 )
-
-pub returns-then-not-enough-clause-tried : goal.returns-then-not-enough-clause-tried
-returns-then-not-enough-clause-tried g c = tried_none
 
 pub overflow_sub-at : goal.overflow_sub-at
 overflow_sub-at g c = (front_table c.open_sheet.ensures refl _ c.in_ok-n.was).from_one
@@ -45,6 +42,5 @@ answer_of-requires g c = records_small (asked_lines (opened_at c.open_sheet.ensu
 
 pub returns-clause-tried : goal.returns-clause-tried
 returns-clause-tried g c =
-    tried_some
-    (rw c.answer_of.ensures
-    (grid_found (opened_at c.open_sheet.ensures c.in_ok-n.was) (made_records c.make-counts.ensures c.records-grid.ensures) c.write_grid.ensures))
+    rw c.answer_of.ensures
+    (grid_found (opened_at c.open_sheet.ensures c.in_ok-n.was) (made_records c.make-counts.ensures c.records-grid.ensures) c.write_grid.ensures)

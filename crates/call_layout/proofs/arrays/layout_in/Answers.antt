@@ -7,22 +7,19 @@ use Rattle.opening.proofs.Measurable.{front_measurable, front_table, lent_enough
 use Rattle.table.proofs.Rooms.{grid_room}
 use Rattle.sheet_figures.proofs.Openings.{opened_at, opened_front, asked_lines, most_enough}
 use Rattle.sheet_figures.proofs.Tables.{lines_below, table_known}
-use Rattle.call_layout.proofs.Found.{out_still, layout_found, layout_refused, tried_some, tried_none, tried_err}
+use Rattle.call_layout.proofs.Found.{out_still, layout_found, layout_refused}
 use Rattle.call_layout.proofs.arrays.layout_in.Goals as goal
 
 pub returns-in_err-n-clause-tried : goal.returns-in_err-n-clause-tried
 returns-in_err-n-clause-tried g c =
     let q : c.from_residual.result ≡ Err c.in_err-n.field-0.0 = search rules in
-    rw q (tried_err (layout_refused (sym c.open_sheet.ensures.answer ∙ c.in_err-n.was)))
+    rw q (layout_refused (sym c.open_sheet.ensures.answer ∙ c.in_err-n.was))
 
 pub shared_whole_as_front-lines : goal.shared_whole_as_front-lines
 shared_whole_as_front-lines g c = (
   omega (arith, opened_front (opened_at c.open_sheet.ensures c.in_ok-n.was) (omega (arith, c.requires.lines_room))),
   omega (arith, c.requires.sizes.0),
 )
-
-pub returns-then-not-enough-clause-tried : goal.returns-then-not-enough-clause-tried
-returns-then-not-enough-clause-tried g c = tried_none
 
 pub overflow_sub-at : goal.overflow_sub-at
 overflow_sub-at g c = (front_table c.open_sheet.ensures refl _ c.in_ok-n.was).from_one
@@ -49,4 +46,4 @@ layout_of-layout-requires g c = record {
 
 pub returns-clause-tried : goal.returns-clause-tried
 returns-clause-tried g c =
-    tried_some (layout_found (lines_below c.open_sheet.ensures c.in_ok-n.was c.measure_below.ensures) c.args.settings.raw_bound c.layout_of-layout.ensures)
+    layout_found (lines_below c.open_sheet.ensures c.in_ok-n.was c.measure_below.ensures) c.layout_of-layout.ensures

@@ -1,84 +1,73 @@
 -- `renumber` meets its contract. The loop's invariant (`Sofar`): the records written, followed by the definition of what is left from this
 -- position on, are the definition of the whole row; the records that are left stand as they stood; the position is an edge and the column its
 -- number. A turn looks the entry's end up from there: at an edge its record is written anew, else the row is refused. Assumes nothing.
-use mathlib.Core.Path.{◌≡◌, refl, sym, subst, ◌∙◌}
+use mathlib.Core.Path.{◌≡◌, refl, sym, ◌∙◌}
 use mathlib.Core.Bool.{true}
-use mathlib.Core.List.{List}
 use Prim.Native.Nat.{ℕ, ◌+◌, ◌-◌, ◌≤◌, ◌<◌}
 use native.Mathlib.Omega.{arith}
-use lib.ListN.{length, get_or, set, length-set}
+use lib.ListN.{length, get_or, length-set, length-map}
+use Rattle.lists.specs.Limits.{max_position}
 use Rattle.records.specs.Kept.{no_entry}
 use Rattle.records.specs.declared.Entry.{Entry}
-use Rattle.records.specs.Figures.{entry_cells_of, entry_spans_of}
-use Rattle.edges.specs.Edges.{is_edge, count_below, part}
-use Rattle.edges.proofs.Columns.{row_length}
-use Rattle.edges.proofs.RenumberLoop.{Sofar, found, not_found, start, stop, turn, turn_at, turn_fits, turn_missing, entry_span_lem, entry_cell_lem}
+use Rattle.records.specs.Figures.{entry_span, entry_cells_of, entry_spans_of}
+use Rattle.edges.specs.Edges.{is_edge, count_below}
+use Rattle.edges.proofs.RenumberLoop.{found, not_found, start, stop, turn, turn_at, turn_fits, turn_missing, entry_span_lem, entry_cell_lem}
 use Rattle.edges.proofs.Numbers.renumber.Goals as goal
-use Rattle.edges.proofs.Numbers.renumber.Goals.{In-loop-k, In_ok-n}
+use Rattle.edges.proofs.Numbers.renumber.Goals.{In-loop-entry, In_ok-n}
 
--- an entry of the row: its place in the row, and among all
-in_row : (xs : List Entry) {at end k : ℕ} → end ≤ length xs → at ≤ k → k < end → k - at < length (part at end (entry_spans_of xs))
-in_row xs {at} {end} h l r = omega (arith, row_length xs at end h)
+-- an entry of the row is left, and stands there as it stood
+here : (c : In-loop-entry) → c.loop-entry.entry-index < length (entry_spans_of c.args.entries.now)
+here c = omega (arith, length-map c.args.entries.now entry_span, c.loop-entry-test.true, c.loop-entry.invariant.1)
 
--- the entry stands there as it stood
-span-is : (c : In-loop-k) → get_or (part c.args.at c.args.end (entry_spans_of c.args.entries.now)) (c.loop-k.k - c.args.at) 0 ≡ (get_or c.loop-k.entries c.loop-k.k no_entry).span
-span-is c = sym (entry_span_lem c.loop-k.invariant.0 c.loop-k-test.true c.requires.at_le_end.1)
+span_is : (c : In-loop-entry) → get_or (entry_spans_of c.args.entries.now) c.loop-entry.entry-index 0 ≡ (get_or c.loop-entry.entries c.loop-entry.entry-index no_entry).span
+span_is c = sym (entry_span_lem c.loop-entry.invariant.0 (omega (arith, c.loop-entry-test.true, c.loop-entry.invariant.1)))
 
-cell_is : (c : In-loop-k) → get_or (entry_cells_of c.args.entries.now) c.loop-k.k 0 ≡ (get_or c.loop-k.entries c.loop-k.k no_entry).cell
-cell_is c = sym (entry_cell_lem c.loop-k.invariant.0 c.loop-k-test.true c.requires.at_le_end.1)
+cell_is : (c : In-loop-entry) → get_or (entry_cells_of c.args.entries.now) c.loop-entry.entry-index 0 ≡ (get_or c.loop-entry.entries c.loop-entry.entry-index no_entry).cell
+cell_is c = sym (entry_cell_lem c.loop-entry.invariant.0 (omega (arith, c.loop-entry-test.true, c.loop-entry.invariant.1)))
 
 -- the entry's end is an edge, and its number
-at_edge : (c : In_ok-n) → let p = c.loop-k.pos + (get_or c.loop-k.entries c.loop-k.k no_entry).span in
+at_edge : (c : In_ok-n) → let p = c.loop-entry.pos + (get_or c.loop-entry.entries c.loop-entry.entry-index no_entry).span in
     (is_edge c.args.self.now.words p ≡ true) × (c.in_ok-n.n ≡ count_below (is_edge c.args.self.now.words) p)
 at_edge c = found _ _ _ (sym c.find_past.ensures ∙ c.in_ok-n.was)
 
-pub loop-k-init : goal.loop-k-init
-loop-k-init c = (start _ _ _ _ _ c.requires.words_value, refl)
+-- its number is no less than the column, and no more than the last position
+number_fits : (c : In-loop-entry) (n : ℕ) → let p = c.loop-entry.pos + (get_or c.loop-entry.entries c.loop-entry.entry-index no_entry).span in
+    (is_edge c.args.self.now.words p ≡ true) × (n ≡ count_below (is_edge c.args.self.now.words) p) → (c.loop-entry.column ≤ n) × (n ≤ max_position)
+number_fits c n e = turn_at c.loop-entry.invariant.0 (here c) _ (span_is c) _ e.0 e.1 c.requires.entries_bound
 
-pub find_past-requires : goal.find_past-requires
-find_past-requires c =
-    let here : In-loop-k = (goal.at.find_past-requires c).In-loop-k in record {
-      s_bound = turn_fits c.loop-k.invariant.0 (in_row c.args.entries.now c.requires.at_le_end.1 c.loop-k.auto.k c.loop-k-test.true) _ (span-is here) c.requires.entries_bound;
-      p_value = c.loop-k.invariant.0.edge;
-      n_value = c.loop-k.invariant.0.counted;
-    }
+pub loop-entry-init : goal.loop-entry-init
+loop-entry-init c = (start _ _ _ _ c.requires.words_value, refl)
+
+pub find_past-requires-clause-s_bound : goal.find_past-requires-clause-s_bound
+find_past-requires-clause-s_bound c =
+    let k : In-loop-entry = (goal.at.find_past-requires-clause-s_bound c).In-loop-entry in
+    turn_fits c.loop-entry.invariant.0 (here k) _ (span_is k) c.requires.entries_bound
 
 pub returns-in_err-n : goal.returns-in_err-n
 returns-in_err-n c =
-    let here : In-loop-k = (goal.at.returns-in_err-n c).In-loop-k in
-    rw c.from_residual.ensures (turn_missing c.loop-k.invariant.0 (in_row c.args.entries.now c.requires.at_le_end.1 c.loop-k.auto.k c.loop-k-test.true) _ (span-is here) (not_found _ _ (sym c.find_past.ensures ∙ c.in_err-n.was)) _)
+    let k : In-loop-entry = (goal.at.returns-in_err-n c).In-loop-entry in
+    rw c.from_residual.ensures (turn_missing c.loop-entry.invariant.0 (here k) _ (span_is k) (not_found _ _ (sym c.find_past.ensures ∙ c.in_err-n.was)) _)
 
-pub overflow_cast-e : goal.overflow_cast-e
-overflow_cast-e c =
-    let edge = at_edge (goal.at.overflow_cast-e c).In_ok-n in
-    omega (arith, (turn_at c.loop-k.invariant.0 (in_row c.args.entries.now c.requires.at_le_end.1 c.loop-k.auto.k c.loop-k-test.true) _ (span-is (goal.at.overflow_cast-e c).In-loop-k) _ edge.0 edge.1 c.requires.entries_bound))
+pub overflow_cast-entry : goal.overflow_cast-entry
+overflow_cast-entry c = omega (arith, number_fits (goal.at.overflow_cast-entry c).In-loop-entry _ (at_edge (goal.at.overflow_cast-entry c).In_ok-n))
 
-pub overflow_sub-e : goal.overflow_sub-e
-overflow_sub-e c =
-    let edge = at_edge (goal.at.overflow_sub-e c).In_ok-n in
-    (turn_at c.loop-k.invariant.0 (in_row c.args.entries.now c.requires.at_le_end.1 c.loop-k.auto.k c.loop-k-test.true) _ (span-is (goal.at.overflow_sub-e c).In-loop-k) _ edge.0 edge.1 c.requires.entries_bound).0
+pub overflow_sub-entry : goal.overflow_sub-entry
+overflow_sub-entry c = (number_fits (goal.at.overflow_sub-entry c).In-loop-entry _ (at_edge (goal.at.overflow_sub-entry c).In_ok-n)).0
 
-pub overflow_cast-e-in-loop-k : goal.overflow_cast-e-in-loop-k
-overflow_cast-e-in-loop-k c =
-    let edge = at_edge (goal.at.overflow_cast-e-in-loop-k c).In_ok-n in
-    omega (arith, (turn_at c.loop-k.invariant.0 (in_row c.args.entries.now c.requires.at_le_end.1 c.loop-k.auto.k c.loop-k-test.true) _ (span-is (goal.at.overflow_cast-e-in-loop-k c).In-loop-k) _ edge.0 edge.1 c.requires.entries_bound))
+pub overflow_cast-entry-in-loop-entry : goal.overflow_cast-entry-in-loop-entry
+overflow_cast-entry-in-loop-entry c = omega (arith, number_fits (goal.at.overflow_cast-entry-in-loop-entry c).In-loop-entry _ (at_edge (goal.at.overflow_cast-entry-in-loop-entry c).In_ok-n))
 
-pub loop-k-preserved : goal.loop-k-preserved
-loop-k-preserved c =
-    let here : In_ok-n = (goal.at.loop-k-preserved c).In_ok-n in
-    let entry = get_or c.loop-k.entries c.loop-k.k no_entry in
-    let new : Entry = record { cell = entry.cell; first = c.loop-k.column; span = c.in_ok-n.n - c.loop-k.column } in (
-      subst
-          (λ (i : ℕ).
-          Sofar (is_edge c.args.self.now.words) (part c.args.at c.args.end (entry_spans_of c.args.entries.now)) (entry_cells_of c.args.entries.now) c.args.at
-          c.args.entries.now (set c.loop-k.entries c.loop-k.k new) (c.loop-k.pos + entry.span) c.in_ok-n.n (c.loop-k.k + 1) i)
-          (omega arith)
-          (turn c.loop-k.invariant.0 (in_row c.args.entries.now c.requires.at_le_end.1 c.loop-k.auto.k c.loop-k-test.true) _ (span-is (goal.at.loop-k-preserved c).In-loop-k) _ (at_edge here).0 (at_edge here).1 _ (cell_is (goal.at.loop-k-preserved c).In-loop-k)
-          (omega (arith, c.loop-k-test.true, c.requires.at_le_end, c.loop-k.invariant.1)) _ refl),
-      length-set c.loop-k.entries c.loop-k.k new ∙ c.loop-k.invariant.1,
+pub loop-entry-preserved : goal.loop-entry-preserved
+loop-entry-preserved c =
+    let k : In-loop-entry = (goal.at.loop-entry-preserved c).In-loop-entry in
+    let e = at_edge (goal.at.loop-entry-preserved c).In_ok-n in
+    let entry = get_or c.loop-entry.entries c.loop-entry.entry-index no_entry in
+    let new : Entry = record { cell = entry.cell; first = c.loop-entry.column; span = c.in_ok-n.n - c.loop-entry.column } in (
+      turn c.loop-entry.invariant.0 (here k) _ (span_is k) _ e.0 e.1 _ (cell_is k) (omega (arith, c.loop-entry-test.true, c.loop-entry.invariant.1)) _ refl,
+      length-set c.loop-entry.entries c.loop-entry.entry-index new ∙ c.loop-entry.invariant.1,
     )
 
 pub returns : goal.returns
 returns c =
-    let row = row_length c.args.entries.now c.args.at c.args.end c.requires.at_le_end.1 in
-    stop c.loop-k.invariant.0 (omega (arith, c.loop-k-test.false, row)) _ (omega (arith, row, c.requires.at_le_end.0))
+    let all = length-map c.args.entries.now entry_span in
+    stop c.loop-entry.invariant.0 (omega (arith, all, c.loop-entry-test.false)) (omega (arith, c.loop-entry-test.false, c.loop-entry.invariant.1))

@@ -2,12 +2,13 @@
 -- position on, are the definition of the whole row; the records that are left stand as they stood; the position is an edge and the column its
 -- number. A turn looks the entry's end up from there: at an edge its record is written anew, else the row is refused. Assumes nothing.
 use mathlib.Core.Path.{◌≡◌}
-use Prim.Native.Nat.{◌-◌}
 use lib.ListN.{length}
 use Rattle.records.specs.Figures.{entry_cells_of, entry_spans_of}
-use Rattle.edges.specs.Edges.{is_edge, part}
+use Rattle.edges.specs.Edges.{is_edge}
 use Rattle.edges.proofs.RenumberLoop.{Sofar}
 use Rattle.edges.proofs.Numbers.renumber.Given as goal
 
-abbrev pub invariant-loop-k : goal.invariant-loop-k
-invariant-loop-k l = Sofar (is_edge l.self.words) (part l.at l.end (entry_spans_of l.initial.entries)) (entry_cells_of l.initial.entries) l.at l.initial.entries l.entries l.pos l.column l.k (l.k - l.at) × (length l.entries ≡ length l.initial.entries)
+abbrev pub invariant-loop-entry : goal.invariant-loop-entry
+invariant-loop-entry l =
+    Sofar (is_edge l.self.words) (entry_spans_of l.initial.entries) (entry_cells_of l.initial.entries) l.initial.entries l.entries l.pos l.column l.entry-index
+    × (length l.entries ≡ length l.initial.entries)

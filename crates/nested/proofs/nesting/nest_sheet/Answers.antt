@@ -10,15 +10,6 @@ use Rattle.call_layout.proofs.Found.{out_still}
 use Rattle.nested.proofs.NestCall.{lines_of, place_in, width_small, nest_found, nest_refused}
 use Rattle.nested.proofs.nesting.nest_sheet.Goals as goal
 
-pub walk_sheet-requires : goal.walk_sheet-requires
-walk_sheet-requires c =
-    record {
-      sheet_bound = omega arith;
-      figures_in_bounds = omega arith;
-      places_in_bounds = omega arith;
-      max_position_in_bounds = c.requires.column_room;
-    }
-
 pub returns-in_err-n : goal.returns-in_err-n
 returns-in_err-n c =
     let q : c.from_residual.result ≡ Err c.in_err-n.field-0.0 = search rules in
@@ -46,4 +37,4 @@ nest-nested-requires c = record {
 }
 
 pub returns : goal.returns
-returns c = nest_found c.walk_sheet.ensures c.in_ok-n.was c.args.settings.raw_bound c.nest-nested.ensures
+returns c = nest_found c.walk_sheet.ensures c.in_ok-n.was c.nest-nested.ensures

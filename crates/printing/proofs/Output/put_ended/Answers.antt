@@ -4,5 +4,5 @@ use native.Mathlib.Omega.{arith}
 use Rattle.printing.proofs.Writing.{put_after}
 use Rattle.printing.proofs.Output.put_ended.Goals as goal
 
-pub returns : goal.returns
-returns c = put_after c.put_number.ensures (omega arith) 1 (omega arith) c.put.ensures
+pub returns-clause-bytes : goal.returns-clause-bytes
+returns-clause-bytes c = put_after c.put_number.ensures.bytes (omega arith) 1 (omega arith) c.put.ensures.bytes

@@ -2,12 +2,11 @@
 -- Assumes nothing.
 use native.Mathlib.Omega.{arith}
 use Rattle.printing.specs.Printing.{line}
-use Rattle.printing.proofs.Writing.{kept_length, put_next}
+use Rattle.printing.proofs.Writing.{put_next}
 use Rattle.printing.proofs.Output.put_four.Goals as goal
 
-pub returns : goal.returns
+pub returns-clause-bytes : goal.returns-clause-bytes
 unfolding line
-returns c =
-    let first = c.put_ended.ensures in
-    put_next first (omega arith) 33
-    (put_next c.put_ended-2.ensures (omega (arith, kept_length first (omega arith))) 22 c.put_two.ensures)
+returns-clause-bytes c =
+    put_next c.put_ended.ensures.bytes (omega arith) 33
+    (put_next c.put_ended-2.ensures.bytes (omega arith) 22 c.put_two.ensures.bytes)

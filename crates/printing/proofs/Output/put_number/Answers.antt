@@ -5,9 +5,11 @@ use Rattle.printing.proofs.Numbers.{fewest_ten, number_put}
 use Rattle.printing.proofs.Output.put_number.Goals as goal
 
 pub put-requires : goal.put-requires
-put-requires c = omega (arith, fewest_ten c.args.n (omega arith) _ c.decimal-k.ensures.len)
+put-requires c =
+    let d = rw c.from.ensures at c.decimal-k.ensures in
+    omega (arith, fewest_ten c.args.n (omega arith) _ d.len)
 
-pub returns : goal.returns
-returns c =
-    let d = c.decimal-k in
-    number_put c.args.n (omega arith) c.decimal-k.ensures.len c.decimal-k.ensures.digits c.put.ensures
+pub returns-clause-bytes : goal.returns-clause-bytes
+returns-clause-bytes c =
+    let d = rw c.from.ensures at c.decimal-k.ensures in
+    number_put c.args.n (omega arith) d.len d.digits c.put.ensures.bytes

@@ -5,6 +5,6 @@ use Rattle.printing.specs.Printing.{line}
 use Rattle.printing.proofs.Writing.{put_next}
 use Rattle.printing.proofs.Output.put_two.Goals as goal
 
-pub returns : goal.returns
+pub returns-clause-bytes : goal.returns-clause-bytes
 unfolding line
-returns c = put_next c.put_ended.ensures (omega arith) 11 c.put_ended-2.ensures
+returns-clause-bytes c = put_next c.put_ended.ensures.bytes (omega arith) 11 c.put_ended-2.ensures.bytes

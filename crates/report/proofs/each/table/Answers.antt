@@ -5,39 +5,32 @@ use Prim.Native.Nat.{◌≤◌}
 use native.Mathlib.Omega.{arith}
 use lib.ListN.{length}
 use lib.Seq.{length-take-le}
+use Rattle.lists.specs.Limits.{max_position}
 use Rattle.gridding.proofs.Cut.{made_within}
 use Rattle.report.proofs.Ready.{few_columns, explainable}
 use Rattle.walking.proofs.Merely.{walkable}
-use Rattle.walking.proofs.HandOut.{table_known, grid_room, layout_room}
+use Rattle.walking.proofs.HandOut.{table_known, layout_room}
 use Rattle.report.proofs.each.table.Goals as goal
 use Rattle.report.proofs.each.table.Goals.{After-arrange-arranged}
 
 pub invariant_of-t : goal.invariant_of-t
 invariant_of-t c = record { known = table_known (walkable c.args.m.walkable) c.requires.within c.requires.kind }
 
-pub arrange-arranged-requires : goal.arrange-arranged-requires
-arrange-arranged-requires c =
-    let p = walkable c.args.m.walkable in
-    let t = c.requires in
-    record {
-      grid_room = grid_room p t.within t.kind c.args.s.now.rooms;
-      layout_room = layout_room p t.within t.kind c.args.s.now.rooms c.args.asked.width_bound;
-    }
+pub arrange-arranged-requires-clause-layout_room : goal.arrange-arranged-requires-clause-layout_room
+arrange-arranged-requires-clause-layout_room c =
+    layout_room (walkable c.args.m.walkable) c.requires.within c.requires.kind c.args.s.now.rooms c.args.asked.width_bound
 
-pub overflow_add-line : goal.overflow_add-line
-overflow_add-line c = omega (arith, c.requires.within, (walkable c.args.m.walkable).lined.short)
-
-pub overflow_cast-line : goal.overflow_cast-line
-overflow_cast-line c = omega (arith, c.requires.within, (walkable c.args.m.walkable).lined.short)
+few : (c : After-arrange-arranged) → c.arrange-arranged.result.counts.columns ≤ max_position
+few c = few_columns (walkable c.args.m.walkable) c.requires c.arrange-arranged.ensures.made.columns_are
 
 pub overflow_cast-counts : goal.overflow_cast-counts
-overflow_cast-counts c = omega (arith, few_columns (walkable c.args.m.walkable) c.requires c.arrange-arranged.ensures.made.columns_are)
+overflow_cast-counts c = omega (arith, few (goal.at.overflow_cast-counts c).After-arrange-arranged)
 
 pub records-requires : goal.records-requires
 records-requires c = made_within c.arrange-arranged.ensures.made
 
 columns : (c : After-arrange-arranged) → c.arrange-arranged.result.counts.columns ≤ length c.arrange-arranged.new.column
-columns c = omega (arith, few_columns (walkable c.args.m.walkable) c.requires c.arrange-arranged.ensures.made.columns_are, c.args.s.now.rooms.column_room, c.arrange-arranged.auto.column)
+columns c = omega (arith, few c, c.args.s.now.rooms.column_room, c.arrange-arranged.auto.column)
 
 pub slice_bounds-shown-end : goal.slice_bounds-shown-end
 slice_bounds-shown-end c = sym (length-take-le _ _ (columns (goal.at.slice_bounds-shown-end c).After-arrange-arranged))
@@ -45,7 +38,8 @@ slice_bounds-shown-end c = sym (length-take-le _ _ (columns (goal.at.slice_bound
 pub shown-requires : goal.shown-requires
 shown-requires c =
     let a = c.arrange-arranged in
-    let n = length-take-le a.result.counts.columns a.new.column (columns (goal.at.shown-requires c).After-arrange-arranged) in record {
+    let at = (goal.at.shown-requires c).After-arrange-arranged in
+    let n = length-take-le a.result.counts.columns a.new.column (columns at) in record {
       explainable = rw (n, ← c.records.ensures.columns_are) (explainable (walkable c.args.m.walkable) c.requires a.ensures.made c.records.ensures c.args.s.now.rooms a.auto.x);
-      cause_in = omega (arith, n, few_columns (walkable c.args.m.walkable) c.requires a.ensures.made.columns_are, c.args.s.now.rooms.wide_room, a.auto.wide);
+      cause_in = omega (arith, n, few at, c.args.s.now.rooms.wide_room, a.auto.wide);
     }

@@ -10,10 +10,11 @@ use Rattle.text.proofs.decimal.written.Goals as goal
 pub overflow_add-result : goal.overflow_add-result
 overflow_add-result c =
     let a = c.args in
-    omega (arith, digits_le 9 (a.base - a.v) (omega arith))
+    let long = rw c.from-else-v-base.ensures at c.decimal_length-else-v-base.ensures in
+    omega (arith, long, digits_le 9 (a.base - a.v) (omega arith))
 
 pub returns-then-v-base : goal.returns-then-v-base
-returns-then-v-base c = c.decimal_length.ensures ∙ from_above _ _ _ (omega arith)
+returns-then-v-base c = rw c.from.ensures at c.decimal_length.ensures ∙ from_above _ _ _ (omega arith)
 
 pub returns-else-v-base : goal.returns-else-v-base
-returns-else-v-base c = ap (λ (n : ℕ). n + 1) c.decimal_length-else-v-base.ensures ∙ from_below _ _ _ (omega arith) (omega arith)
+returns-else-v-base c = ap (λ (n : ℕ). n + 1) (rw c.from-else-v-base.ensures at c.decimal_length-else-v-base.ensures) ∙ from_below _ _ _ (omega arith) (omega arith)

@@ -16,9 +16,6 @@ use Rattle.walking.proofs.giving.hand_out.Goals.{Else-ne}
 is_table : (c : Else-ne) → kind_number (get_or c.args.m.lines.now c.args.at no_kept).kind ≡ table_kind
 is_table c = eqb-true _ _ (not-false _ (sym c.ne.ensures ∙ c.if-ne.false))
 
-pub returns-then-ne : goal.returns-then-ne
-returns-then-ne c = handed_other (eqb-false _ _ (not-true _ (sym c.ne.ensures ∙ c.if-ne.true)))
-
 pub returns-in_default : goal.returns-in_default
 returns-in_default c = handed_none c.in_default.is
 

@@ -8,15 +8,8 @@ use Rattle.walking.proofs.giving.print_cells.Goals as goal
 pub loop-k-init : goal.loop-k-init
 loop-k-init c = start c.requires
 
-pub bounds-walk-at : goal.bounds-walk-at
-bounds-walk-at c =
-    omega (arith, cell_place c.requires c.loop-k.invariant c.loop-k-test.true _ refl c.if-e-ne0.true, c.loop-k.auto.walk)
-
 pub loop-k-preserved-then-e-ne0 : goal.loop-k-preserved-then-e-ne0
 loop-k-preserved-then-e-ne0 c = turn_cell c.requires c.loop-k.invariant c.loop-k-test.true _ refl c.if-e-ne0.true _ c.printed.ensures _ refl
 
 pub loop-k-preserved : goal.loop-k-preserved
 loop-k-preserved c = turn_filler c.requires c.loop-k.invariant c.loop-k-test.true _ refl c.if-e-ne0.false
-
-pub returns : goal.returns
-returns c = stop c.requires c.loop-k.invariant c.loop-k-test.false

@@ -7,15 +7,6 @@ use lib.Seq.{length-take-le}
 use Rattle.walks.proofs.WalkCall.{lines_few, walk_found, walk_refused}
 use Rattle.walks.proofs.walking_out.walk_out.Goals as goal
 
-pub walk_sheet-requires : goal.walk_sheet-requires
-walk_sheet-requires c =
-    record {
-      sheet_bound = omega arith;
-      figures_in_bounds = omega arith;
-      places_in_bounds = omega arith;
-      max_position_in_bounds = c.requires.given_room;
-    }
-
 pub returns-in_err-n : goal.returns-in_err-n
 returns-in_err-n c =
     let q : c.from_residual.result ≡ Err c.in_err-n.field-0.0 = search rules in
@@ -26,12 +17,6 @@ slice_bounds-walk-end c = omega (arith, (lines_few c.walk_sheet.ensures c.in_ok-
 
 pub slice_bounds-write_widths-end : goal.slice_bounds-write_widths-end
 slice_bounds-write_widths-end c = sym (length-take-le _ _ (omega (arith, (lines_few c.walk_sheet.ensures c.in_ok-n.was).0)))
-
-pub write_widths-requires : goal.write_widths-requires
-write_widths-requires c =
-    let f = lines_few c.walk_sheet.ensures c.in_ok-n.was in
-    let l = length-take-le c.in_ok-n.n c.walk_sheet.new.walk (omega (arith, f.0)) in
-    (omega (arith, l, f.1, c.requires.given_room, c.walk_sheet.auto.leasts), omega (arith, l, f.1, c.requires.wide_room))
 
 pub returns : goal.returns
 returns c = walk_found c.walk_sheet.ensures c.in_ok-n.was (omega (arith, (lines_few c.walk_sheet.ensures c.in_ok-n.was).0)) c.write_widths.ensures
