@@ -1,8 +1,8 @@
 // What a call's settings and the lengths of its buffers are refused for: 9 and 11.
 #![tactic(auto, unfolding(lists::specs::Refusals::verdict_of, lists::specs::Refusals::first_answer, crate::specs::Arguments::any_shorter))]
 
-ghost use Rattle.std.specs.Prelude.{◌≡◌, [], ◌∷◌, ◌||◌, ◌≤◌, ltb};
-ghost use Rattle.lists.specs.Limits.{max_wrap, max_width, max_size, max_lines, max_entries};
+ghost use Rattle.std.specs.Prelude.{◌≡◌, [], ◌∷◌, ◌||◌, ◌≤◌};
+ghost use Rattle.lists.specs.Limits.{max_size, max_lines, max_entries};
 ghost use Rattle.arguments.specs.Arguments.{any_shorter, estimates_arguments, grid_arguments, layout_arguments, missing_arguments, pointing_arguments, within_arguments, walk_settings, walk_arguments, nested_arguments};
 ghost use Rattle.lists.specs.Refusals.{check, verdict_of};
 ghost use Rattle.lists.specs.declared.Reason.TheVariants.{Setting, ShortBuffer};
@@ -47,13 +47,6 @@ pub fn of_grid(
     let entries_short = cell < MAX_ENTRIES || first < MAX_ENTRIES || span < MAX_ENTRIES;
     let rows_short = row < MAX_LINES || row_end < MAX_LINES;
     refuse_if(entries_short || rows_short, Reason::ShortBuffer)
-}
-
-// Whether a setting of a layout is out of its range.
-fn out_of_range(wrap: u32, raw: u32, width: u32) -> bool
-    ensures { result ≡ (ltb max_wrap wrap || ltb 1 raw || ltb max_width width) }
-{
-    wrap > MAX_WRAP || raw > 1 || width > MAX_WIDTH
 }
 
 // Whether the buffer for the columns of a layout is too short, or one of those for its entries.
@@ -102,13 +95,7 @@ impl Settings {
     pub fn of_pointing(wrap: u32, raw: u32, width: u32) -> Result<Self, Refusal>
         ensures { Judged (pointing_arguments wrap raw width) wrap raw width 0 result }
     {
-        refuse_if(out_of_range(wrap, raw, width), Reason::Setting)?;
-        Ok(Settings {
-            wrap,
-            raw,
-            width,
-            overflow: 0,
-        })
+        Settings::of_walking(wrap, raw, width, 0)
     }
 
     pub fn of_within(wrap: u32, raw: u32, width: u32, listed: usize) -> Result<Self, Refusal>
@@ -123,7 +110,7 @@ impl Settings {
     fn of_walking(wrap: u32, raw: u32, width: u32, overflow: u32) -> Result<Self, Refusal>
         ensures { Judged (walk_settings wrap raw width overflow ∷ []) wrap raw width overflow result }
     {
-        let refused = out_of_range(wrap, raw, width) || overflow > 1;
+        let refused = wrap > MAX_WRAP || raw > 1 || width > MAX_WIDTH || overflow > 1;
         refuse_if(refused, Reason::Setting)?;
         Ok(Settings {
             wrap,

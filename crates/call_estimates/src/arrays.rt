@@ -23,7 +23,7 @@ fn check_in<const L: usize>(sheet: &[u8]) -> Result<usize, Refusal>
     opening::open_sheet(sheet, None, &mut lines, &mut scratch)
 }
 
-// The same in the shortest arrays that do.
+// The same in the shortest arrays that do. Not by `estimates_short`: no second array is asked for here.
 pub fn check_within(sheet: &[u8]) -> Result<usize, Refusal>
     ensures { result ≡ opened_of None sheet.now }
 {
@@ -79,7 +79,8 @@ fn estimates_in<const L: usize, const E: usize>(
     Ok(Some(n))
 }
 
-// The estimates in short arrays, if the sheet has few lines.
+// The estimates in short arrays, if the sheet has few lines. Each call chooses for itself: one function for all would take a closure for each size,
+// which would all hold the lent buffers.
 fn estimates_short(
     sheet: &[u8],
     wrap: u32,

@@ -22,7 +22,8 @@ pub fn check(sheet: &[u8]) -> Result<(), Refusal>
     Ok(())
 }
 
-// What is found in the sheet, unless the arguments are refused.
+// What is found in the sheet, unless the arguments are refused. A function and no closure: of what a closure given to `and_then` leaves in the lent
+// buffers nothing is known after it.
 fn find_estimates(
     sheet: &[u8],
     wrap: u32,

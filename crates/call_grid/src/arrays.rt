@@ -45,7 +45,8 @@ fn grid_in<const L: usize, const E: usize>(
     Ok(Some(answer_of(grid)))
 }
 
-// The grid in short arrays, if the sheet has few lines.
+// The grid in short arrays, if the sheet has few lines. Each call chooses for itself: one function for all would take a closure for each size,
+// which would all hold the lent buffers.
 fn grid_short(
     sheet: &[u8],
     line: u32,

@@ -14,7 +14,8 @@ ghost use Rattle.call_grid.specs.inner.Found.{GridRoom, GridFound};
 use answers::Grid;
 use lists::Refusal;
 
-// What is found in the sheet, unless the arguments are refused.
+// What is found in the sheet, unless the arguments are refused. A function and no closure: of what a closure given to `and_then` leaves in the lent
+// buffers nothing is known after it.
 fn find_grid(
     sheet: &[u8],
     line: u32,

@@ -6,7 +6,7 @@ ghost use Rattle.call_grid.specs.inner.Made.{answer_of, GridFits, GridWritten};
 use answers::Grid;
 use gridding::Records;
 
-// How many there are.
+// How many there are. No `From`: it could not ask that the numbers are small.
 pub fn answer_of(grid: Records<'_>) -> Grid
     requires { (length grid.entries.now ≤ max_entries) × (length grid.rows.now ≤ max_lines) × (grid.columns ≤ max_position) }
     ensures { result ≡ answer_of grid.entry.entries.now grid.entry.rows.now grid.entry.columns }

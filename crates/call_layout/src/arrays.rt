@@ -70,7 +70,8 @@ fn layout_in<const L: usize, const E: usize>(
     Ok(Some(layout))
 }
 
-// The layout in short arrays, if the sheet has few lines.
+// The layout in short arrays, if the sheet has few lines. Each call chooses for itself: one function for all would take a closure for each size,
+// which would all hold the lent buffers.
 fn layout_short(
     sheet: &[u8],
     line: u32,

@@ -72,7 +72,7 @@ pub fn tell_columns(
     widths::lay_columns(sizes, leasts, raw, width, column)
 }
 
-// The number of each column's cause.
+// The number of each column's cause. Written by index: of what an adapter of `iter_mut` wrote the language knows nothing.
 pub fn write_causes(width: u32, sizes: &[u32], shares: &[u32], column: &[u32], cause: &mut [u32])
     requires { Causable sizes.now shares.now column.now cause.old }
     ensures { cause.new ≡ up_to (length sizes.now) (number_at width sizes.now shares.now column.now) }

@@ -8,7 +8,7 @@ ghost use Rattle.cells.specs.Cells.{row_sum, taken};
 ghost use Rattle.cells.specs.Listed.{table_rows, ListingReady, TableListed};
 ghost use Rattle.cells.specs.Held.{no_cell, cells_of, lines_of, spans_of, rowspans_of};
 ghost use Rattle.records.specs.Figures.{row_lines_of, row_ends_of};
-ghost use Rattle.cells.specs.Spans.{bare, part, rows_at, Narrow, BodyHeld, LargestSum, RowsHeld, RowEnded, RowResolved, BodyRows, BodyResolved};
+ghost use Rattle.cells.specs.Spans.{bare, rows_at, Narrow, BodyHeld, LargestSum, RowsHeld, RowResolved, BodyResolved};
 
 use records::{Kept, RowEnd};
 
@@ -48,15 +48,6 @@ pub fn put_cell(cells: &mut [u32], i: usize, c: Cell)
     cells[at] = c.line;
     cells[at + 1] = c.span;
     cells[at + 2] = c.rows;
-}
-
-// Writes where row i ends; its line stays.
-pub fn end_row(rows: &mut [RowEnd], i: usize, end: u32)
-    requires { i < length rows.old }
-    ensures { RowEnded i end (row_lines_of rows.old) (row_ends_of rows.old) (row_lines_of rows.new) (row_ends_of rows.new) }
-{
-    let line = rows[i].line;
-    rows[i] = RowEnd { line, end };
 }
 
 // A row's sum: every cell's cols, 0 as 1. It is the sum in `num_columns` of `tbody_to_render_tree`.
@@ -147,17 +138,16 @@ fn resolve_rows(cells: &mut [u32], rows: &[RowEnd], first: usize, most: u32)
     }
 }
 
-// Resolves the cells of a body in place, as `tbody_to_render_tree` does: its rows are those from `from` up to `to`, and its first cell is at `first`.
-fn resolve_body(cells: &mut [u32], rows: &[RowEnd], from: usize, to: usize, first: usize)
-    requires body_rows { BodyRows from to (row_ends_of rows.now) }
-    requires body_held { BodyHeld first (part from to (row_ends_of rows.now)) (spans_of cells.old) }
-    requires rows_held { RowsHeld first (part from to (row_ends_of rows.now)) (rowspans_of cells.old) }
-    ensures { BodyResolved first (part from to (row_ends_of rows.now))
+// Resolves the cells of a body in place, as `tbody_to_render_tree` does, from its rows; its first cell is at `first`.
+fn resolve_body(cells: &mut [u32], rows: &[RowEnd], first: usize)
+    requires body_held { BodyHeld first (row_ends_of rows.now) (spans_of cells.old) }
+    requires rows_held { RowsHeld first (row_ends_of rows.now) (rowspans_of cells.old) }
+    ensures { BodyResolved first (row_ends_of rows.now)
         (lines_of cells.old) (spans_of cells.old) (rowspans_of cells.old)
         (lines_of cells.new) (spans_of cells.new) (rowspans_of cells.new) }
 {
-    let most = widest_row(cells, &rows[from..to], first);
-    resolve_rows(cells, &rows[from..to], first, most);
+    let most = widest_row(cells, rows, first);
+    resolve_rows(cells, rows, first, most);
 }
 
 // Whether there is a line at the place i that is deeper than d.
@@ -213,7 +203,7 @@ pub fn list_rows(lines: &[Kept], at: usize, cells: &mut [u32], rows: &mut [RowEn
             break;
         }
         if e == d + 1 {
-            resolve_body(cells, rows, first_row, r, first_cell);
+            resolve_body(cells, &rows[first_row..r], first_cell);
             first_cell = n;
             first_row = r;
         } else if e == d + 2 {
@@ -226,9 +216,9 @@ pub fn list_rows(lines: &[Kept], at: usize, cells: &mut [u32], rows: &mut [RowEn
                 cell_of(i, u32::from(line.cols), u32::from(line.rows)),
             );
             n += 1;
-            end_row(rows, r - 1, n as u32);
+            rows[r - 1].end = n as u32;
         }
     }
-    resolve_body(cells, rows, first_row, r, first_cell);
+    resolve_body(cells, &rows[first_row..r], first_cell);
     Listed { cells: n, rows: r }
 }

@@ -1,4 +1,5 @@
 pub mod Sums
+pub mod Pairs
 pub mod Picked
 pub mod Cut
 pub mod Best

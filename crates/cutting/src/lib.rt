@@ -45,8 +45,8 @@ fn pick_column(leasts: &[u32], wide: &[u32]) -> usize
     let mut best = 0;
     let mut x = wide[0];
     let mut e = x - leasts[0];
-    for (i, y) in wide.iter().enumerate() {
-        let f = *y - leasts[i];
+    for (i, (y, least)) in wide.iter().zip(leasts).enumerate() {
+        let f = *y - *least;
         if beaten(e, x, f, *y) {
             best = i;
             x = *y;
@@ -102,13 +102,13 @@ struct Tight<'a> {
 }
 
 impl Tight<'_> {
-    // The sum of all columns' widths at the level and the bound.
+    // The sum of all columns' widths at the level and the bound. Tried: the sum of a `map`; that it may be called, as `width_at` asks, was not proved.
     fn total_at(&self, level: u32, bound: u64) -> u64
         ensures { result ≡ sum (filled self.now.leasts.now self.now.shares.now level bound) }
     {
         let mut t: u64 = 0;
-        for (i, share) in self.shares.iter().enumerate() {
-            t += u64::from(width_at(i, self.leasts[i], *share, level, bound));
+        for (i, (share, least)) in self.shares.iter().zip(self.leasts).enumerate() {
+            t += u64::from(width_at(i, *least, *share, level, bound));
         }
         t
     }
@@ -156,7 +156,8 @@ impl Tight<'_> {
     }
 }
 
-// The shares become the widths at the level and the bound.
+// The shares become the widths at the level and the bound. A least is read by its index: of what an adapter of `iter_mut`, as `zip`, wrote the language
+// knows nothing.
 fn fill_widths(leasts: &[u32], level: u32, bound: u64, wide: &mut [u32])
     requires below { Below leasts.now wide.old }
     requires wide_len_bound { length wide.old ≤ max_lines }

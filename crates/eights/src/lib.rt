@@ -16,10 +16,10 @@ use text::bytes::Classes;
 const ZEROS: [u8; 8] = *b" 0 0 0 \n";
 
 // What 1 more in the byte of cols adds to those eight.
-const COLS_STEP: u64 = 16777216;
+const COLS_STEP: u64 = 0x0100_0000;
 
 // What 1 more in the byte of rows adds to the count of the former.
-const ROWS_STEP: u64 = 65536;
+const ROWS_STEP: u64 = 0x1_0000;
 
 // The bytes of ` table 0 0 0 ` with its depth and its line feed, the longest of these without a text.
 const LONGEST: usize = 15;

@@ -197,7 +197,8 @@ fn cell(
     }
 }
 
-// Measures every line of a sheet; `leasts`, `entries` and `rows` are scratch. Ports `precalc_size_estimate`.
+// Measures every line of a sheet; `leasts`, `entries` and `rows` are scratch. Ports `precalc_size_estimate`. They go down side by side: of a struct of
+// them each function would promise that its slices stay as long as they were, which of slices is known.
 pub fn measure(
     wrap: u32,
     lines: &[Kept],

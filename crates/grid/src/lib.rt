@@ -53,10 +53,7 @@ pub fn placed_grid(placed: Positions, rows: &[RowEnd], entries: &mut [Entry]) ->
     requires { RowsReady placed.rows placed.entries (entry_spans_of entries.old) (row_ends_of rows.now) }
     ensures { PlacedNumbered placed.rows placed.entries (entry_spans_of entries.old) (entry_cells_of entries.old) (row_ends_of rows.now) result entries.new }
 {
-    let Some(columns) = number_table(&rows[..placed.rows], &mut entries[..placed.entries]) else {
-        return 0;
-    };
-    columns
+    number_table(&rows[..placed.rows], &mut entries[..placed.entries]).unwrap_or(0)
 }
 
 // The rows of the table at the place `at` by positions: a record for each entry, with its line and its span, and one for each row, with its line

@@ -91,7 +91,7 @@ fn make_in(
 }
 
 // The grid of a table in arrays of N numbers, three for each of its lines, and in one of L records, one for each. It is never taken into its
-// caller's frame: so a small table does not pay for the room of a large one.
+// caller's frame: so a small table does not pay for the room of a large one. Two lengths: the language has no computed const argument.
 #[inline(never)]
 fn make_sized<const N: usize, const L: usize>(
     lines: &[Kept],

@@ -15,7 +15,8 @@ use answers::Causes;
 use arguments::Settings;
 use lists::Refusal;
 
-// What is found in the sheet, unless the arguments are refused.
+// What is found in the sheet, unless the arguments are refused. A function and no closure: of what a closure given to `and_then` leaves in the lent
+// buffers nothing is known after it.
 #[tactic(auto, unfolding(arguments::specs::Asked::verdict_in))]
 fn find_missing(
     sheet: &[u8],

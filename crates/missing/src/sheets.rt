@@ -8,7 +8,8 @@ use arguments::Settings;
 use lists::{MAX_ENTRIES, MAX_LINES, Refusal};
 use table::MeasuredTable;
 
-// Opens and measures the sheet. The causes are written last, and until then their buffer is scratch.
+// Opens and measures the sheet. The causes are written last, and until then their buffer is scratch. The arrays are declared in each call: no function
+// can hand out slices of its own.
 pub fn explain_sheet(
     sheet: &[u8],
     line: u32,

@@ -69,7 +69,8 @@ fn nest_sheet(
     Ok(nested)
 }
 
-// The same, unless the arguments are refused.
+// The same, unless the arguments are refused. A function and no closure: of what a closure given to `and_then` leaves in the lent buffers nothing is
+// known after it.
 #[tactic(auto, unfolding(arguments::specs::Asked::verdict_in))]
 pub fn find_nested(
     sheet: &[u8],

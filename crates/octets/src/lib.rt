@@ -6,16 +6,16 @@ ghost use Rattle.octets.specs.inner.Digits.{as_number, Octets, Low, Bits, Eight,
 ghost use Rattle.octets.specs.inner.Plain.{PlainFront};
 
 // Each digit 128, 1, 95 and 96.
-const TOPS: u64 = 9259542123273814144;
+const TOPS: u64 = 0x8080_8080_8080_8080;
 
-const ONES: u64 = 72340172838076673;
+const ONES: u64 = 0x0101_0101_0101_0101;
 
-const EACH_95: u64 = 6872316419617283935;
+const EACH_95: u64 = 0x5F5F_5F5F_5F5F_5F5F;
 
-const EACH_96: u64 = 6944656592455360608;
+const EACH_96: u64 = 0x6060_6060_6060_6060;
 
 // 256 to the seventh: what the last digit counts.
-const LAST: u64 = 72057594037927936;
+const LAST: u64 = 0x0100_0000_0000_0000;
 
 // The front of eight bytes that holds characters and spaces alone: how many bytes, what they add to a text's size, and 1 if a space stands last.
 // That gap is a number: the next eight add it as a digit, and a bool would be turned back into it in each contract.
@@ -26,7 +26,7 @@ pub struct Plain {
     pub gap: u32,
 }
 
-// The eight bytes from a place on.
+// The eight bytes from a place on. By place: tried: `first_chunk::<8>()`: the check of tables:1365 takes 46.4 microseconds, not 41.8.
 pub fn eight(bytes: &[u8], at: usize) -> u64
     requires { at + 8 ≤ length bytes.now }
     ensures { Eight bytes.now at result }

@@ -29,7 +29,3 @@ module _ (kind : Kind) (e : Estimate) (w : Option ℕ) where
     pub narrow_rest : takes_off kind ≡ true → (a b : ℕ) → a ≡ v - e.prefix → b ≡ e.least - e.prefix → ltb a b ≡ too_narrow kind e w
     unfolding too_narrow
     narrow_rest t a b p q = (λ i. ltb (p i) (q i)) ∙ sym (ap (too_narrow kind e) h ∙ rw t)
-
-    pub narrow_all : takes_off kind ≡ false → false ≡ too_narrow kind e w
-    unfolding too_narrow
-    narrow_all t = sym (ap (too_narrow kind e) h ∙ rw t)

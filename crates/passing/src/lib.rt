@@ -36,10 +36,8 @@ pub fn passed_on(kind: Kind, e: Estimate, w: Option<u32>) -> Option<u32>
 pub fn too_narrow(kind: Kind, e: Estimate, w: Option<u32>) -> bool
     ensures { result ≡ too_narrow kind e w }
 {
-    match w {
-        Some(v) => takes_off(kind) && v.saturating_sub(e.prefix) < e.least.saturating_sub(e.prefix),
-        None => false,
-    }
+    let least = e.least.saturating_sub(e.prefix);
+    takes_off(kind) && w.is_some_and(|v| v.saturating_sub(e.prefix) < least)
 }
 
 // The width of a printed cell; a missing one has none.

@@ -126,6 +126,7 @@ fn list_in(
     requires spot_room { SpotRoom spot entry.old }
     ensures { EntriesListed (entries_by (placed x.now wide.now) from to spot) result entry.new }
 {
+    // Not map_or: of what a closure leaves in a lent buffer nothing is known after it.
     match spot {
         Ok(row) => {
             let placed = PlacedRow {

@@ -7,7 +7,8 @@ ghost use Rattle.printing.specs.Printing.{Put, PutWithin, decimal, line};
 // The descriptor of standard output.
 const STANDARD_OUTPUT: i32 = 1;
 
-// What is printed next, in the order of its bytes: those before a place of a lent buffer.
+// What is printed next, in the order of its bytes: those before a place of a lent buffer. Its methods put numbers, and not `write!`: of that std says
+// what it writes only where it answers `Ok`, and nowhere that it does; and it takes one and a half times as long.
 #[derive(Drop)]
 pub struct Output<'a> {
     pub buffer: &'a mut [u8],

@@ -24,8 +24,8 @@ fn shown(
     x: &mut [u32],
     wide: &mut [u32],
 )
-    requires explainable { Explainable grid.entries.now figures.now (length column.now) x.old }
-    requires cause_in { length column.now ≤ length wide.old }
+    requires explainable { Explainable grid.entries.now figures.now grid.columns x.old }
+    requires cause_in { grid.columns ≤ length wide.old }
 {
     match asked.form {
         Form::Layout => {

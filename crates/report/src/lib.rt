@@ -19,7 +19,7 @@ const INPUT_BYTES: usize = 65565;
 // The descriptor of standard input.
 const STANDARD_INPUT: i32 = 0;
 
-// What is printed of a table: its layout, or what explains it. A switch and no type parameter: seven functions would carry it for one `match`.
+// What is printed of a table: its layout, or what explains it. A switch and no type parameter: eight functions would carry it for one `match`.
 #[derive(Clone, Copy)]
 pub enum Form {
     Layout,

@@ -7,10 +7,10 @@ use answers::Way;
 use lists::MAX_POSITION;
 use records::Entry;
 use text::Estimate;
-use writing::entries::number_at;
+use writing::entries::value_at;
 use writing::lines::Listing;
 
-// Puts the word of a cause, given by its number, and ends the line.
+// Puts the word of a cause, given by its number, and ends the line: causes stand as numbers in the buffer that C lends.
 fn word(out: &mut Listing<'_>, cause: u32) {
     match cause {
         0 => out.words(b"shown\n"),
@@ -54,19 +54,19 @@ impl Columns<'_> {
             Way::Down => self.width,
         };
         four_spaced(out, j, size, least, share);
-        spaced(out, number_at(self.column, j));
-        word(out, number_at(self.cause, j));
+        spaced(out, value_at(self.column, j, 0));
+        word(out, value_at(self.cause, j, 0));
     }
 
     // Puts the heading, and the line of every column, of which the size, the least and the share are made first.
     pub fn put(&self, out: &mut Listing<'_>)
-        requires entered { Entered self.now.entries.now self.now.figures.now (length self.now.column.now) }
-        requires column_len_bound { length self.now.column.now ≤ max_position }
+        requires entered { Entered self.now.entries.now self.now.figures.now (length self.now.cause.now) }
+        requires cause_len_bound { length self.now.cause.now ≤ max_position }
     {
         let mut sizes = [0u32; MAX_POSITION];
         let mut leasts = [0u32; MAX_POSITION];
         let mut shares = [0u32; MAX_POSITION];
-        let c = self.column.len();
+        let c = self.cause.len();
         let sizes = &mut sizes[..c];
         let leasts = &mut leasts[..c];
         let shares = &mut shares[..c];

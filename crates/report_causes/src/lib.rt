@@ -27,10 +27,10 @@ pub fn told(
     missing: &mut [u32],
     cause: &mut [u32],
 )
-    requires explainable { Explainable grid.entries.now figures.now (length column.now) missing.old }
-    requires cause_in { length column.now ≤ length cause.old }
+    requires explainable { Explainable grid.entries.now figures.now grid.columns missing.old }
+    requires cause_in { grid.columns ≤ length cause.old }
 {
-    let cause = &mut cause[..column.len()];
+    let cause = &mut cause[..grid.columns];
     let count = causes::tables::explain(grid.entries, figures, raw, width, missing, cause);
     let columns = Columns {
         way,

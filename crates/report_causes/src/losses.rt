@@ -3,9 +3,9 @@ ghost use Rattle.std.specs.Prelude.{◌<◌, length};
 
 use super::columns_told::four_spaced;
 use gridding::Records;
-use records::RowEnd;
+use records::{NO_ENTRY, RowEnd};
 use text::Estimate;
-use writing::entries::entry_at;
+use writing::entries::value_at;
 use writing::lines::Listing;
 
 // The grid of a table, the estimates of its cells, and the numbers of its missing entries.
@@ -29,7 +29,7 @@ impl Missed<'_> {
 
     // With how many of the missing entries something is lost: a cell of a size above 0.
     fn lost(&self) -> u32 {
-        let is_lost = |e: &&u32| self.size_of(entry_at(self.grid.entries, **e).cell) > 0;
+        let is_lost = |e: &&u32| self.size_of(value_at(self.grid.entries, **e, NO_ENTRY).cell) > 0;
         self.missing.iter().filter(is_lost).count() as u32
     }
 

@@ -20,7 +20,7 @@ pub struct Span {
     pub next: usize,
 }
 
-// Opens and measures the sheet. All below works in these arrays.
+// Opens and measures the sheet. All below works in these arrays, which are declared in each call: no function can hand out slices of its own.
 fn find_sheet(
     sheet: &[u8],
     line: u32,

@@ -22,10 +22,7 @@ fn entries_before(rows: &[RowEnd], k: usize) -> usize
     ensures { (g : List GridRow) → HasRows rows.now g → result ≡ start_in g k }
 {
     let n = k.min(rows.len());
-    if n == 0 {
-        return 0;
-    }
-    rows[n - 1].end as usize
+    rows[..n].last().map_or(0, |row| row.end as usize)
 }
 
 // A row of the table, unless the table goes down or has no such row.

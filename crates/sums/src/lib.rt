@@ -19,10 +19,7 @@ pub enum Op {
 fn bounded(x: Option<i64>) -> Option<i64>
     ensures { result ≡ option_and_then within x }
 {
-    match x {
-        Some(x) if x.unsigned_abs() <= LIMIT => Some(x),
-        _ => None,
-    }
+    x.filter(|x| x.unsigned_abs() <= LIMIT)
 }
 
 // The result of an operator on two values. A quotient is towards zero; there is none by nought.

@@ -32,7 +32,7 @@ pub struct Scratch<'a> {
 }
 
 // Walks a measured sheet from its first line, which has the width `width`. `walk` gets the width of each line, if it has
-// one; each table is laid out in `s`.
+// one; each table is laid out in `s`. Three of the four settings: a walk has no wrap, and the definitions take numbers.
 pub fn walk(
     m: Measured<'_>,
     raw: u32,

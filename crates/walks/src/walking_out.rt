@@ -8,7 +8,7 @@ ghost use Rattle.walks.specs.inner.Found.{WidthsWritten, WalkRoom, WalkFound};
 use arguments::Settings;
 use lists::{MAX_LINES, Refusal};
 
-// Whether a line has a width: 1, or 0.
+// Whether a line has a width: 1, or 0. By the definition of this name, as the next one.
 fn given_number(w: Option<u32>) -> u32
     ensures { result ≡ given_number w }
 {
@@ -57,7 +57,8 @@ fn walk_out(
     Ok(n)
 }
 
-// The same, unless the arguments are refused.
+// The same, unless the arguments are refused. A function and no closure: of what a closure given to `and_then` leaves in the lent buffers nothing is
+// known after it.
 #[tactic(auto, unfolding(arguments::specs::Asked::verdict_in))]
 pub fn find_walk(
     sheet: &[u8],

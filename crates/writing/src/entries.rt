@@ -11,24 +11,19 @@ pub struct Entries<'a> {
     pub extent: &'a [u32],
 }
 
-// The number at a place of a buffer.
-pub fn number_at(values: &[u32], i: u32) -> u32 {
-    values.get(i as usize).copied().unwrap_or(0)
-}
-
-// The entry at a place of a grid.
-pub fn entry_at(grid: &[Entry], e: u32) -> Entry {
-    grid.get(e as usize).copied().unwrap_or(NO_ENTRY)
+// What stands at a place of a buffer, or `none` if that is outside.
+pub fn value_at<T: Copy>(values: &[T], i: u32, none: T) -> T {
+    values.get(i as usize).copied().unwrap_or(none)
 }
 
 impl Entries<'_> {
     // Puts the line of one entry: row, cell, and its two figures. An entry whose second figure is 0 is left out: in a layout the missing
     // ones have width 0, and in a grid each span is at least 1.
     fn put_one(&self, out: &mut Listing<'_>, line: u32, e: u32) {
-        let figure = number_at(self.extent, e);
+        let figure = value_at(self.extent, e, 0);
         if figure != 0 {
-            let cell = entry_at(self.grid, e).cell;
-            out.four(line, cell, number_at(self.start, e), figure);
+            let cell = value_at(self.grid, e, NO_ENTRY).cell;
+            out.four(line, cell, value_at(self.start, e, 0), figure);
         }
     }
 

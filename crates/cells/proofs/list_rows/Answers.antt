@@ -3,16 +3,20 @@
 -- line resolves the last body, a row line adds a row to it, a cell line a cell to its last row, and a deeper line nothing. A cell line
 -- finds a row, since a line is at most one deeper than the line before it. The measure is the number of lines left. Assumes nothing.
 -- from the loop's head: the lines, and what is known of the table's line
-use mathlib.Core.Path.{ap, ◌∙◌}
-use Prim.Native.Nat.{◌≤◌, ◌<◌}
+use mathlib.Core.Path.{◌≡◌, refl, sym, ap, ◌∙◌}
+use mathlib.Core.List.{List}
+use Prim.Native.Nat.{ℕ, ◌+◌, ◌-◌, ◌≤◌, ◌<◌}
 use native.Mathlib.Omega.{arith}
 use Rattle.std.proofs.lemmas.List.{map-set}
-use lib.ListN.{get_or, set, get_or-eq_default}
-use Rattle.records.specs.Kept.{no_kept}
+use lib.ListN.{get_or, set, take, drop, get_or-eq_default}
+use lib.Seq.{map-set_same}
+use Rattle.records.specs.Kept.{no_kept, no_row}
 use Rattle.records.specs.declared.Kept.{Kept}
+use Rattle.records.specs.declared.RowEnd.{RowEnd}
 use Rattle.cells.specs.Held.{cell_by, held_line, held_span, held_rows, lines_of, spans_of, rowspans_of}
 use Rattle.records.specs.Figures.{row_line, row_end, row_lines_of, row_ends_of}
-use Rattle.cells.proofs.Figures.{length_figures, figure_put, figures_still}
+use Rattle.cells.specs.Spans.{part}
+use Rattle.cells.proofs.Figures.{part_map, length_figures, figure_put, figures_still}
 use Rattle.cells.proofs.Listing.{Room, list_start, list_room, body_held, body_rows, list_stop, list_body, list_row, list_cell, list_deeper}
 use Rattle.cells.proofs.list_rows.Goals as goal
 use Rattle.cells.proofs.list_rows.Goals.{Else-e-d, then-e-d-2, else-e-d-2+then-e-d-3, else-e-d-2+else-e-d-3+then-e-d-4, else-e-d-2+else-e-d-3+else-e-d-4, else-loop-i-test, then-loop-i-test+then-e-d}
@@ -27,23 +31,27 @@ room : (c : Else-e-d) → Room c.args.lines.now c.args.at
     c.loop-i.n c.loop-i.r c.loop-i.first_row c.loop-i.i
 room c = list_room c.requires c.loop-i.invariant (deep c)
 
+-- the ends of the last body's rows are a part of the rows' ends
+ends_are : (fr r : ℕ) (rows : List RowEnd) → row_ends_of (take (r - fr) (drop fr rows)) ≡ part fr r (row_ends_of rows)
+ends_are fr r rows = sym (part_map row_end fr r rows)
+
 pub loop-i-init : goal.loop-i-init
 loop-i-init c = list_start c.requires
 
 pub resolve_body-requires-clause-body_held : goal.resolve_body-requires-clause-body_held
-resolve_body-requires-clause-body_held c = body_held c.requires c.loop-i.invariant
+resolve_body-requires-clause-body_held c = rw (ends_are c.loop-i.first_row c.loop-i.r c.loop-i.rows) (body_held c.requires c.loop-i.invariant)
 
 pub resolve_body-requires-clause-rows_held : goal.resolve_body-requires-clause-rows_held
-resolve_body-requires-clause-rows_held c = body_rows c.requires c.loop-i.invariant
+resolve_body-requires-clause-rows_held c = rw (ends_are c.loop-i.first_row c.loop-i.r c.loop-i.rows) (body_rows c.requires c.loop-i.invariant)
 
 pub put_cell-requires : goal.put_cell-requires
 put_cell-requires c = omega (arith, room (goal.at.put_cell-requires c).Else-e-d, length_figures 3 cell_by held_line c.loop-i.cells)
 
 pub resolve_body-requires-2-clause-body_held : goal.resolve_body-requires-2-clause-body_held
-resolve_body-requires-2-clause-body_held c = body_held c.requires c.loop-i.invariant
+resolve_body-requires-2-clause-body_held c = rw (ends_are c.loop-i.first_row c.loop-i.r c.loop-i.rows) (body_held c.requires c.loop-i.invariant)
 
 pub resolve_body-requires-2-clause-rows_held : goal.resolve_body-requires-2-clause-rows_held
-resolve_body-requires-2-clause-rows_held c = body_rows c.requires c.loop-i.invariant
+resolve_body-requires-2-clause-rows_held c = rw (ends_are c.loop-i.first_row c.loop-i.r c.loop-i.rows) (body_rows c.requires c.loop-i.invariant)
 
 pub loop-i-preserved : goal.loop-i-preserved
 loop-i-preserved c =
@@ -55,8 +63,9 @@ loop-i-preserved c =
       | then-e-d-2 w ↦
           let b = w.resolve_body in
           let same = b.auto.cells in
+          let done = rw (ends_are c.loop-i.first_row c.loop-i.r c.loop-i.rows) at b.ensures.done in
           rw (w.cells-is, w.rows-is, w.n-is, w.r-is, w.first_cell-is, w.first_row-is, b.ensures.same)
-          (list_body c.requires z d (omega (arith, l, t, w.if-e-d-2.true)) _ _ (figures_still 3 cell_by held_span _ _ same) (figures_still 3 cell_by held_rows _ _ same) b.ensures.done)
+          (list_body c.requires z d (omega (arith, l, t, w.if-e-d-2.true)) _ _ (figures_still 3 cell_by held_span _ _ same) (figures_still 3 cell_by held_rows _ _ same) done)
       | else-e-d-2+then-e-d-3 w ↦
           let q = w.row_of.ensures in
           rw (
@@ -73,7 +82,7 @@ loop-i-preserved c =
       | else-e-d-2+else-e-d-3+then-e-d-4 w ↦
           let p = w.put_cell.ensures in
           let q = w.cell_of.ensures in
-          let e = w.end_row.ensures in
+          let row : RowEnd = record { line = (get_or c.loop-i.rows (c.loop-i.r - 1) no_row).line; end = c.loop-i.n + 1 } in
           rw (
             w.cells-is,
             w.rows-is,
@@ -84,8 +93,8 @@ loop-i-preserved c =
             figure_put 3 cell_by held_line _ _ _ _ _ p q.0,
             figure_put 3 cell_by held_span _ _ _ _ _ p (q.1 ∙ w.from.ensures),
             figure_put 3 cell_by held_rows _ _ _ _ _ p (q.2 ∙ w.from-then-e-d-4.ensures),
-            e.same,
-            e.ended,
+            map-set_same row_line c.loop-i.rows (c.loop-i.r - 1) row no_row refl,
+            map-set row_end c.loop-i.rows (c.loop-i.r - 1) row,
           )
           (list_cell c.requires z d (λ e. w.if-e-d-2.false (omega (arith, l, t))) (λ e. w.if-e-d-3.false (omega (arith, l, t))) (omega (arith, l, t, w.if-e-d-4.true)))
       | else-e-d-2+else-e-d-3+else-e-d-4 w ↦
@@ -104,4 +113,4 @@ returns c =
       | then-loop-i-test+then-e-d w ↦ omega (arith, w.from-e.ensures)
     ] in
     let b = c.resolve_body-2.ensures in
-    rw b.same (list_stop c.requires c.loop-i.invariant (omega (arith, c.from-d.ensures)) _ _ b.done)
+    rw b.same (list_stop c.requires c.loop-i.invariant (omega (arith, c.from-d.ensures)) _ _ (rw (ends_are c.loop-i.first_row c.loop-i.r c.loop-i.rows) at b.done))

@@ -1,12 +1,15 @@
 -- `placed_grid` meets its contract: the fronts of the slices are the rows and their entries, and numbering them tells the columns; that an entry ends at
 -- no edge is never told. Assumes nothing.
-use mathlib.Core.Path.{◌≡◌, sym}
-use mathlib.Core.List.{map}
+use Rattle.std.specs.Prelude.{Option, Some, None, unwrap_or}
+use mathlib.Core.Path.{◌≡◌, refl, sym}
+use mathlib.Core.List.{List, map}
 use Prim.Native.Nat.{ℕ}
 use lib.ListN.{take}
 use Rattle.std.proofs.lemmas.List.{take-map}
 use Rattle.records.specs.declared.Entry.{Entry}
 use Rattle.records.specs.Figures.{row_end, row_ends_of, entry_cell, entry_span}
+use Rattle.grid.specs.inner.Numbering.{RowsNumbered}
+use Rattle.grid.specs.inner.Placing.{edge_of_rows}
 use Rattle.grid.proofs.Seven.{never_missing}
 use Rattle.grid.proofs.NumberLoop.{numbered_front}
 use Rattle.grid.proofs.placed_grid.Goals as goal
@@ -21,10 +24,13 @@ entries-front c f = sym (take-map f c.args.placed.entries c.args.entries.now)
 pub number_table-requires : goal.number_table-requires
 number_table-requires c = rw (ends-front (goal.at.number_table-requires c).Start, entries-front (goal.at.number_table-requires c).Start entry_span) c.requires.fit
 
-pub returns-in_default : goal.returns-in_default
-returns-in_default c = absurd (never_missing c.number_table.ensures c.in_default.is)
+-- the columns are told, so no default is taken
+told : {rs : List (List ℕ)} {line : List ℕ} (r : Option ℕ) {es : List Entry} → RowsNumbered (edge_of_rows rs) rs line r es
+    → RowsNumbered (edge_of_rows rs) rs line (Some (unwrap_or r 0)) es
+told (Some n) m = m
+told None m = absurd (never_missing m refl)
 
 pub returns : goal.returns
 returns c =
-    let m = rw (ends-front (goal.at.returns c).Start, entries-front (goal.at.returns c).Start entry_span, entries-front (goal.at.returns c).Start entry_cell, c.in-Some.is) at c.number_table.ensures in
-    numbered_front m _
+    let m = rw (ends-front (goal.at.returns c).Start, entries-front (goal.at.returns c).Start entry_span, entries-front (goal.at.returns c).Start entry_cell) at c.number_table.ensures in
+    rw c.unwrap_or.ensures (numbered_front (told _ m) _)

@@ -39,7 +39,7 @@ pub shown-requires : goal.shown-requires
 shown-requires c =
     let a = c.arrange-arranged in
     let at = (goal.at.shown-requires c).After-arrange-arranged in
-    let n = length-take-le a.result.counts.columns a.new.column (columns at) in record {
-      explainable = rw (n, ← c.records.ensures.columns_are) (explainable (walkable c.args.m.walkable) c.requires a.ensures.made c.records.ensures c.args.s.now.rooms a.auto.x);
-      cause_in = omega (arith, n, few at, c.args.s.now.rooms.wide_room, a.auto.wide);
+    record {
+      explainable = explainable (walkable c.args.m.walkable) c.requires a.ensures.made c.records.ensures c.args.s.now.rooms a.auto.x;
+      cause_in = omega (arith, few at, c.records.ensures.columns_are, c.args.s.now.rooms.wide_room, a.auto.wide);
     }
