@@ -1,4 +1,6 @@
 // The entries of a grid, row by row, with two figures of each. What is in the slices is not trusted: a figure or an entry outside counts as 0.
+ghost use Rattle.std.specs.Prelude.{◌≡◌, get_or};
+
 use super::lines::Listing;
 use records::{Entry, NO_ENTRY, RowEnd};
 
@@ -12,7 +14,9 @@ pub struct Entries<'a> {
 }
 
 // What stands at a place of a buffer, or `none` if that is outside.
-pub fn value_at<T: Copy>(values: &[T], i: u32, none: T) -> T {
+pub fn value_at<T: Copy>(values: &[T], i: u32, none: T) -> T
+    ensures { result ≡ get_or values.now i none }
+{
     values.get(i as usize).copied().unwrap_or(none)
 }
 
