@@ -1,4 +1,5 @@
 // What the public calls answer of a sheet and of each of its tables, printed from the buffers that they fill: it is compared with the Rust.
+// `as` where a count of 32 bits becomes a `usize`, for which there is no `From`.
 use kinds::Kind;
 use lists::{MAX_ENTRIES, MAX_LINES, MAX_POSITION};
 use records::{Entry, Kept, RowEnd};

@@ -23,6 +23,7 @@ fn listed(out: &mut Listing<'_>, sheet: &[u8], given: Given) -> Result<(), Refus
 }
 
 // The same of an input, which holds settings and a sheet.
+// This and `answers` are like `accepted` and `answer` of report: neither crate stands on the other.
 #[tactic(auto, using(settings::proofs::Bounds::settings_in_range))]
 fn accepted(out: &mut Listing<'_>, input: &[u8]) -> Result<(), Refusal> {
     let given = settings::settings(input)?;

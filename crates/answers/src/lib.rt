@@ -13,6 +13,7 @@ pub enum Way {
 
 impl Way {
     // Its number for C.
+    // No `From`: it would be this line, which states the number by `way_number`.
     #[tactic(auto, unfolding(crate::specs::Numbers::way_number))]
     pub fn number(self) -> u32
         ensures { result ≡ way_number self }
@@ -64,6 +65,7 @@ pub enum Joint {
 
 impl Joint {
     // Its number for C.
+    // No `From`: it would be this line, which states the number by `joint_number`.
     #[tactic(auto, unfolding(crate::specs::Numbers::joint_number))]
     pub fn number(self) -> u32
         ensures { result ≡ joint_number self }

@@ -1,4 +1,6 @@
 // What a call's settings and the lengths of its buffers are refused for: 9 and 11.
+// wrap, raw, width and overflow are a parameter each, as the C interface hands them over.
+// raw and overflow are numbers: the definitions take 0 or 1 and refuse any other; of a `bool` each contract would make the number again.
 #![tactic(auto, unfolding(lists::specs::Refusals::verdict_of, lists::specs::Refusals::first_answer, crate::specs::Arguments::any_shorter))]
 
 ghost use Rattle.std.specs.Prelude.{◌≡◌, [], ◌∷◌, ◌||◌, ◌≤◌};
@@ -57,6 +59,7 @@ fn layout_short(column: usize, x: usize, wide: usize) -> bool
 }
 
 // Each gives the settings as they are given, unless they or the lengths of the lent buffers are refused.
+// The lines that refuse a short buffer are alike: a function for them would have as many parameters as they have lines.
 #[tactic(auto, unfolding(lists::specs::Refusals::verdict_of, lists::specs::Refusals::first_answer, crate::specs::Arguments::any_shorter, crate::specs::Asked::verdict_in))]
 impl Settings {
     ghost use Rattle.arguments.specs.Asked.{Judged};

@@ -166,6 +166,7 @@ pub fn evaluate(text: &[u8]) -> Result<i64, Reason>
 }
 
 // The length of a value's decimal writing, with its minus sign.
+// `written` of text is alike: each is by its own definition.
 pub fn written_length(z: i64) -> u32
     requires { unsigned_abs z ≤ limit }
     ensures { Length z result }

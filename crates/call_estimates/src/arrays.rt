@@ -104,6 +104,7 @@ fn estimates_short(
 }
 
 // The estimates in short arrays if they suffice, and else in the longest.
+// In each call by itself, for the reason at `estimates_short`.
 pub fn estimates_within(
     sheet: &[u8],
     wrap: u32,

@@ -1,19 +1,18 @@
 -- The records of a table's grid: there are no more of them than 32 bits hold, and their figures are the grid's. Assumes nothing.
 use mathlib.Core.Path.{◌≡◌, refl, ap, ◌∙◌}
 use mathlib.Core.List.{List, [], ◌∷◌, map}
-use Prim.Native.Nat.{ℕ, ◌+◌, ◌≤◌}
+use Prim.Native.Nat.{ℕ, ◌≤◌}
 use native.Mathlib.Omega.{arith}
 use lib.ListN.{length, length-map}
 use Rattle.lists.specs.Limits.{max_entries, max_lines, max_position}
 use Rattle.records.specs.declared.Entry.{Entry}
 use Rattle.records.specs.declared.RowEnd.{RowEnd}
 use Rattle.cells.specs.Cells as cells
-use Rattle.grid.specs.Grid.{GridRow, shown_line, grid_of, entries_of, row_ends, first_of, span_of, row_line}
+use Rattle.grid.specs.Grid.{shown_line, grid_of, entries_of, row_ends, first_of, span_of, row_line}
 use Rattle.grid.proofs.GridFacts.{grid_rows, grid_entries, grid_columns}
 use Rattle.grid.specs.Judging.{shown}
-use Rattle.gridding.specs.Records.{ended_rows}
 use Rattle.gridding.specs.Cut.{GridRecords}
-use Rattle.gridding.proofs.RowRecords.{ended_length}
+use Rattle.gridding.proofs.RowRecords.{ended_length, ended_lines, ended_ends}
 use Rattle.grid.specs.Facts.{Sound}
 use Rattle.records.specs.Figures as figures
 use Rattle.records.specs.Figures.{entry_cell, entry_first, entry_span, row_end}
@@ -21,17 +20,6 @@ use Rattle.records.specs.Figures.{entry_cell, entry_first, entry_span, row_end}
 map_as : {A B : Type 0} (f : A → ℕ) (g : B → ℕ) (h : B → A) → ((b : B) → f (h b) ≡ g b) → (bs : List B) → map f (map h bs) ≡ map g bs
 map_as f g h e [] = refl
 map_as f g h e (b ∷ bs) = rw (e b, map_as f g h e bs)
-
--- the records of a grid's rows
-ended_lines : (n : ℕ) (g : List GridRow) → map figures.row_line (ended_rows n g) ≡ map row_line g
-unfolding ended_rows
-ended_lines n [] = refl
-ended_lines n (r ∷ rs) = rw (ended_lines (n + length r.entries) rs)
-
-ended_ends : (n : ℕ) (g : List GridRow) → map row_end (ended_rows n g) ≡ row_ends n g
-unfolding ended_rows row_ends
-ended_ends n [] = refl
-ended_ends n (r ∷ rs) = rw (ended_ends (n + length r.entries) rs)
 
 -- of the records of a table's grid
 module _ {table : List cells.Row} {es : List Entry} {rs : List RowEnd} {columns : ℕ} (s : Sound table) (m : GridRecords table es rs columns) where

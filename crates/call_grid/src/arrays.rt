@@ -73,6 +73,7 @@ fn grid_short(
 }
 
 // The grid in short arrays if they suffice, and else in the longest.
+// In each call by itself, for the reason at `grid_short`.
 pub fn grid_within(
     sheet: &[u8],
     line: u32,

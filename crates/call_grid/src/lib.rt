@@ -1,5 +1,7 @@
 // The call `grid`: the grid of the table in a line of a sheet. It asks its arguments first; then what is found in the sheet stands in the lent buffers, and
 // in the end it clears what is no figure. A refused call clears all.
+// Each buffer is a parameter, as the C interface lends it, down to the function that writes it; `GridRoom` goes on with them (docs/DESIGN-PASS.md).
+// `as` where a count or a place becomes a `usize`, for which there is no `From`.
 #![tactic(auto)]
 
 mod arrays; // the arrays to work in, by the size of the sheet

@@ -17,13 +17,13 @@ use Rattle.sheet.proofs.First.{neither, passes_both}
 use Rattle.opening.specs.Opening.{after_reading, open_checks}
 use Rattle.table.specs.inner.Asked.{OutRoom}
 use Rattle.call_layout.specs.inner.Found.{columns_in, entries_in, LayoutFound}
-use Rattle.arguments.specs.Arguments.{any_shorter, settings_check, layout_arguments}
+use Rattle.arguments.specs.Arguments.{settings_check, layout_arguments}
 use Rattle.call_layout.specs.Layout.{layout_checks, laid_out_of, LayoutAnswer}
 use Rattle.sheet_figures.specs.inner.Early.{early}
 use Rattle.arguments.specs.declared.Settings.{Settings}
 use Rattle.arguments.specs.Asked.{Asks, verdict_in}
 use Rattle.arguments.proofs.Opened.{opened}
-use Rattle.arguments.proofs.Shorter.{two_fit, or_false}
+use Rattle.arguments.proofs.Shorter.{layout_fits}
 use Rattle.sheet_figures.proofs.Early.{early_nines, none_nines, fits, leaving}
 
 -- ---- before the sheet is read
@@ -73,19 +73,21 @@ raw_low wrap raw width cs e =
     let (a, b) = neither (ltb max_wrap wrap || ltb 1 raw) (ltb max_width width) (passes_both (settings_check wrap raw width) cs e).0 in
     ltb-false 1 raw (neither (ltb max_wrap wrap) (ltb 1 raw) a).1
 
--- where the arguments are not refused, each lent buffer has room for a layout
-fit : (wrap raw width : ℕ) (v : Result (Unit {0}) Refusal) (a b c : ℕ) → v ≡ verdict_of (layout_arguments wrap raw width (a ∷ []) (b ∷ c ∷ [])) → v ≡ (Ok tt)
-    → (max_lines ≤ a) × (max_entries ≤ b) × (max_entries ≤ c)
-unfolding any_shorter
-fit wrap raw width v a b c judged z =
-    let (p, q) = neither (any_shorter max_lines (a ∷ [])) (any_shorter max_entries (b ∷ c ∷ [])) (none_nines _ _ (sym judged ∙ z)).1 in
-    let (f, g) = two_fit max_entries b c q in
-    (ltb-false a max_lines (sym (or_false (ltb a max_lines)) ∙ p), f, g)
+-- one buffer has room for the columns that are counted, and two for the entries, where they have room for as many as there may be
+pub counts_fit : {A : Type 0} (columns entries : Result A Refusal → ℕ) → ((why : Refusal) → columns (Err why) ≡ 0) → ((why : Refusal) → entries (Err why) ≡ 0)
+    → (f : Result A Refusal) (v : Result (Unit {0}) Refusal) (ds : List Check) (r : Result A Refusal) {a b c : ℕ} → r ≡ first_answer Err f (early v ∷ ds)
+    → columns r ≤ max_lines → entries r ≤ max_entries → (v ≡ (Ok tt) → (max_lines ≤ a) × (max_entries ≤ b) × (max_entries ≤ c)) → (columns r ≤ a) × (entries r ≤ b) × (entries r ≤ c)
+counts_fit columns entries no_columns no_entries f v ds r {a} {b} {c} e p q room = (
+  fits Err f columns no_columns v ds r max_lines a e p (λ z. (room z).0),
+  fits Err f entries no_entries v ds r max_entries b e q (λ z. (room z).1),
+  fits Err f entries no_entries v ds r max_entries c e q (λ z. (room z).2),
+)
 
+-- where the arguments are not refused, each lent buffer has room for a layout
 pub layout_fit : (wrap raw width : ℕ) (v : Result (Unit {0}) Refusal) (column x wide : List ℕ)
     → v ≡ verdict_of (layout_arguments wrap raw width (length column ∷ []) (length x ∷ length wide ∷ [])) → v ≡ (Ok tt) → OutRoom column x wide
 layout_fit wrap raw width v column x wide judged z =
-    let (a, b, c) = fit wrap raw width v (length column) (length x) (length wide) judged z in
+    let (a, b, c) = layout_fits (length column) (length x) (length wide) (none_nines _ _ (sym judged ∙ z)).1 in
     record { column_room = a; x_room = b; wide_room = c }
 
 module _ {s : List ℕ} {line wrap raw width : ℕ} {v : Result (Unit {0}) Refusal} {a b c : ℕ} {r : Result Layout Refusal} {column x wide : List ℕ}
@@ -95,13 +97,8 @@ module _ {s : List ℕ} {line wrap raw width : ℕ} {v : Result (Unit {0}) Refus
   pub layout_rooms : (columns_in r ≤ a) × (entries_in r ≤ b) × (entries_in r ≤ c)
   unfolding columns_in entries_in
   layout_rooms =
-      let f = fit wrap raw width v a b c judged in
-      let g : (room : ℕ) → (v ≡ (Ok tt) → max_entries ≤ room) → entries_in r ≤ room =
-      λ room. fits Err _ entries_in (λ why. refl) v (open_checks (Some line) s) r max_entries room found.answer found.few_entries in (
-        fits Err _ columns_in (λ why. refl) v (open_checks (Some line) s) r max_lines a found.answer found.few_columns (λ z. (f z).0),
-        g b (λ z. (f z).1),
-        g c (λ z. (f z).2),
-      )
+      counts_fit columns_in entries_in (λ why. refl) (λ why. refl) _ v (open_checks (Some line) s) r found.answer found.few_columns found.few_entries
+      (λ z. layout_fits a b c (none_nines _ _ (sym judged ∙ z)).1)
 
 module _ {s : List ℕ} {line wrap raw width : ℕ} {v : Result (Unit {0}) Refusal} {column₀ x₀ wide₀ : List ℕ} {r : Result Layout Refusal} {column x wide : List ℕ}
     (judged : v ≡ verdict_of (layout_arguments wrap raw width (length column₀ ∷ []) (length x₀ ∷ length wide₀ ∷ [])))

@@ -97,6 +97,7 @@ fn layout_short(
 }
 
 // The layout in short arrays if they suffice, and else in the longest.
+// In each call by itself, for the reason at `layout_short`.
 pub fn layout_within(
     sheet: &[u8],
     line: u32,

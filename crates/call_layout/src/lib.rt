@@ -1,5 +1,8 @@
 // The call `layout`: the layout of the table in a line of a sheet. It asks its arguments first; then what is found in the sheet stands in the lent
 // buffers, and in the end it clears what is no figure. A refused call clears all.
+// wrap, raw and width, and each buffer, are a parameter, as the C interface hands them over, down to the function that writes; `OutRoom` goes on
+// with the buffers (docs/DESIGN-PASS.md).
+// `as` where a count or a place becomes a `usize`, for which there is no `From`.
 #![tactic(auto)]
 
 mod arrays; // the arrays to work in, by the size of the sheet

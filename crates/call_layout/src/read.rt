@@ -1,4 +1,6 @@
 // The layout of one table of an accepted sheet, whose cells are measured.
+// raw and width are two parameters, as the definitions have them: in nested the width is not that of the settings.
+// entries and rows are two slices, which are lent on as scratch.
 ghost use Rattle.std.specs.Prelude.{◌≡◌, ◌≤◌};
 ghost use Rattle.lists.specs.Limits.{max_entries, max_position, max_size};
 ghost use Rattle.table.specs.inner.Asked.{OutRoom};

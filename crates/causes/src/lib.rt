@@ -1,4 +1,8 @@
 // Why a column of a table is 0 wide and which entries are missing, for those who teach which cells can go missing. The Rust has no counterpart.
+// raw and width are two parameters, as the definitions have them, and raw a number. Sizes, leasts, shares and widths are a slice each, as there is
+// a list of each. entries and figures are two slices: what is asked of them, `Tellable` and `Entered`, is of the columns too. cause is a slice of
+// numbers, as the C interface lends it.
+// `as` where a column or a span becomes a `usize`, or a place a number of 32 bits: there is no `From`, and a `TryFrom` would never fail.
 #![tactic(auto)]
 
 pub mod tables; // those of one table
@@ -26,6 +30,7 @@ pub enum Cause {
 
 impl Cause {
     // Its number.
+    // No `From`: it would be this line, which states the number by `cause_number`.
     #[tactic(auto, unfolding(crate::specs::Causes::cause_number))]
     pub fn number(self) -> u32
         ensures { result ≡ cause_number self }
@@ -91,6 +96,7 @@ fn none_shown(cause: &[u32]) -> bool
 }
 
 // The numbers of the entries that are missing, each of whose columns has a cause, in the order of the grid, and how many there are.
+// The slice is filled from its front beside a count: a `Vec` needs a heap.
 pub fn list_missing(entries: &[Entry], cause: &[u32], missing: &mut [u32]) -> usize
     requires { Listable entries.now cause.now missing.old }
     ensures { Listed entries.now cause.now missing.new result }

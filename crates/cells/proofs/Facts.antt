@@ -74,16 +74,6 @@ pub rows_few : (d t : ℕ) (ls : List Kept)
     → length (resolved (bodies_of d t ls)) + length (all_cells (resolved (bodies_of d t ls))) + length (bodies_of d t ls) ≤ length ls
 rows_few d t ls = omega (arith, size_resolved (bodies_of d t ls), frame_few d (suc t) ls)
 
--- and where there is a row, there is a body
-pub rows_fewer : (d t : ℕ) (ls : List Kept) → 0 < length (resolved (bodies_of d t ls))
-    → length (resolved (bodies_of d t ls)) + length (all_cells (resolved (bodies_of d t ls))) < length ls
-unfolding resolved
-rows_fewer d t ls h = omega (arith, rows_few d t ls, some (bodies_of d t ls) h)
-  where
-    some : (bs : List (List Row)) → 0 < length (resolved bs) → 0 < length bs
-    some [] g = g
-    some (b ∷ bs) g = omega arith
-
 -- ---- where they stand, and how large they are
 
 -- a written cell and a written row of the n lines from line k on

@@ -3,23 +3,18 @@
 use mathlib.Core.Path.{◌≡◌, refl, sym, ap, ap₂, ◌∙◌}
 use mathlib.Core.List.{List, [], ◌∷◌, ◌++◌, map, map-append}
 use Prim.Native.Nat.{ℕ, zero, suc, ◌+◌, ◌*◌, ◌-◌, ◌/◌, ◌≤◌, ◌<◌}
-use native.Mathlib.Nat.{add-zero, zero-add, suc-add, mul-zero, mul-suc, mul-add, mul-add-div, mul-div_right, not-suc-le-zero, le_of_suc-le-suc}
+use native.Mathlib.Nat.{add-zero, zero-add, suc-add, mul-zero, mul-suc, mul-add, mul-add-div, mul-div_right}
 use native.Mathlib.Omega.{arith}
 use lib.ListN.{length, get_or, set, take, drop, length-map, length-append, length-drop, take-append-drop}
 use lib.Seq.{take-append-le, drop-append-le, length-take-le, take_at, drop_at, set-get_or}
 use borrow.Rule.Slice.PartMut.{put_mid}
-use Rattle.std.proofs.lemmas.List.{map-set, take-map, drop-map}
+use Rattle.std.proofs.lemmas.List.{get_or-map, map-set, take-map, drop-map}
 use Rattle.records.specs.Records.{records, records_of}
 use Rattle.records.proofs.Records.{length_of, of_at, number_at}
 use Rattle.cells.specs.Held.{figures}
 use Rattle.cells.specs.Spans.{part}
 
 -- ---- lists
-
-pub map_at : {A : Type 0} (f : A → ℕ) (d : A) (l : List A) (i : ℕ) → i < length l → get_or (map f l) i 0 ≡ f (get_or l i d)
-map_at f d [] i h = absurd (not-suc-le-zero h)
-map_at f d (x ∷ l) zero h = refl
-map_at f d (x ∷ l) (suc i) h = map_at f d l i (le_of_suc-le-suc h)
 
 -- lists of one length have as many
 pub maps_still : {A : Type 0} (f : A → ℕ) (l m : List A) → length m ≡ length l → length (map f m) ≡ length (map f l)
@@ -67,7 +62,7 @@ module _ {A : Type 0} (w : ℕ) (make : List ℕ → A) (f : A → ℕ) where
 
   pub figure_at_lem : (xs : List ℕ) (i : ℕ) → i < length xs / w → get_or (figures w make f xs) i 0 ≡ f (get_or (records_of w make xs) i (make []))
   unfolding figures
-  figure_at_lem xs i h = map_at f (make []) (records_of w make xs) i (omega (arith, length_of w make xs))
+  figure_at_lem xs i h = get_or-map f (records_of w make xs) i (make []) 0 (omega (arith, length_of w make xs))
 
   pub figure_set : (xs ys : List ℕ) (i : ℕ) (a : A) → records_of w make ys ≡ set (records_of w make xs) i a → figures w make f ys ≡ set (figures w make f xs) i (f a)
   unfolding figures

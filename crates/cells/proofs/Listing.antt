@@ -83,7 +83,7 @@ pub record Room (ks : List Kept) (at : ℕ) (line span rows row' end : List ℕ)
   pub end_room : length ks ≤ at + length end
 
 -- a line is at most one deeper than the one before it, also where there is none
-step_on : (ks : List Kept) → ((k : ℕ) → k + 1 < length ks → (get_or ks (k + 1) no_kept).depth ≤ (get_or ks k no_kept).depth + 1) → (k : ℕ) → (get_or ks (k + 1) no_kept).depth ≤ (get_or ks k no_kept).depth + 1
+pub step_on : (ks : List Kept) → ((k : ℕ) → k + 1 < length ks → (get_or ks (k + 1) no_kept).depth ≤ (get_or ks k no_kept).depth + 1) → (k : ℕ) → (get_or ks (k + 1) no_kept).depth ≤ (get_or ks k no_kept).depth + 1
 step_on ks h k = at (dec_lt (k + 1) (length ks))
   where
     at : Dec (k + 1 < length ks) → (get_or ks (k + 1) no_kept).depth ≤ (get_or ks k no_kept).depth + 1

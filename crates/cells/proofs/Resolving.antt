@@ -1,5 +1,5 @@
 -- Cells resolved in their records: those of a row, one after the other, and the rows of a body. Assumes nothing.
-use mathlib.Core.Path.{◌≡◌, refl, sym, ap, subst, ◌∙◌}
+use mathlib.Core.Path.{◌≡◌, sym, ap, subst, ◌∙◌}
 use mathlib.Core.List.{List, ◌++◌, map}
 use Prim.Native.Nat.{ℕ, ◌+◌, ◌*◌, ◌-◌, ◌/◌, ◌≤◌, ◌<◌}
 use native.Mathlib.Omega.{arith}
@@ -11,8 +11,8 @@ use Rattle.cells.specs.declared.Cell.{Cell}
 use Rattle.cells.specs.Spans.{bare, part, rows_at, Narrow, BodyHeld, RowsHeld, LargestSum, RowResolved, BodyResolved}
 use Rattle.cells.proofs.Figures.{length_figures, figure_at_lem, figure_set, figure_same, figures_part, figures_put}
 use Rattle.cells.proofs.Filling.{fill, all_filled, filled_are, change_more, change_all}
-use Rattle.cells.proofs.Bodies.{Filled, row_ends_fits, part_narrow, part_lacks, fill_start, fill_row, fill_stop}
-use Rattle.cells.proofs.Cutting.{Cutting, cut_start, cut_turn, cut_stop}
+use Rattle.cells.proofs.Bodies.{Filled, row_ends_fits, part_narrow, part_lacks, fill_row, fill_stop}
+use Rattle.cells.proofs.Cutting.{Cutting, cut_turn, cut_stop}
 
 -- ---- a row
 
@@ -22,9 +22,6 @@ pub record Resolving (instead left : ℕ) (cells₀ cells : List ℕ) (i : ℕ) 
   pub same : lines_of cells ≡ lines_of cells₀
   pub filled : spans_of cells ≡ take i (map (fill instead) (spans_of cells₀)) ++ drop i (spans_of cells₀)
   pub cut : rowspans_of cells ≡ take i (map (taken left) (rowspans_of cells₀)) ++ drop i (rowspans_of cells₀)
-
-pub row_start : (instead left : ℕ) (cells : List ℕ) → Resolving instead left cells cells 0
-row_start instead left cells = record { passed = omega arith; long = refl; same = refl; filled = refl; cut = refl }
 
 module _ {instead left : ℕ} {cells₀ cells : List ℕ} {i : ℕ} (z : Resolving instead left cells₀ cells i) where
   pub row_turn : i < length cells / 3 → (c : Cell) → c ≡ get_or (cells_of cells) i no_cell → (v u : ℕ) → v ≡ fill instead c.span → u ≡ taken left c.rows
@@ -67,9 +64,6 @@ pub record Sofar (first : ℕ) (ends cells₀ cells : List ℕ) (most from j : �
   pub cut : Cutting first ends (rowspans_of cells₀) (rowspans_of cells) from j
 
 module _ {first : ℕ} {ends cells₀ : List ℕ} {most : ℕ} (b : BodyHeld first ends (spans_of cells₀)) (r : RowsHeld first ends (rowspans_of cells₀)) (l : LargestSum (rows_at first ends (spans_of cells₀)) most) where
-  pub start : Sofar first ends cells₀ cells₀ most first 0
-  start = record { long = refl; same = refl; filled = fill_start b l; cut = cut_start r }
-
   module _ {cells : List ℕ} {from j : ℕ} (z : Sofar first ends cells₀ cells most from j) where
     pub stop : length ends ≤ j → BodyResolved first ends (lines_of cells₀) (spans_of cells₀) (rowspans_of cells₀) (lines_of cells) (spans_of cells) (rowspans_of cells)
     stop h = record { same = z.same; done = record { cols = fill_stop b l z.filled h; cut = cut_stop r z.cut h } }

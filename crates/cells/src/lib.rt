@@ -1,4 +1,7 @@
 // The cells of a table as they are written, row by row and body by body, what a colspan of 0 becomes, and where a rowspan ends.
+// Cells and rows are filled from the front of their slices, beside a count: a `Vec` needs a heap.
+// The place of a table stands beside the lines: a line's place says its number, which goes into the records.
+// `as` where a place or a count becomes a number of 32 bits, or the other way round: there is no `From`, and a `TryFrom` would never fail.
 #![tactic(auto)]
 
 ghost use Rattle.std.specs.Prelude.{◌≡◌, cond, length, get_or, set, ltb, eqb, ◌+◌, ◌<◌, ◌/◌};
@@ -72,6 +75,7 @@ pub fn filled(cols: u32, instead: u32) -> u32
 }
 
 // How many rows a cell takes where `left` rows follow its own in the body: a rowspan never leaves its body, and rows 0 runs to the last row.
+// `hangs_within` of grid_counts is alike: each is by its own definition.
 fn rows_within(rows: u32, left: u32) -> u32
     requires { left < max_lines }
     ensures { result ≡ taken left rows }

@@ -17,7 +17,7 @@ use Rattle.lists.proofs.Write.{write_more, write_all}
 use Rattle.cutting.specs.Cut.{at, excess, gaps, cut, Below}
 use Rattle.cutting.specs.Level.{at_level, level_of}
 use Rattle.cutting.specs.inner.Fill.{Roomy, place, width_at, filled_from, filled}
-use Rattle.cutting.proofs.Sums.{sum_le, below_in, in_range, at_le_sum, sum_rest, sum_none}
+use Rattle.cutting.proofs.Sums.{sum_le, below_in, in_range, at_le_sum}
 use Rattle.cutting.proofs.Cut.{cut_held, cut_fills}
 use Rattle.cutting.proofs.Best.{find_below, unique}
 use Rattle.cutting.proofs.Level.{length_level, at_level_lem, Given, given_held, level_ok, level_next, level_is}
@@ -286,36 +286,13 @@ module _ (ls ss : List ℕ) (room : ℕ) (r : Roomy ls ss room) (over : room < s
   pub bound_found : (t b : ℕ) → sum (filled ls ss t b) ≤ room → room < sum (filled ls ss t (suc b)) → sum (filled ls ss t b) ≡ room
   bound_found t b h k = omega (arith, filled_step ls ss r.above.0 t b r.few)
 
--- what the code keeps while it adds the widths up: what it has, with the sum of what is left, is the sum of all
-pub record Adding (ls ss : List ℕ) (t b x i : ℕ) : Type 0 where
-  pub passed : i ≤ length ss
-  pub small : x ≤ 4294967295 * i
-  pub rest : x + sum (drop i (filled ls ss t b)) ≡ sum (filled ls ss t b)
-
--- and while it writes them over the shares: those up to i are written
+-- what the code keeps while it writes the widths over the shares: those up to i are written
 pub record Writing (ls ss : List ℕ) (t b : ℕ) (ws : List ℕ) (i : ℕ) : Type 0 where
   pub passed : i ≤ length ss
   pub lasts : length ws ≡ length ss
   pub written : ws ≡ take i (filled ls ss t b) ++ drop i ss
 
 module _ (ls ss : List ℕ) (t b : ℕ) (e : length ls ≡ length ss) where
-  pub adding_turn : {x i : ℕ} → Adding ls ss t b x i → i < length ss → {v : ℕ} → v ≡ width_at (at ls i) (at ss i) t (place (at ls i) i) b →
-      v < 4294967296 → Adding ls ss t b (x + v) (i + 1)
-  adding_turn {x} {i} a h {v} q s =
-      let n = length_filled ls ss e t b in
-      let w : v ≡ at (filled ls ss t b) i = q ∙ sym (at_filled ls ss e t b i h) in
-      let m = a.small in
-      record {
-        passed = omega arith;
-        small = omega arith;
-        rest = omega (arith, a.rest, sum_rest (filled ls ss t b) i (omega arith));
-      }
-
-  pub adding_end : {x i : ℕ} → Adding ls ss t b x i → length ss ≤ i → x ≡ sum (filled ls ss t b)
-  adding_end {x} {i} a h =
-      let n = length_filled ls ss e t b in
-      omega (arith, a.rest, sum_none (filled ls ss t b) i (omega arith))
-
   pub writing_start : Writing ls ss t b ss 0
   writing_start = record { passed = omega arith; lasts = refl; written = refl }
 

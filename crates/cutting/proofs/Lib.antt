@@ -1,5 +1,6 @@
 pub mod Sums
 pub mod Pairs
+pub mod Columns
 pub mod Picked
 pub mod Cut
 pub mod Best

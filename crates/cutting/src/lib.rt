@@ -1,4 +1,6 @@
 // Cutting widths until they fit: one by one where little is to be cut, else by one level.
+// leasts and shares stand in a slice each, as the definitions have a list of each: the shares are cut in place against the leasts.
+// `as` where a number of columns, a place or a room is known to fit the other type: a `TryFrom` would never fail.
 #![tactic(auto)]
 
 ghost use Rattle.std.specs.Prelude.{◌≡◌, ◌||◌, ◌&&◌, ◌+◌, ◌-◌, ◌≤◌, ◌<◌, ltb, eqb, length};
@@ -102,15 +104,16 @@ struct Tight<'a> {
 }
 
 impl Tight<'_> {
-    // The sum of all columns' widths at the level and the bound. Tried: the sum of a `map`; that it may be called, as `width_at` asks, was not proved.
+    // The sum of all columns' widths at the level and the bound.
     fn total_at(&self, level: u32, bound: u64) -> u64
         ensures { result ≡ sum (filled self.now.leasts.now self.now.shares.now level bound) }
     {
-        let mut t: u64 = 0;
-        for (i, (share, least)) in self.shares.iter().zip(self.leasts).enumerate() {
-            t += u64::from(width_at(i, *least, *share, level, bound));
-        }
-        t
+        self.shares
+            .iter()
+            .zip(self.leasts)
+            .enumerate()
+            .map(|(i, (share, least))| u64::from(width_at(i, *least, *share, level, bound)))
+            .sum()
     }
 
     // The level, by halving: at lo nothing overflows the room, above hi something does. No level above the room fits it.
@@ -156,8 +159,8 @@ impl Tight<'_> {
     }
 }
 
-// The shares become the widths at the level and the bound. A least is read by its index: of what an adapter of `iter_mut`, as `zip`, wrote the language
-// knows nothing.
+// The shares become the widths at the level and the bound. A least is read by its index: of what an adapter of `iter_mut`, as `zip`, wrote the
+// language knows nothing.
 fn fill_widths(leasts: &[u32], level: u32, bound: u64, wide: &mut [u32])
     requires below { Below leasts.now wide.old }
     requires wide_len_bound { length wide.old ≤ max_lines }

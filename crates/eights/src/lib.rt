@@ -1,5 +1,7 @@
 // The commonest lines of a sheet, told by comparing eight bytes at once, in the form in which lines are kept. Every other line is left to the
 // crate line, which reads all.
+// The bytes and a place in them are two parameters, as in fields: the place where the next line starts goes into the answer.
+// `as` where cols and rows are known to be at most 9: a `TryFrom` would never fail.
 #![tactic(auto)]
 
 ghost use Rattle.std.specs.Prelude.{◌≡◌, ◌+◌, ◌≤◌, length, Some};

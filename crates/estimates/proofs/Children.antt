@@ -45,14 +45,6 @@ module _ {lines : List Kept} {figures : List Estimate} {leasts : List ℕ} {entr
     within = k;
   }
 
--- lines as they are read
-module _ (ls : List Kept) (at i : ℕ) {top l : Kept} (e : top ≡ line_at ls at) (f : l ≡ line_at ls i) where
-  pub deeper : top.depth < l.depth → (line_at ls at).depth < (line_at ls i).depth
-  deeper h = rw (← e, ← f) h
-
-  pub no_deeper : l.depth ≤ top.depth → (line_at ls i).depth ≤ (line_at ls at).depth
-  no_deeper h = rw (← e, ← f) h
-
 -- at line i, the children passed come to `sum`, `most` and `children`
 pub record CellLoop (wrap : ℕ) (ls : List Kept) (b c : List Estimate) (at sum most children i : ℕ) : Type 0 where
   pub passed : Passed ls (done_of wrap ls) b c at (at + 1) i

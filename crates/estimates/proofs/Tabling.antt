@@ -2,12 +2,11 @@
 -- largest is at most the sum. So a table's least width never passes its size. Assumes nothing.
 use mathlib.Core.Path.{◌≡◌, refl, sym, ◌∙◌}
 use mathlib.Core.Bool.{Bool, true, false, cond}
-use mathlib.Core.List.{List, [], ◌∷◌, ◌++◌, map}
+use mathlib.Core.List.{List, [], ◌∷◌, map}
 use Prim.Native.Nat.{ℕ, suc, ◌+◌, ◌-◌, ◌*◌, ◌/◌, ◌≤◌, ◌<◌}
 use native.Mathlib.Omega.{arith}
 use lib.Dec.{eqb}
-use lib.ListN.{length, get_or, take}
-use lib.Seq.{take_at}
+use lib.ListN.{length, get_or}
 use borrow.Author.Tests.{eq-eqb, ne_eqb, eqb-false}
 use Rattle.lists.specs.Lists.{sum, All}
 use Rattle.text.specs.declared.Estimate.{Estimate}
@@ -15,7 +14,7 @@ use Rattle.columns.specs.Boxes.{Box, Measures}
 use Rattle.columns.specs.Columns.{size_of, least_of, largest_at, sum_at, largest, sums}
 use Rattle.columns.proofs.Upto.{length_up_to, below_up_to}
 use Rattle.columns.proofs.Listed.{Within}
-use Rattle.columns.proofs.Largest.{largest_least_size, largest_length}
+use Rattle.columns.proofs.Largest.{largest_least_size}
 use Rattle.columns.proofs.Summed.{sum_of_columns}
 use Rattle.estimates.specs.Estimates.{estimate, none}
 use Rattle.records.specs.Kept.{no_entry}
@@ -43,15 +42,18 @@ spread_sum (b ∷ bs) = omega (arith, spread_sum bs)
 pub spread_columns : (bs : List Box) (n : ℕ) → All (Within n) bs → sum (sums size_of bs n) ≡ spread_cells bs
 spread_columns bs n w = sum_of_columns size_of bs n w ∙ sym (spread_sum bs)
 
-pub leasts_le : (bs : List Box) (n : ℕ) → All (Within n) bs → Measures bs → sum (largest least_of bs n) ≤ spread_cells bs
-leasts_le bs n w m =
+-- in each column the largest least is no more than the sum of the sizes
+pub leasts_sums : (bs : List Box) (n : ℕ) → Measures bs → sum (largest least_of bs n) ≤ sum (sums size_of bs n)
+leasts_sums bs n m =
     let l = largest_least_size bs n m in
     omega (
       arith,
       sum_le (largest least_of bs n) (largest size_of bs n) l.0 l.1,
       sum_le (largest size_of bs n) (sums size_of bs n) (length_up_to n _ ∙ sym (length_up_to n _)) (below_up_to n _ _ (most_le_sum size_of bs)),
-      spread_columns bs n w,
     )
+
+pub leasts_le : (bs : List Box) (n : ℕ) → All (Within n) bs → Measures bs → sum (largest least_of bs n) ≤ spread_cells bs
+leasts_le bs n w m = omega (arith, leasts_sums bs n m, spread_columns bs n w)
 
 -- what holds of the entries holds of their boxes
 
@@ -92,12 +94,6 @@ pub table_none : {columns wide end : ℕ} (bs : List Box) → wide ≡ columns �
 table_none {columns} bs q e = record { after = refl; est = sym (tabled_none columns bs (sym q ∙ e)); least_size = omega arith }
 
 module _ {bs : List Box} {n all : ℕ} {columns : List ℕ} (s : Spreads bs n all columns) where
-  pub lent_length : length columns ≡ n
-  lent_length = largest_length least_of bs n columns s.leasts
-
-  pub lent : (rest : List ℕ) → take n (columns ++ rest) ≡ columns
-  lent rest = take_at columns rest n lent_length
-
   pub table_some : {count wide least end : ℕ} → wide ≡ count → n ≡ count → least ≡ sum columns → sum columns ≤ all → (wide ≡ 0 → ⊥)
       → Tabulated count bs end (record { after = end; size = all + (wide - 1); least = least + (wide - 1); children = 0 })
   table_some {count} {wide} {least} {end} q r l f e =

@@ -1,5 +1,8 @@
 // The estimates of a sheet's lines: node, table and cell in a cycle of calls.
 // A table's grid is made where its figures are, in records that every table uses in turn.
+// lines and figures are two slices: lines are read and figures written, and a struct of both would be one of a `&` and a `&mut`.
+// The place of a line stands beside the lines: its figures stand there too, and the place after the lines below it goes into the answer.
+// `NodeReady` is asked in each contract of the cycle: it is of the place and the slices that go on with it (docs/DESIGN-PASS.md).
 #![tactic(auto)]
 
 pub mod single;
@@ -40,6 +43,7 @@ impl Part {
 }
 
 // The estimate of a line that has neither text nor children.
+// Arrays are filled with it before they are written. No `Default`: the definitions have it by name, `none`.
 pub const NONE: text::Estimate = text::Estimate {
     size: 0,
     least: 0,
@@ -172,6 +176,7 @@ fn cell(
         if line.depth <= top.depth {
             break;
         }
+        // Three lines of both arms are alike: a function for them would have as many parameters or more.
         if line.kind.is_leaf() {
             // most children are texts, which need no call of `node`
             let e = single::leaf(line, wrap);

@@ -16,7 +16,7 @@ use Rattle.std.specs.Option.{option_map, option_and_then}
 use Rattle.kinds.specs.Kinds.{kind_at, kind_of, kind_count}
 use Rattle.fields.specs.Numbers.{Numeral, numeral, unwritten, number_of, up_to, magnitude}
 use Rattle.fields.specs.Blanks.{field, longer, until_blank, front_to, blank}
-use Rattle.fields.specs.Reading.{sound, on_field, on_numeral, number_read, kind_read, kind_named, written_in, ended_at}
+use Rattle.fields.specs.Reading.{sound, on_field, on_numeral, number_read, kind_read, kind_named, written_in, written_at, ended_at}
 use Rattle.fields.proofs.OnField.{on_longer, on_same}
 
 -- what is made of the bytes cut before a place, where there is such a place
@@ -64,6 +64,16 @@ module _ (stop at : ℕ) (s : List ℕ) where
   unfolding front_to
   front_some {r} {end} h e = rw (sym (take_rest s at), ← h, e)
 
+-- what is written in the bytes before a stop
+module _ (stop most at : ℕ) (s : List ℕ) where
+  pub written_open : None ≡ front_to stop s → written_at stop most at s ≡ None
+  unfolding written_at
+  written_open e = sym (ap (option_and_then (λ (f : List ℕ). ended_at (at + length f + 1) (written_in most (number_of f)))) e)
+
+  pub written_ended : {f : List ℕ} → Some f ≡ front_to stop s → written_at stop most at s ≡ ended_at (at + length f + 1) (written_in most (number_of f))
+  unfolding written_at
+  written_ended e = sym (ap (option_and_then (λ (f : List ℕ). ended_at (at + length f + 1) (written_in most (number_of f)))) e)
+
 module _ (at : ℕ) (s : List ℕ) where
   -- a number from 0 to most
 
@@ -75,17 +85,9 @@ module _ (at : ℕ) (s : List ℕ) where
       go true = refl
       go false = refl
 
-  natural_front : (most : ℕ)
-      → number_read (up_to most) magnitude at s ≡ option_and_then (λ f. ended_at (at + length f + 1) (written_in most (number_of f))) (front_to blank s)
-  unfolding number_read
-  natural_front most = on_same (until_blank s) _ _ (λ f. numeral_ended most (at + length f + 1) (number_of f)) ∙ on_front s _
-
-  pub natural_none : (most : ℕ) → None ≡ front_to blank s → number_read (up_to most) magnitude at s ≡ None
-  natural_none most e = natural_front most ∙ sym (ap (option_and_then (λ (f : List ℕ). ended_at (at + length f + 1) (written_in most (number_of f)))) e)
-
-  pub natural_some : (most : ℕ) {f : List ℕ} → Some f ≡ front_to blank s
-      → number_read (up_to most) magnitude at s ≡ ended_at (at + length f + 1) (written_in most (number_of f))
-  natural_some most e = natural_front most ∙ sym (ap (option_and_then (λ (f : List ℕ). ended_at (at + length f + 1) (written_in most (number_of f)))) e)
+  pub natural_written_at : (most : ℕ) → number_read (up_to most) magnitude at s ≡ written_at blank most at s
+  unfolding number_read written_at
+  natural_written_at most = on_same (until_blank s) _ _ (λ f. numeral_ended most (at + length f + 1) (number_of f)) ∙ on_front s _
 
   -- a kind
 

@@ -128,11 +128,12 @@ module _ (at : ℕ) (s : List ℕ) where
   unfolding number_read until_blank
   signed_out h = rw (drop_of_length-le s h)
 
-  pub signed_plain : at < length s → (get_or s at 0 ≡ 45 → ⊥) → found ≡ number_read (from_to 0 shift) shifted at (drop at s)
-  signed_plain h n = rw (drop-cons s at 0 h) (unsigned at (get_or s at 0) (drop (suc at) s) n)
+  module _ {first : ℕ} (h : at < length s) (v : first ≡ get_or s at first) where
+    pub signed_plain : (first ≡ 45 → ⊥) → found ≡ number_read (from_to 0 shift) shifted at (drop at s)
+    signed_plain n = rw (drop-cons s at first h, ← v) (unsigned at first (drop (suc at) s) n)
 
-  pub signed_minus : at < length s → get_or s at 0 ≡ 45 → found ≡ lowered (number_read (up_to shift) magnitude (at + 1) (drop (at + 1) s))
-  signed_minus h e =
-      rw (drop-cons s at 0 h, e)
-      (negative at (drop (suc at) s)
-      ∙ ap (λ (k : ℕ). lowered (number_read (up_to shift) magnitude (at + 1) (drop k s))) (sym (add-one at)))
+    pub signed_minus : first ≡ 45 → found ≡ lowered (number_read (up_to shift) magnitude (at + 1) (drop (at + 1) s))
+    signed_minus e =
+        rw (drop-cons s at first h, ← v, e)
+        (negative at (drop (suc at) s)
+        ∙ ap (λ (k : ℕ). lowered (number_read (up_to shift) magnitude (at + 1) (drop k s))) (sym (add-one at)))

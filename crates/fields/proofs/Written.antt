@@ -1,19 +1,19 @@
 -- A whole field as a number: the turns of the loop over digits, and what its answer, or a 0 at the front, says of the field. Assumes nothing.
 use mathlib.Core.Path.{◌≡◌, refl, sym, ap, ◌∙◌}
-use mathlib.Core.Bool.{Bool, true, false, not, cond, ◌&&◌}
+use mathlib.Core.Bool.{Bool, true, false, not, cond, ◌&&◌, and-true}
 use mathlib.Core.List.{List, [], ◌∷◌}
 use Prim.Native.Nat.{ℕ, ◌+◌, ◌-◌, ◌*◌, ◌≤◌, ◌<◌}
 use native.Mathlib.Numerals.{add-one}
 use native.Mathlib.Omega.{arith}
-use lib.Dec.{eqb, leb, leb-zero}
+use lib.Dec.{eqb, leb}
 use lib.ListN.{length, get_or, drop, drop_of_length-le}
 use lib.Seq.{drop-cons}
-use borrow.Author.Tests.{eqb-true, le-leb, lt-leb, leb-true, leb-false}
+use borrow.Author.Tests.{eqb-true, le-leb, lt-leb, leb-true, leb-false, ne_eqb}
 use Rattle.std.specs.Prelude.{Option, Some, None}
 use Rattle.text.specs.Decimal.{plain, minus}
 use Rattle.fields.specs.Numbers.{numeral, unwritten, is_digit, all_digits, value_from, is_natural, natural_of, negative_of, number_of}
 use Rattle.fields.proofs.OnField.{and_fails}
-use Rattle.fields.proofs.Digits.{value_grows, natural_first, natural_digits}
+use Rattle.fields.proofs.Digits.{value_grows, natural_first}
 use Rattle.fields.specs.Reading.{digits_in, written_in}
 
 -- the turns of `digits_in`
@@ -88,29 +88,31 @@ natural_written most (b ∷ f) = go (eqb b 45) refl
         ∙ sym (rw (natural_first b f (ap is_digit (eqb-true b 45 e))))
     go false e = digits (is_natural (b ∷ f)) (value_from 0 (b ∷ f))
 
--- the answers of `written_in`, by the first byte
+-- the answers of `written_in`, by the first byte and those after it
+
+natural_all : (b : ℕ) (f : List ℕ) → (b ≡ 48 → length f ≡ 0) → is_natural (b ∷ f) ≡ all_digits (b ∷ f)
+unfolding is_natural all_digits
+natural_all first [] n = sym (and-true (is_digit first))
+natural_all first (c ∷ f) n = rw (ne_eqb first 48 (λ e. omega (arith, n e)), and-true)
 
 module _ (most : ℕ) where
-  pub written_none : (f : List ℕ) → length f ≡ 0 → written_in most (number_of f) ≡ None
+  pub written_none : (s : List ℕ) → length s ≡ 0 → written_in most (number_of s) ≡ None
   unfolding number_of
   written_none [] h = refl
-  written_none (b ∷ f) h = absurd (omega arith)
+  written_none (first ∷ f) h = absurd (omega arith)
 
-  pub written_digits : (f : List ℕ) → 0 < length f → (get_or f 0 0 ≡ 48 → ⊥) → written_in most (number_of f) ≡ digits_in most 0 f
-  written_digits [] h n = absurd (omega arith)
-  written_digits (b ∷ f) h n =
-      natural_written most (b ∷ f)
-      ∙ ap (λ (t : Bool). bounded most t (value_from 0 (b ∷ f))) (natural_digits b f n)
-      ∙ sym (digits_bounded most 0 (b ∷ f) (omega arith))
+  module _ {first : ℕ} {f s : List ℕ} (e : s ≡ first ∷ f) where
+    pub written_led : first ≡ 48 → (length f ≡ 0 → ⊥) → written_in most (number_of s) ≡ None
+    unfolding is_natural
+    written_led zero n = rw (e, zero) (led f n)
+      where
+        led : (g : List ℕ) → (length g ≡ 0 → ⊥) → written_in most (number_of (48 ∷ g)) ≡ None
+        led [] n = absurd (n refl)
+        led (c ∷ g) n = natural_written most (48 ∷ c ∷ g)
 
-  pub written_led : (f : List ℕ) → 1 < length f → get_or f 0 0 ≡ 48 → written_in most (number_of f) ≡ None
-  unfolding is_natural
-  written_led [] h e = absurd (omega arith)
-  written_led (b ∷ []) h e = absurd (omega arith)
-  written_led (b ∷ c ∷ f) h e = rw e (natural_written most (48 ∷ c ∷ f))
-
-  pub written_zero : (f : List ℕ) → length f ≤ 1 → get_or f 0 0 ≡ 48 → written_in most (number_of f) ≡ Some 0
-  unfolding is_natural value_from
-  written_zero [] h e = absurd (omega arith)
-  written_zero (b ∷ []) h e = rw e (natural_written most (48 ∷ []) ∙ rw (leb-zero most))
-  written_zero (b ∷ c ∷ f) h e = absurd (omega arith)
+    pub written_digits : (first ≡ 48 → length f ≡ 0) → written_in most (number_of s) ≡ digits_in most 0 s
+    written_digits n =
+        rw e
+        (natural_written most (first ∷ f)
+        ∙ ap (λ (t : Bool). bounded most t (value_from 0 (first ∷ f))) (natural_all first f n)
+        ∙ sym (digits_bounded most 0 (first ∷ f) (omega arith)))

@@ -1,10 +1,11 @@
 -- Reading one field at a place of the sheet: what the reader's inner functions answer. These are definitions; nothing is assumed.
-use Rattle.std.specs.Prelude.{Bool, false, cond, ◌&&◌, List, [], ◌∷◌, ℕ, ◌+◌, ◌-◌, ◌*◌, leb, ltb, eqb, length, Option, Some, None}
+use Rattle.std.specs.Prelude.{Bool, false, cond, ◌&&◌, List, [], ◌∷◌, ℕ, ◌+◌, ◌-◌, ◌*◌, leb, ltb, length, Option, Some, None}
+use Rattle.std.specs.Option.{option_and_then}
 use Rattle.text.specs.Decimal.{Number, plain, minus}
 use Rattle.kinds.specs.declared.Kind.{Kind}
 use Rattle.kinds.specs.Kinds.{kind_at, kind_of, kind_count}
 use Rattle.fields.specs.Numbers.{Numeral, numeral, unwritten, number_of, is_digit, up_to, magnitude}
-use Rattle.fields.specs.Blanks.{Field, field, endless, until_blank, blank}
+use Rattle.fields.specs.Blanks.{Field, field, endless, until_blank, front_to}
 use Rattle.fields.specs.declared.Scanned.{Scanned}
 
 -- what reading a field answers, and a field that is read
@@ -57,11 +58,9 @@ abbrev pub ended_at : {A : Type 0} → ℕ → Option A → FieldRead A
 ended_at next (Some v) = sound v next
 ended_at next None = None
 
--- a single digit, and the space after it
-unfoldable pub is_lone : List ℕ → Bool
-is_lone [] = false
-is_lone (b ∷ []) = false
-is_lone (b ∷ c ∷ bs) = is_digit b && eqb c blank
+-- the number from 0 to most that the bytes before a stop write, at the front of bytes that stand at a place, and the place after the stop
+unfoldable pub written_at : ℕ → ℕ → ℕ → List ℕ → FieldRead ℕ
+written_at stop most at s = option_and_then (λ f. ended_at (at + length f + 1) (written_in most (number_of f))) (front_to stop s)
 
 -- the kind whose name has a place among the names; none past their end
 abbrev pub kind_named : ℕ → Option Kind

@@ -1,8 +1,9 @@
 // Number fields of a sheet: digits without a leading zero, a minus only before a nonzero number, then one space.
+// `as` where a value is known to be at most `most`: a `TryFrom` would never fail.
 ghost use Rattle.std.specs.Prelude.{◌≡◌, ◌+◌, ◌-◌, ◌*◌, ◌≤◌, drop};
 ghost use Rattle.text.specs.Decimal.{shift, shifted};
 ghost use Rattle.fields.specs.Numbers.{number_of, up_to, within, magnitude};
-ghost use Rattle.fields.specs.Reading.{digits_in, written_in, from_to, number_read, is_lone};
+ghost use Rattle.fields.specs.Reading.{digits_in, written_in, written_at, from_to, number_read};
 
 use super::Scanned;
 use super::places::field_at;
@@ -29,44 +30,40 @@ fn digits_in(field: &[u8], most: u32) -> Option<u32>
 pub fn written_in(field: &[u8], most: u32) -> Option<u32>
     ensures { result ≡ written_in most (number_of field.now) }
 {
-    if field.is_empty() {
+    let (first, after) = field.split_first()?;
+    let led_by_zero = *first == b'0';
+    if led_by_zero && !after.is_empty() {
         return None;
     }
-    let led_by_zero = field[0] == b'0';
-    if !led_by_zero {
-        return digits_in(field, most);
-    }
-    let goes_on = field.len() > 1;
-    if goes_on { None } else { Some(0) }
+    digits_in(field, most)
 }
 
-// Whether a single digit and its space stand at a place.
-#[tactic(auto, using(crate::proofs::Digits::lone_none, crate::proofs::Digits::lone_here))]
-fn lone_at(bytes: &[u8], at: usize) -> bool
-    ensures { result ≡ is_lone (drop at bytes.now) }
+// The number from 0 to most in the field that ends at the first byte of a value, and the place after that byte.
+pub fn number_at(bytes: &[u8], at: usize, stop: u8, most: u32) -> Option<Scanned<u32>>
+    ensures { result ≡ written_at stop most at (drop at bytes.now) }
 {
-    bytes.len() >= 2 && at <= bytes.len() - 2 && bytes[at + 1] == b' ' && bytes[at].is_ascii_digit()
+    let field = field_at(bytes, at, stop)?;
+    let value = written_in(field, most)?;
+    Some(Scanned {
+        value,
+        next: at + field.len() + 1,
+    })
 }
 
 // A number from 0 to most. A single digit, the commonest field of a sheet, is looked for first.
 pub fn natural_at(bytes: &[u8], at: usize, most: u32) -> Option<Scanned<u32>>
     ensures { result ≡ number_read (up_to most) magnitude at (drop at bytes.now) }
 {
-    if lone_at(bytes, at) {
-        let value = u32::from(bytes[at] - b'0');
-        if value > most {
-            return None;
-        }
-        return Some(Scanned {
-            value,
-            next: at + 2,
-        });
+    let Some([digit @ b'0'..=b'9', b' ', ..]) = bytes.get(at..) else {
+        return number_at(bytes, at, b' ', most);
+    };
+    let value = u32::from(*digit - b'0');
+    if value > most {
+        return None;
     }
-    let field = field_at(bytes, at, b' ')?;
-    let value = written_in(field, most)?;
     Some(Scanned {
         value,
-        next: at + field.len() + 1,
+        next: at + 2,
     })
 }
 
@@ -89,10 +86,8 @@ pub fn shifted_at(bytes: &[u8], at: usize, least: u32, most: u32) -> Option<Scan
 pub fn signed_at(bytes: &[u8], at: usize) -> Option<Scanned<u32>>
     ensures { result ≡ number_read (within shift) shifted at (drop at bytes.now) }
 {
-    if at >= bytes.len() {
-        return None;
-    }
-    if bytes[at] != b'-' {
+    let first = bytes.get(at)?;
+    if *first != b'-' {
         return shifted_at(bytes, at, 0, SHIFT);
     }
     let n = natural_at(bytes, at + 1, SHIFT)?;

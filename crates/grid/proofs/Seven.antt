@@ -15,7 +15,7 @@ use Rattle.positions.specs.Positions.{Row, all_rows}
 use Rattle.grid.specs.Grid.{is_column_edge, ends_of}
 use Rattle.grid.specs.inner.Numbering.{most_columns, numbered_rows, RowsNumbered}
 use Rattle.grid.specs.inner.Placing.{edge_of_rows}
-use Rattle.grid.proofs.Tiling.{or_right}
+use Rattle.lists.proofs.Tests.{or_right}
 
 -- the entries of rows end at their own edges
 own_edges : (rs : List Row) → all_at (is_column_edge rs) (ends_of rs) ≡ true

@@ -1,5 +1,8 @@
 // The grid of a table: its cells and fillers in columns, as `RenderTable::new` makes them. A table of which one is made is sound: no row ends past 4,096, and there are at most
 // 8,192 entries.
+// entries and rows are two slices: rows are read where entries are written, or both are lent; of a struct of them each function would have to
+// promise that they stay as long as they were. The place of the table stands beside the lines, as `table_rows` has the two.
+// `as` where a row's end becomes a `usize`, for which there is no `From`.
 #![tactic(auto)]
 
 ghost use Rattle.std.specs.Prelude.{◌≡◌, true, ◌-◌, ◌<◌, length};

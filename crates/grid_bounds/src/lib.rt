@@ -1,4 +1,6 @@
 // Whether neither refusal 5 nor refusal 6 can apply to the tables of a sheet, by a bound: one pass over lines, no grid and nothing lent.
+// The lines and the place of a table are two parameters, as `table_rows` has the two.
+// `as` where a limit, or what is at most one, becomes a number of 32 bits: a `TryFrom` would never fail.
 #![tactic(auto)]
 
 pub mod whole; // whole.rt: all tables of a sheet at once

@@ -2,14 +2,14 @@
 use mathlib.Core.Path.{◌≡◌, refl, sym, ap, ap₂, ◌∙◌}
 use mathlib.Core.Bool.{Bool, true, false, cond}
 use mathlib.Core.List.{List, ◌∷◌, map}
-use Prim.Native.Nat.{ℕ, suc, ◌+◌, ◌-◌, ◌*◌, ◌≤◌, ◌<◌, min}
+use Prim.Native.Nat.{ℕ, suc, ◌+◌, ◌-◌, ◌≤◌, ◌<◌, min}
 use lib.Dec.{eqb}
 use native.Mathlib.Decide.{ℕ_discrete}
 use native.Mathlib.Omega.{arith}
 use lib.ListN.{length, get_or, set, length-set}
 use lib.Seq.{get_or-set_same, get_or-set_other}
 use Rattle.lists.specs.Lists.{sum}
-use Rattle.lists.specs.Limits.{max_lines, max_cols, max_position}
+use Rattle.lists.specs.Limits.{max_position}
 use Rattle.records.specs.Kept.{no_kept}
 use Rattle.records.specs.declared.Kept.{Kept}
 use Rattle.cells.specs.Cells.{Cell, Frame, frame, cell, resolve_cell, cut_cell}
@@ -102,9 +102,6 @@ module _ {ks : List Kept} {d instead left reach₀ entries₀ : ℕ} {ends₀ : 
           }
 
       module _ (e : l.depth - (d + 2) ≡ 1) (wide : ℕ) (f : Filled l.cols instead wide) where
-        pub wide_small : wide ≤ max_lines * max_cols + 1 + max_cols
-        wide_small = omega (arith, f.small, t.small, t.lines.narrow j)
-
         abbrev c : ℕ → Cell
         c n = cut_cell left (resolve_cell instead (cell (j + n) l.cols l.rows))
 

@@ -1,5 +1,7 @@
 // Which of the refusals 5 and 6 applies to a table, by counting: how much hangs into each row and how many entries there are, without a grid. A row ends at
 // its own cols and the spans that hang into it; a slice tells for each row of a body how much ends with it.
+// The lines and the place of a table are two parameters, as `table_rows` has the two.
+// `as` where a figure becomes a `usize`, or a number of rows one of 32 bits: there is no `From`, and a `TryFrom` would never fail.
 #![tactic(auto)]
 
 ghost use Rattle.std.specs.Prelude.{◌≡◌, ℕ, ◌≤◌, ◌<◌, ◌+◌, min, length, get_or, set};
@@ -31,6 +33,7 @@ pub struct Body {
 const MANY: u32 = 8193;
 
 // Into how many rows a cell hangs, where `left` rows follow its own in the body.
+// `rows_within` of cells is alike: each is by its own definition.
 fn hangs_within(rows: u32, left: u32) -> u32
     ensures { Hanging left rows result }
 {

@@ -10,6 +10,7 @@ use native.Mathlib.Omega.{arith}
 use lib.Dec.{eqb}
 use lib.ListN.{length}
 use borrow.Author.Tests.{eq-eqb}
+use Rattle.lists.proofs.Tests.{or_right}
 use Rattle.lists.specs.Lists.{sum, mem, All}
 use Rattle.cells.specs.Cells.{Cell, Row}
 use Rattle.rows.specs.Row.{Item, item, item_span, item_of, items_end, row_from, hang_of, nexts}
@@ -58,10 +59,6 @@ rows_placed (r ∷ rs) h =
     ∙ ap (λ (l : List positions.Row). placed_row r ∷ l) (rows_placed rs h.1)
 
 -- ---- the edges: every position up to the end of the longest row
-
-or_right : (a b : Bool) → b ≡ true → (a || b) ≡ true
-or_right true b e = refl
-or_right false b e = e
 
 row_edge : (q p k : ℕ) (cs : List Cell) → p < q → q ≤ p + length cs → mem q (ends_from p (map item_span (items k cs))) ≡ true
 unfolding mem ends_from

@@ -1,7 +1,7 @@
 -- The loop of `try_row` on plain lists: the cells so far are plain, and with those of the lines still to come they are the row's; their entries stand after
 -- those before. Assumes nothing.
 use mathlib.Core.Path.{◌≡◌, refl, sym, ap, subst, ◌∙◌}
-use mathlib.Core.Bool.{Bool, true, false, ◌&&◌, false≢true}
+use mathlib.Core.Bool.{true, false, ◌&&◌}
 use mathlib.Core.List.{List, [], ◌∷◌, ◌++◌, map, append_assoc, append-nil}
 use Prim.{tt}
 use Prim.Native.Nat.{ℕ, suc, ◌+◌, ◌≤◌, ◌<◌}
@@ -11,6 +11,7 @@ use lib.ListN.{length, get_or, set, take, length-append, length-set}
 use lib.Dec.{eqb}
 use lib.Seq.{take-suc-set}
 use borrow.Author.Tests.{eqb-true}
+use Rattle.lists.proofs.Tests.{both}
 use Rattle.lists.specs.Lists.{All}
 use Rattle.lists.specs.Limits.{max_entries}
 use Rattle.lists.proofs.All.{all_append}
@@ -28,10 +29,6 @@ use Rattle.grid_plain.specs.Plain.{Plain, plain_entries}
 use Rattle.grid_plain.specs.inner.Walking.{lines_from, cells_from, RowReady, RowDone, RowWalked}
 
 -- ---- a test's outcome
-
-both : (a b : Bool) → (a && b) ≡ true → (a ≡ true) × (b ≡ true)
-both true b h = (refl, h)
-both false b h = absurd (false≢true h)
 
 pub both_one : (a b : ℕ) → (eqb a 1 && eqb b 1) ≡ true → (a ≡ 1) × (b ≡ 1)
 both_one a b h = let w = both (eqb a 1) (eqb b 1) h in (eqb-true a 1 w.0, eqb-true b 1 w.1)

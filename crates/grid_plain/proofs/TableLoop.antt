@@ -8,7 +8,7 @@ use Prim.Native.Nat.{ℕ, suc, ◌+◌, ◌≤◌, ◌<◌, max}
 use native.Mathlib.Decide.{dec_lt}
 use native.Mathlib.Numerals.{add-one}
 use native.Mathlib.Omega.{arith}
-use lib.ListN.{length, get_or, set, take, drop, length-append, length-set, length-map, get_or-eq_default}
+use lib.ListN.{length, get_or, set, take, drop, length-append, length-set, length-map}
 use lib.Dec.{ltb}
 use lib.Seq.{take-suc-set}
 use borrow.Author.Tests.{ltb-true}
@@ -28,6 +28,7 @@ use Rattle.grid.specs.Grid as grid
 use Rattle.gridding.specs.declared.Counts.{Counts}
 use Rattle.gridding.specs.Records.{shown, ended_rows, TableReady, TableMade}
 use Rattle.gridding.specs.Records as records
+use Rattle.cells.proofs.Listing.{step_on}
 use Rattle.grid_plain.specs.declared.RowCells.{RowCells}
 use Rattle.std.specs.Prelude.{Some}
 use Rattle.grid_plain.specs.Plain.{PlainRow, PlainTable, plain_entries, plain_row, plain_grid, most_cells}
@@ -88,15 +89,6 @@ grid_entries (r ∷ rs) =
 -- the rows that the lines still to come hold
 abbrev still : Frame → List Row
 still f = f.rows ++ joined f.bodies
-
--- a line is at most one deeper than the one before it, also where there is none
-step_on : (ks : List Kept) → ((k : ℕ) → k + 1 < length ks → (get_or ks (k + 1) no_kept).depth ≤ (get_or ks k no_kept).depth + 1)
-    → (k : ℕ) → (get_or ks (k + 1) no_kept).depth ≤ (get_or ks k no_kept).depth + 1
-step_on ks h k = at (dec_lt (k + 1) (length ks))
-  where
-    at : Dec (k + 1 < length ks) → (get_or ks (k + 1) no_kept).depth ≤ (get_or ks k no_kept).depth + 1
-    at (yes g) = h k g
-    at (no g) = rw (get_or-eq_default ks no_kept {n = k + 1} (omega arith)) (omega arith)
 
 -- a line that the loop's test lets pass is deeper than the table
 pub test_deep : (ks : List Kept) (at i : ℕ) {d : ℕ} {b : Bool} → d ≡ (get_or ks at no_kept).depth → b ≡ ltb d (get_or ks i no_kept).depth → b ≡ true

@@ -1,5 +1,9 @@
 // The grid of a table, made where it is used, as records of its entries and rows. A plain table, in which every cell takes one column and one row, is
 // made in one pass over its lines and without edges: the column of an entry is its place in its row.
+// entries and rows are two slices: of a struct of both each function would have to promise that they stay as long as they were. They are filled from
+// the front, beside counts: a `Vec` needs a heap.
+// The place of a table or a row stands beside the lines: a line's place says its number, which goes into the records.
+// `as` where a place or a count is known to fit 32 bits: a `TryFrom` would never fail.
 #![tactic(auto)]
 
 ghost use Rattle.std.specs.Prelude.{◌≡◌, ◌&&◌, eqb};

@@ -21,12 +21,12 @@ front_is d xs ys h e =
     ext_get_or d (take (length ys) xs) ys (length-take-le (length ys) xs h)
     (λ k l. let b : k < length ys = omega (arith, length-take-le (length ys) xs h) in get_or-take (length ys) xs k d b ∙ e k b)
 
-ended_lines : (n : ℕ) (g : List GridRow) → map row_line (ended_rows n g) ≡ map grid_line g
+pub ended_lines : (n : ℕ) (g : List GridRow) → map row_line (ended_rows n g) ≡ map grid_line g
 unfolding ended_rows
 ended_lines n [] = refl
 ended_lines n (r ∷ rs) = ap (λ (l : List ℕ). r.line ∷ l) (ended_lines (n + length r.entries) rs)
 
-ended_ends : (n : ℕ) (g : List GridRow) → map row_end (ended_rows n g) ≡ row_ends n g
+pub ended_ends : (n : ℕ) (g : List GridRow) → map row_end (ended_rows n g) ≡ row_ends n g
 unfolding ended_rows row_ends
 ended_ends n [] = refl
 ended_ends n (r ∷ rs) = ap (λ (l : List ℕ). (n + length r.entries) ∷ l) (ended_ends (n + length r.entries) rs)

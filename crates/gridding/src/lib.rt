@@ -1,5 +1,8 @@
 // The grid of one table, made where it is used, as records of its entries and rows. Room to work in is its own, of three sizes, by the lines of
 // the table alone: it is cleared for each table, and for a small table a short one does.
+// entries and rows are two slices where they are written: of a struct of both each function would have to promise that they stay as long.
+// The place of the table stands beside the lines: a line's place says its number, which goes into the records.
+// `TableReady` is asked in four contracts: it is of the place and the slices that are written to, and goes on with them (docs/DESIGN-PASS.md).
 #![tactic(auto)]
 
 ghost use Rattle.std.specs.Prelude.{◌≡◌, ◌-◌, ◌*◌, ◌≤◌, ◌<◌, length};

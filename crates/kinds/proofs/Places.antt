@@ -8,9 +8,6 @@ use mathlib.Core.Bool.{false}
 use lib.Dec.{eqb}
 use lib.ListN.{get_or, get_or-map}
 use borrow.Author.Tests.{ne_eqb}
-use denote.Enum.Enum.{tag_below}
-use denote.Enum.Declared.{variants}
-use Rattle.kinds.specs.contracts.Kind.{the_type}
 use Rattle.kinds.specs.Kinds.{kinds, kind_number, kind_at, kind_count}
 use Rattle.kinds.specs.declared.Kind.{Kind}
 use Rattle.kinds.specs.declared.Kind.TheVariants.{Text, Img, Svg, Container, Link, Em, Strong, Strike, Code, Block, Head, Div, Quote, Ul, Ol, Dl, Dt, Dd, Break, Table, Body, Row, Cell, Frag, Item, Sup, Calc}
@@ -57,9 +54,6 @@ at_of_number Frag = refl
 at_of_number Item = refl
 at_of_number Sup = refl
 at_of_number Calc = refl
-
-pub number_below : (k : Kind) → kind_number k < kind_count
-number_below k = tag_below (variants the_type) (the_type.to k)
 
 -- kinds of one place are the same, and others have other places
 pub same_number : (k l : Kind) → kind_number k ≡ kind_number l → k ≡ l

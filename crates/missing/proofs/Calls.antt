@@ -7,9 +7,7 @@ use mathlib.Core.Path.{◌≡◌, refl, sym, ◌∙◌}
 use mathlib.Core.List.{List, [], ◌∷◌}
 use Prim.Native.Nat.{ℕ, ◌≤◌}
 use native.Mathlib.Omega.{arith}
-use lib.Dec.{ltb}
 use lib.ListN.{length, take}
-use borrow.Author.Tests.{ltb-false}
 use Rattle.lists.specs.Lists.{padded}
 use Rattle.lists.specs.Limits.{max_lines, max_entries}
 use Rattle.lists.specs.Refusals.{Check, first_answer, verdict_of, if_passes}
@@ -19,7 +17,7 @@ use Rattle.arguments.specs.Arguments.{any_shorter, missing_arguments}
 use Rattle.arguments.specs.declared.Settings.{Settings}
 use Rattle.arguments.specs.Asked.{Asks, verdict_in}
 use Rattle.arguments.proofs.Opened.{opened}
-use Rattle.arguments.proofs.Shorter.{or_false}
+use Rattle.arguments.proofs.Shorter.{one_fit}
 use Rattle.sheet_figures.specs.Figures.{columns_at}
 use Rattle.sheet_figures.specs.inner.Early.{early}
 use Rattle.sheet_figures.proofs.Early.{early_nines, none_nines, fits, leaving}
@@ -51,10 +49,9 @@ missing_opened {asked} {cs} {s} {line} {wrap} {raw} {width} {r} {entry} {cause} 
 -- where the arguments are not refused, each lent buffer has room
 fit : (wrap raw width : ℕ) (v : Result (Unit {0}) Refusal) (a b : ℕ) → v ≡ verdict_of (missing_arguments wrap raw width (a ∷ []) (b ∷ [])) → v ≡ (Ok tt)
     → (max_entries ≤ a) × (max_lines ≤ b)
-unfolding any_shorter
 fit wrap raw width v a b judged z =
     let (p, q) = neither (any_shorter max_entries (a ∷ [])) (any_shorter max_lines (b ∷ [])) (none_nines _ _ (sym judged ∙ z)).1 in
-    (ltb-false a max_entries (sym (or_false (ltb a max_entries)) ∙ p), ltb-false b max_lines (sym (or_false (ltb b max_lines)) ∙ q))
+    (one_fit max_entries a p, one_fit max_lines b q)
 
 pub missing_fit : (wrap raw width : ℕ) (v : Result (Unit {0}) Refusal) (entry cause : List ℕ) → v ≡ verdict_of (missing_arguments wrap raw width (for_one entry) (for_one cause))
     → v ≡ (Ok tt) → ExplainRoom entry cause

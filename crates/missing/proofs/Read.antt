@@ -6,18 +6,14 @@ use mathlib.Core.Path.{◌≡◌, sym, ap, ◌∙◌}
 use mathlib.Core.List.{List}
 use Prim.Native.Nat.{ℕ, ◌+◌, ◌-◌}
 use native.Mathlib.Omega.{arith}
-use lib.ListN.{length, take}
+use lib.ListN.{take}
 use Rattle.text.specs.declared.Estimate.{Estimate}
 use Rattle.records.specs.declared.Kept.{Kept}
 use Rattle.sheet.proofs.First.{first_passes, figures_pass, figures_fail}
 use Rattle.opening.specs.Opening.{open_checks, opened_of}
 use Rattle.sheet_figures.specs.inner.Opened.{LinesOf}
 use Rattle.sheet_figures.proofs.Openings.{failed, told, opened_passed, opened_apt}
-use Rattle.missing.specs.inner.Found.{ExplainRoom, missed_total, column_total, MissingMade, MissingFound}
-
--- buffers that are as long as they were have the same room
-pub room_still : {entry entry' cause cause' : List ℕ} → length entry' ≡ length entry → length cause' ≡ length cause → ExplainRoom entry cause → ExplainRoom entry' cause'
-room_still e f o = record { entry_room = omega (arith, o.entry_room); cause_room = omega (arith, o.cause_room) }
+use Rattle.missing.specs.inner.Found.{missed_total, column_total, MissingMade, MissingFound}
 
 -- ---- of the table asked for
 

@@ -1,4 +1,5 @@
 // The missing entries and the causes of one table of a measured sheet: its grid is made first.
+// entries and rows are two slices where they are written; read, they are `Records`.
 ghost use Rattle.std.specs.Prelude.{◌≤◌, length};
 ghost use Rattle.table.specs.inner.Room.{GridRoom};
 ghost use Rattle.missing.specs.inner.Found.{ExplainRoom, MissingMade};

@@ -15,7 +15,7 @@ use lib.ListN.{length, get_or, take}
 use lib.Seq.{get_or-take}
 use borrow.Author.Tests.{ltb-false}
 use Rattle.lists.specs.Lists.{padded}
-use Rattle.lists.specs.Limits.{max_lines, max_entries, max_size, max_wrap, max_width}
+use Rattle.lists.specs.Limits.{max_size, max_wrap, max_width}
 use Rattle.lists.specs.Refusals.{Check, first_answer, verdict_of, passes, if_passes}
 use Rattle.text.specs.declared.Estimate.{Estimate}
 use Rattle.sheet.specs.Sheet.{sheet_lines}
@@ -27,18 +27,19 @@ use Rattle.opening.proofs.Answers.{table_apt}
 use Rattle.opening.proofs.Opens.{opened_asked}
 use Rattle.table.specs.inner.Asked.{OutRoom}
 use Rattle.table.proofs.Grids.{all_cells}
-use Rattle.arguments.specs.Arguments.{any_shorter, walk_settings, nested_arguments}
+use Rattle.arguments.specs.Arguments.{walk_settings, nested_arguments}
 use Rattle.arguments.specs.declared.Settings.{Settings}
 use Rattle.arguments.specs.Asked.{Asks, verdict_in}
 use Rattle.arguments.proofs.Opened.{opened}
-use Rattle.arguments.proofs.Shorter.{two_fit, or_false}
+use Rattle.arguments.proofs.Shorter.{layout_fits}
 use Rattle.sheet_figures.specs.inner.Opened.{LinesOf}
 use Rattle.call_layout.specs.inner.Found as layouts
 use Rattle.call_layout.specs.inner.Made.{LayoutMade}
+use Rattle.call_layout.proofs.Answers.{counts_fit}
 use Rattle.call_layout.proofs.Found.{layout_found}
 use Rattle.call_layout.specs.Layout.{for_columns, for_places}
 use Rattle.sheet_figures.specs.inner.Early.{early}
-use Rattle.sheet_figures.proofs.Early.{early_nines, none_nines, fits, leaving}
+use Rattle.sheet_figures.proofs.Early.{early_nines, none_nines, leaving}
 use Rattle.walking.specs.inner.Steps.{AtMost}
 use Rattle.nested.specs.Nested.{width_to, told_at, columns_for, xs_for, wides_for, nested_checks, nested_of, NestedAnswer}
 use Rattle.pacing.specs.inner.Found.{walked_checks, SheetWalked}
@@ -235,18 +236,10 @@ raw_low wrap raw width overflow cs e =
     let (c, d) = neither (ltb max_wrap wrap || ltb 1 raw) (ltb max_width width) a in
     ltb-false 1 raw (neither (ltb max_wrap wrap) (ltb 1 raw) c).1
 
-fit : (wrap raw width overflow : ℕ) (v : Result (Unit {0}) Refusal) (a b c : ℕ) → v ≡ verdict_of (nested_arguments wrap raw width overflow (a ∷ []) (b ∷ c ∷ [])) → v ≡ (Ok tt)
-    → (max_lines ≤ a) × (max_entries ≤ b) × (max_entries ≤ c)
-unfolding any_shorter
-fit wrap raw width overflow v a b c judged z =
-    let (p, q) = neither (any_shorter max_lines (a ∷ [])) (any_shorter max_entries (b ∷ c ∷ [])) (none_nines _ _ (sym judged ∙ z)).1 in
-    let (f, g) = two_fit max_entries b c q in
-    (ltb-false a max_lines (sym (or_false (ltb a max_lines)) ∙ p), f, g)
-
 pub nest_fit : (wrap raw width overflow : ℕ) (v : Result (Unit {0}) Refusal) (column x wide : List ℕ)
     → v ≡ verdict_of (nested_arguments wrap raw width overflow (for_columns column) (for_places x wide)) → v ≡ (Ok tt) → OutRoom column x wide
 nest_fit wrap raw width overflow v column x wide judged z =
-    let (a, b, c) = fit wrap raw width overflow v (length column) (length x) (length wide) judged z in
+    let (a, b, c) = layout_fits (length column) (length x) (length wide) (none_nines _ _ (sym judged ∙ z)).1 in
     record { column_room = a; x_room = b; wide_room = c }
 
 pub nest_rooms : {s : List ℕ} {line : ℕ} (wrap raw width overflow : ℕ) {v : Result (Unit {0}) Refusal} (a b c : ℕ) {r : Result (Option Nested) Refusal} {column x wide : List ℕ} (ds : List Check)
@@ -254,13 +247,8 @@ pub nest_rooms : {s : List ℕ} {line : ℕ} (wrap raw width overflow : ℕ) {v 
     → (columns_in r ≤ a) × (entries_in r ≤ b) × (entries_in r ≤ c)
 unfolding columns_in entries_in
 nest_rooms wrap raw width overflow {v} a b c {r} ds judged found =
-    let f = fit wrap raw width overflow v a b c judged in
-    let g : (room : ℕ) → (v ≡ (Ok tt) → max_entries ≤ room) → entries_in r ≤ room =
-    λ room. fits Err _ entries_in (λ why. refl) v ds r max_entries room found.answer found.few_entries in (
-      fits Err _ columns_in (λ why. refl) v ds r max_lines a found.answer found.few_columns (λ z. (f z).0),
-      g b (λ z. (f z).1),
-      g c (λ z. (f z).2),
-    )
+    counts_fit columns_in entries_in (λ why. refl) (λ why. refl) _ v ds r found.answer found.few_columns found.few_entries
+    (λ z. layout_fits a b c (none_nines _ _ (sym judged ∙ z)).1)
 
 module _ {s : List ℕ} {line wrap raw width overflow : ℕ} {v : Result (Unit {0}) Refusal} {column₀ x₀ wide₀ : List ℕ} {r : Result (Option Nested) Refusal} {column x wide : List ℕ}
     (judged : v ≡ verdict_of (nested_arguments wrap raw width overflow (for_columns column₀) (for_places x₀ wide₀)))

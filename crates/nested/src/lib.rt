@@ -1,5 +1,7 @@
 // The call `nested`: the layout of one table at the width that the walk gives it. It asks its arguments first; then what is found in the sheet stands
 // in the lent buffers, and in the end it clears what is no figure. A refused call clears all.
+// wrap, raw, width and overflow, and each buffer, are a parameter, as the C interface hands them over, down to the function that writes.
+// `as` where a count or a place becomes a `usize`, for which there is no `From`.
 #![tactic(auto)]
 
 mod nesting; // one table, laid out at the width that the walk gives it

@@ -14,6 +14,8 @@ use lists::{MAX_ENTRIES, MAX_LINES, Refusal};
 use table::MeasuredTable;
 
 // A table laid out at the width that the walk gives it, if it gives one.
+// raw and width are two parameters: the width is the table's own, and not that of the settings.
+// The arrays are declared here: no function can hand out slices of its own.
 fn nest(
     t: MeasuredTable<'_>,
     width: Option<u32>,
@@ -35,6 +37,7 @@ fn nest(
 }
 
 // That of the table in a line of a sheet. The columns' widths are written last, and until then their buffer is room to work in.
+// The arrays are declared here: no function can hand out slices of its own.
 fn nest_sheet(
     sheet: &[u8],
     line: u32,

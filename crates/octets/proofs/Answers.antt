@@ -127,14 +127,6 @@ low_all (d ∷ ds) (p, a) e = (omega arith, low_all ds a (omega arith))
 pub low_of : (ds : List ℕ) → Octets ds → as_number (map top ds) ≡ 0 → Low ds
 low_of ds o e = record { long = o.long; small = low_all ds o.small e }
 
-low_each : (ds : List ℕ) → All (λ d. d < 128) ds → as_number ds ≤ as_number (map (λ (d : ℕ). 127) ds)
-unfolding All
-low_each [] a = omega arith
-low_each (d ∷ ds) (p, a) = omega (arith, low_each ds a)
-
-pub low_le : (ds : List ℕ) → Low ds → as_number ds ≤ 9187201950435737471
-low_le ds o = omega (arith, low_each ds o.small, each_eight 127 ds o.long)
-
 -- a front of the first eight bytes is a front
 pub front_more : (t : List ℕ) (gap : ℕ) (r : Plain) → PlainFront (take 8 t) gap r → 8 ≤ length t → PlainFront t gap r
 front_more t gap r z h =

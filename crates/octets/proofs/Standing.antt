@@ -1,14 +1,15 @@
 -- Eight bytes that stand at a place: bytes of one number are the same bytes. Assumes nothing.
 use mathlib.Core.Path.{◌≡◌, refl, sym, ap, ap₂, ◌∙◌}
-use mathlib.Core.Bool.{Bool, true, false, ◌&&◌, false≢true}
+use mathlib.Core.Bool.{Bool, true, ◌&&◌}
 use mathlib.Core.List.{List, [], ◌∷◌, ◌++◌}
 use Prim.Native.Nat.{ℕ, ◌+◌, ◌≤◌, ◌<◌}
-use native.Mathlib.Numerals.{add-one}
 use native.Mathlib.Omega.{arith}
 use lib.Dec.{ltb}
 use lib.ListN.{length, get_or, take, drop, take-append-drop}
-use lib.Seq.{drop-cons, drop-drop, take-take}
+use lib.Seq.{drop-drop, take-take}
 use borrow.Author.Tests.{ltb-true}
+use Rattle.std.proofs.lemmas.List.{drop_more}
+use Rattle.lists.proofs.Tests.{both}
 use Rattle.lists.specs.Lists.{All}
 use Rattle.octets.specs.inner.Digits.{as_number, Eight}
 
@@ -25,10 +26,6 @@ same_bytes (a ∷ cs) (b ∷ bs) n (p, ps) (q, qs) e =
     let others : as_number cs ≡ as_number bs = omega arith in
     ap₂ (λ (x : ℕ) (xs : List ℕ). x ∷ xs) first (same_bytes cs bs (omega arith) ps qs others)
 
--- the bytes from a place on, one by one
-from_next : (s : List ℕ) (i : ℕ) → i < length s → drop i s ≡ get_or s i 0 ∷ drop (i + 1) s
-from_next s i h = drop-cons s i 0 h ∙ rw (add-one i)
-
 abbrev pub eight_of : List ℕ → ℕ → List ℕ
 eight_of s at =
     get_or s at 0 ∷ get_or s (at + 1) 0 ∷ get_or s (at + 2) 0 ∷ get_or s (at + 3) 0 ∷ get_or s (at + 4) 0 ∷ get_or s (at + 5) 0 ∷ get_or s (at + 6) 0 ∷ get_or s (at + 7) 0 ∷ []
@@ -42,20 +39,20 @@ eight_here s at h =
     let n₆ : at + 5 + 1 ≡ at + 6 = omega arith in
     let n₇ : at + 6 + 1 ≡ at + 7 = omega arith in
     rw (
-      from_next s at (omega arith),
-      from_next s (at + 1) (omega arith),
+      drop_more s at 0 (omega arith),
+      drop_more s (at + 1) 0 (omega arith),
       n₂,
-      from_next s (at + 2) (omega arith),
+      drop_more s (at + 2) 0 (omega arith),
       n₃,
-      from_next s (at + 3) (omega arith),
+      drop_more s (at + 3) 0 (omega arith),
       n₄,
-      from_next s (at + 4) (omega arith),
+      drop_more s (at + 4) 0 (omega arith),
       n₅,
-      from_next s (at + 5) (omega arith),
+      drop_more s (at + 5) 0 (omega arith),
       n₆,
-      from_next s (at + 6) (omega arith),
+      drop_more s (at + 6) 0 (omega arith),
       n₇,
-      from_next s (at + 7) (omega arith),
+      drop_more s (at + 7) 0 (omega arith),
     )
 
 pub eight_stands : (s : List ℕ) (at r : ℕ) → at + 8 ≤ length s → ((i : ℕ) → get_or s i 0 < 256) → r ≡ as_number (eight_of s at) → Eight s at r
@@ -80,10 +77,6 @@ all_bytes : (bs : List ℕ) → bytes bs ≡ true → All byte bs
 unfolding All
 all_bytes [] e = tt
 all_bytes (b ∷ bs) e = let (p, q) = both (ltb b 256) (bytes bs) e in (ltb-true b 256 p, all_bytes bs q)
-  where
-    both : (x y : Bool) → (x && y) ≡ true → (x ≡ true) × (y ≡ true)
-    both true y e = (refl, e)
-    both false y e = absurd (false≢true e)
 
 pub stand_given : {s : List ℕ} {at r : ℕ} → Eight s at r → (bs : List ℕ) → length bs ≡ 8 → bytes bs ≡ true → r ≡ as_number bs → take 8 (drop at s) ≡ bs
 stand_given e bs n p q = stand e bs n (all_bytes bs p) q

@@ -1,4 +1,7 @@
 // Eight bytes at once, as one number: they are its digits in base 256, the first lowest. The compiled code takes them in one step.
+// The bytes and a place are two parameters, as in `drop at bytes`: a struct of both is three words, which are handed over by their address.
+// `w ≤ all_low` and `gap ≤ 1` are asked in three contracts each: a type of one number would be opened again at each call (docs/DESIGN-PASS.md).
+// `as` where a count, a size or a gap is known to be small: a `TryFrom` would never fail.
 #![tactic(auto)]
 
 ghost use Rattle.std.specs.Prelude.{◌≡◌, List, ℕ, ◌+◌, ◌*◌, ◌≤◌, length, drop};

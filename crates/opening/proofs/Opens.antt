@@ -1,7 +1,7 @@
 -- A sheet opened: the reader's answer with what is asked after it, and what is kept. Assumes nothing.
 use Rattle.records.specs.declared.Kept.{Kept}
 use Rattle.lists.specs.declared.Refusal.{Refusal}
-use Rattle.std.specs.Prelude.{Err, Ok, Result, Option, None, Some}
+use Rattle.std.specs.Prelude.{Err, Ok, Result, Option, Some}
 use mathlib.Core.Path.{◌≡◌, refl, sym, ap, ◌∙◌}
 use mathlib.Core.Bool.{Bool, true, false, not}
 use mathlib.Core.List.{List, ◌++◌}
@@ -14,7 +14,6 @@ use Rattle.sheet.specs.Reading.{reading_of, Reads}
 use Rattle.sheet.proofs.First.{passes_both, both_true, first_accepts, first_passes, passes_append}
 use Rattle.sheet.proofs.Accepted.{refused_carries, accepted_leaves}
 use Rattle.sheet.proofs.Bounds.{accepted_lines}
-use Rattle.grid.specs.Grid.{tables_checks}
 use Rattle.opening.specs.Opening.{kept_lines, is_table, after_reading, opened_of}
 use Rattle.opening.specs.inner.Opened.{TablesOpened, Opened}
 use Rattle.opening.proofs.Ready.{kept_count_lem}
@@ -36,14 +35,6 @@ module _ (asked : Option ℕ) (s : List ℕ) (n : ℕ) (e : opened_of asked s �
   pub opened_reads : reading_of s ≡ Ok n
   unfolding reading_of
   opened_reads = first_passes Err (Ok (length (sheet_lines s))) (sheet_checks s) opened_parts.0 ∙ opened_all.1
-
-  pub opened_tables : passes (tables_checks 1 (kept_lines s)) ≡ true
-  unfolding after_reading
-  opened_tables = by asked opened_parts.1
-    where
-      by : (o : Option ℕ) → passes (after_reading o (kept_lines s)) ≡ true → passes (tables_checks 1 (kept_lines s)) ≡ true
-      by (Some line) p = (passes_both _ _ p).1
-      by None p = p
 
   -- the line that is asked for is a table
   pub opened_asked : (line : ℕ) → asked ≡ Some line → is_table (kept_lines s) line ≡ true

@@ -1,4 +1,6 @@
 // A sheet opened: it is read, and every table of it is checked. All calls begin with this.
+// That a slice has room for the lines of a sheet, `room_for`, is asked where it is lent, and goes on with it (docs/DESIGN-PASS.md).
+// `as` where a line or a number of line feeds becomes a `usize`, for which there is no `From`.
 #![tactic(auto)]
 
 pub mod measuring; // measuring.rt: the lines measured too

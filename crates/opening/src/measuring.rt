@@ -1,5 +1,6 @@
 // A sheet opened, and its lines measured: all of them, or those below one table, which is all that its layout needs. The grids of the tables among them are
 // made in lent scratch.
+// lines and figures are two slices: both are written, and nothing is known of them before. entries and rows are lent on as scratch.
 ghost use Rattle.std.specs.Prelude.{◌≡◌, true, ◌≤◌, length};
 ghost use Rattle.lists.specs.Limits.{max_entries, max_lines};
 ghost use Rattle.sheet.specs.Steps.{room_for};

@@ -1,4 +1,5 @@
 // A sheet opened, measured and walked.
+// lines and figures are two slices: both are written, and nothing is known of them before.
 #![tactic(auto)]
 
 ghost use Rattle.std.specs.Prelude.{◌≤◌, length};
@@ -14,6 +15,7 @@ use text::Estimate;
 use walking::{Measured, Scratch};
 
 // Opens and measures a sheet. The last slice is scratch.
+// The arrays are declared here: no function can hand out slices of its own.
 fn open_measured(
     sheet: &[u8],
     asked: Option<u32>,
@@ -42,6 +44,7 @@ fn open_measured(
 }
 
 // Walks the lines of a measured sheet. All tables are laid out in the same arrays.
+// The arrays are declared here: no function can hand out slices of its own.
 fn walk_lines(m: Measured<'_>, settings: Settings, walk: &mut [Option<u32>]) -> Result<(), Refusal>
     requires { length m.lines.now ≤ length walk.old }
     ensures { steps.Walked m.entry.lines.now m.entry.figures.now settings.raw settings.width settings.overflow result walk.new }

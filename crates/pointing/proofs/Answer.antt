@@ -1,7 +1,7 @@
 -- Of any row, the answer is right: a cell covers the column, a gap lies between two printed cells, and nothing means that neither is there. By
 -- induction on the row: what holds of the entries after the first holds of all, if the first neither covers the column nor ends there.
 -- Assumes nothing.
-use mathlib.Core.Bool.{Bool, true, false, cond, ◌&&◌}
+use mathlib.Core.Bool.{Bool, true, false, cond}
 use mathlib.Core.Path.{◌≡◌, refl, sym, ◌∙◌}
 use mathlib.Core.List.{List, [], ◌∷◌}
 use Prim.Native.Nat.{ℕ, zero, suc, ◌+◌, ◌≤◌, ◌<◌}
@@ -10,21 +10,16 @@ use native.Mathlib.Omega.{arith}
 use lib.Dec.{eqb, leb, ltb}
 use lib.ListN.{length}
 use borrow.Author.Tests.{ltb-true, ltb-false, leb-true, eqb-true, lt-ltb, le-leb, eq-eqb}
+use Rattle.lists.proofs.Tests.{both}
 use Rattle.placing.specs.Place.{Placed}
 use Rattle.pointing.specs.Point.{past, covers, closes, some_printed, gap_before, pointed}
 use Rattle.pointing.specs.Exact.{entry, IsPrinted, Covers, Between}
 use Rattle.answers.specs.declared.Under.{Under}
 use Rattle.answers.specs.declared.Under.TheVariants.{Cell, Gap, Nothing}
 
--- ---- Bools
-
-pub both_true : (a b : Bool) → (a && b) ≡ true → (a ≡ true) × (b ≡ true)
-both_true true b e = (refl, e)
-both_true false b e = absurd (let z : ◌≡◌ {A = ℕ} 0 1 = cc in omega arith)
-
 pub covers_true : (p : Placed) (x : ℕ) → covers p x ≡ true → (p.x ≤ x) × (x < past p)
 covers_true p x e =
-    let t = both_true (leb p.x x) (ltb x (past p)) e in
+    let t = both (leb p.x x) (ltb x (past p)) e in
     (leb-true _ _ t.0, ltb-true _ _ t.1)
 
 pub true_covers : (p : Placed) (x : ℕ) → p.x ≤ x → x < past p → covers p x ≡ true
@@ -32,7 +27,7 @@ true_covers p x l h = rw (le-leb _ _ l, lt-ltb _ _ h)
 
 pub closes_true : (p : Placed) (x : ℕ) → closes p x ≡ true → (0 < p.width) × (past p ≡ x)
 closes_true p x e =
-    let t = both_true (ltb 0 p.width) (eqb (past p) x) e in
+    let t = both (ltb 0 p.width) (eqb (past p) x) e in
     (ltb-true _ _ t.0, eqb-true _ _ t.1)
 
 pub true_closes : (p : Placed) (x : ℕ) → 0 < p.width → past p ≡ x → closes p x ≡ true

@@ -1,5 +1,6 @@
 // What lies under the pointer in a row of a table that lies sideways. The entries of all rows stand in two slices, x and width of each. A sum
 // of x and width is nowhere taken, so that any figures do.
+// `as` where the place of an entry is known to fit 32 bits: a `TryFrom` would never fail.
 #![tactic(auto)]
 
 ghost use Rattle.std.specs.Prelude.{◌≡◌};
@@ -61,6 +62,7 @@ impl PlacedRow<'_> {
         ensures { result ≡ pointed self.now.first column (slice self.now.first self.now.end (placed self.now.x.now self.now.wide.now)) }
     {
         let mut ended = false;
+        // By place, which is the answer.
         for i in self.first..self.end {
             let w = self.wide[i];
             if ended {
@@ -100,6 +102,7 @@ impl PlacedRow<'_> {
         ensures { Listed self.now.first from to (slice self.now.first self.now.end (placed self.now.x.now self.now.wide.now)) entry.old result entry.new }
     {
         let mut n: usize = 0;
+        // By place, which is the number that is written: the slice is filled from its front beside a count, since a `Vec` needs a heap.
         for i in self.first..self.end {
             if lies_inside(self.x[i], self.wide[i], from, to) {
                 entry[n] = i as u32;

@@ -11,6 +11,7 @@ use native.Mathlib.Omega.{arith}
 use lib.Dec.{eqb}
 use lib.ListN.{length, get_or}
 use borrow.Author.Tests.{eq-eqb}
+use Rattle.lists.proofs.Tests.{or_right}
 use Rattle.lists.specs.Lists.{mem, All}
 use Rattle.lists.proofs.All.{all_map, all_weaken}
 use Rattle.cells.specs.Cells.{Cell, resolve_body, resolved}
@@ -101,13 +102,9 @@ mem_here : (x : ℕ) (xs : List ℕ) → mem x (x ∷ xs) ≡ true
 unfolding mem
 mem_here x xs = ap (λ (b : Bool). b || mem x xs) (eq-eqb x x refl)
 
-or_true : (a b : Bool) → b ≡ true → (a || b) ≡ true
-or_true true b e = refl
-or_true false b e = e
-
 mem_after : (x y : ℕ) (ys : List ℕ) → mem x ys ≡ true → mem x (y ∷ ys) ≡ true
 unfolding mem
-mem_after x y ys e = or_true (eqb x y) (mem x ys) e
+mem_after x y ys e = or_right (eqb x y) (mem x ys) e
 
 mem_behind : (x : ℕ) (xs ys : List ℕ) → mem x ys ≡ true → mem x (xs ++ ys) ≡ true
 mem_behind x [] ys e = e

@@ -18,7 +18,7 @@ use Rattle.sheet.proofs.First.{neither, first_append, first_accepts, first_refus
 use Rattle.placing.specs.Place.{Placed}
 use Rattle.opening.specs.Opening.{after_reading, open_checks}
 use Rattle.arguments.specs.Arguments.{settings_check, pointing_arguments, within_arguments}
-use Rattle.arguments.proofs.Shorter.{one_shorter}
+use Rattle.arguments.proofs.Shorter.{one_fit}
 use Rattle.sheet_figures.specs.Figures.{rows_at, boxes_at, way_at, widths_at}
 use Rattle.sheet_figures.specs.inner.Early.{early}
 use Rattle.pointing.specs.Point.{placed, pointed, listed}
@@ -80,7 +80,7 @@ room : (wrap raw width n : ℕ) {v : Result (Unit {0}) Refusal} → v ≡ verdic
 room wrap raw width n judged z =
     let (p, q) = passes_both (settings_check wrap raw width) _ (accepted_passes _ (sym judged ∙ z)) in
     let (p, q) = passes_both _ [] q in
-    ltb-false n max_entries (sym (one_shorter max_entries n) ∙ p)
+    one_fit max_entries n p
 
 accepted_early : (v : Result (Unit {0}) Refusal) → (early v).applies ≡ false → v ≡ (Ok tt)
 unfolding early

@@ -1,5 +1,7 @@
 // Pointing into the preview of a table that goes sideways: what lies at a character column of a row, which printed cells lie in a stretch of it, and
 // which character joins it to the next row. Each call asks its arguments first, then finds the row in the sheet, and passes over its entries once.
+// wrap, raw and width are a parameter each, as the C interface hands them over. x and wide are two slices, as placing writes them; `SpotFits` is of
+// both and the spot (docs/DESIGN-PASS.md). `as` where a number of entries is known to fit 32 bits: a `TryFrom` would never fail.
 #![tactic(auto)]
 
 ghost use Rattle.std.specs.Prelude.{◌≡◌, ℕ, ◌≤◌};
@@ -16,6 +18,7 @@ use pointing::PlacedRow;
 use spots::Span;
 
 // What lies under the pointer, with the cell's number in 32 bits.
+// No `From`: it could not ask that the number is small.
 fn told(under: Under<usize>) -> Under<u32>
     requires { (n : ℕ) → under ≡ Cell n → n ≤ max_entries }
     ensures { result ≡ under }
@@ -28,6 +31,7 @@ fn told(under: Under<usize>) -> Under<u32>
 }
 
 // What lies at the column of the row that was found.
+// Here and below a `PlacedRow` is written out: a function for it would have as many parameters as it has fields.
 #[tactic(auto, unfolding(crate::specs::inner::Said::pointed_by))]
 fn point_in(
     spot: Result<Span, Refusal>,
@@ -49,6 +53,7 @@ fn point_in(
 }
 
 // What lies at character column x of a row.
+// `joining` and `within` begin alike: one function with a closure would ask of it what `SpotFits` says, and promise what it answers.
 pub fn at(
     sheet: &[u8],
     line: u32,
@@ -95,6 +100,7 @@ fn join_in(
 }
 
 // The joining character at character column x between a row and the next.
+// Not one function with `at`, for the reason there.
 pub fn joining(
     sheet: &[u8],
     line: u32,
@@ -153,6 +159,7 @@ fn counted(spot: Result<Span, Refusal>, n: usize) -> Result<u32, Refusal>
 
 // The printed cells of a row that lie wholly in the stretch from one character column up to another, left to right: each by its number among the
 // grid's entries.
+// Not one function with `at`, for the reason there.
 pub fn within(
     sheet: &[u8],
     line: u32,

@@ -7,6 +7,7 @@ ghost use Rattle.records.specs.Kept.{kept_bare, kept_cell, kept_text};
 use kinds::Kind;
 
 // The number of a line that has none: 0, shifted up as numbers are.
+// `SHIFT` of text is the same number: neither crate stands on the other.
 const NO_NUMBER: u32 = 1000000000;
 
 // What is kept of a line. The number is shifted up by 1,000,000,000; own is the size of the line's own text, 2 more for img.
@@ -73,6 +74,7 @@ pub struct RowEnd {
 }
 
 // What an array is filled with before it is written.
+// No `Default`, which would say that such a line or entry is one. The definitions have these zeros as `no_kept`, `no_entry` and `no_row`.
 pub const NO_LINE: Kept = Kept {
     depth: 0,
     kind: Kind::Text,

@@ -12,6 +12,7 @@ const STANDARD_INPUT: i32 = 0;
 const INPUT_BYTES: usize = 1048576;
 
 // The bytes of the first case of an input, and those after it; none where no whole frame stands there.
+// Not by `written_in` of fields: that refuses leading zeros, which are taken here.
 fn first_case(input: &[u8]) -> Option<(&[u8], &[u8])>
     ensures { IfSome result (λ r. length r.1.now < length input.now) }
 {
@@ -61,6 +62,7 @@ fn input_buffer() -> [u8; INPUT_BYTES]
     [0; INPUT_BYTES]
 }
 
+// `run` of report is alike: neither crate stands on the other.
 fn main() {
     let mut input = input_buffer();
     let mut buffer = io::large_buffer();

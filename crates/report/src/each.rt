@@ -1,4 +1,5 @@
 // Each table of a walked sheet, laid out and printed.
+// `as` where a place or a number of columns is known to fit 32 bits: a `TryFrom` would never fail.
 ghost use Rattle.std.specs.Prelude.{◌≤◌, length};
 ghost use Rattle.causes.specs.inner.Tables.{Explainable};
 ghost use Rattle.report.specs.inner.Read.{TableAt};

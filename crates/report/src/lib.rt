@@ -27,6 +27,7 @@ pub enum Form {
 }
 
 // What is asked for: the form, and the settings of a layout.
+// Two of the four settings: a walk has no wrap, the width of a table in it is its own, and walking does not stand on arguments.
 #[derive(Clone, Copy)]
 pub struct Asked {
     pub form: Form,
@@ -63,6 +64,7 @@ fn laid(out: &mut Listing<'_>, asked: Asked, w: Walked<'_>) {
 
 // Puts every table of a sheet at the width that the walk gives it, unless the sheet is refused. The sheet is read, measured and walked once, however many
 // tables it has; no width overflows.
+// The arrays are declared here: no function can hand out slices of its own.
 fn opened(
     out: &mut Listing<'_>,
     sheet: &[u8],
@@ -100,6 +102,7 @@ fn opened(
 }
 
 // Puts what is printed of an input, settings and sheet, unless it is refused.
+// This and `answer` are like `accepted` and `answers` of answering: neither crate stands on the other.
 #[tactic(auto, using(settings::proofs::Bounds::settings_in_range))]
 fn accepted(out: &mut Listing<'_>, input: &[u8], form: Form) -> Result<(), Refusal> {
     let given = settings::settings(input)?;
@@ -120,6 +123,7 @@ pub fn answer(out: &mut Listing<'_>, input: &[u8], form: Form) {
 }
 
 // Reads an input from standard input, settings and sheet, and writes what is printed of it to standard output.
+// `main` of replay is alike: neither crate stands on the other.
 pub fn run(form: Form) {
     let mut input = [0u8; INPUT_BYTES];
     let mut buffer = io::large_buffer();

@@ -59,6 +59,7 @@ impl Columns<'_> {
     }
 
     // Puts the heading, and the line of every column, of which the size, the least and the share are made first.
+    // The arrays are declared here: no function can hand out slices of its own.
     pub fn put(&self, out: &mut Listing<'_>)
         requires entered { Entered self.now.entries.now self.now.figures.now (length self.now.cause.now) }
         requires cause_len_bound { length self.now.cause.now ≤ max_position }

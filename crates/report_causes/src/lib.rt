@@ -1,5 +1,6 @@
 // What `explain` tells of one table: a line for each of its columns, with its cause, and which of its entries are missing. Causes and missing entries are
 // those of the call `missing`. It is a crate beside `report` so that neither takes long to prove.
+// raw and width are two parameters, as crate causes takes them, and missing and cause slices of numbers, as it fills them.
 #![tactic(auto)]
 
 mod columns_told; // columns_told.rt: a line for each column, with its cause

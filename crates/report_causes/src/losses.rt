@@ -1,4 +1,5 @@
 // Which entries of a table are missing, by their numbers in the grid, which ascend. What stands in the slices is not trusted: each index is tested.
+// `as` where a line or a number becomes a `usize`, or a count one of 32 bits: there is no `From`, and a `TryFrom` would never fail.
 ghost use Rattle.std.specs.Prelude.{◌<◌, length};
 
 use super::columns_told::four_spaced;

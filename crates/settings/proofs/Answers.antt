@@ -9,15 +9,14 @@ use Rattle.std.specs.Prelude.{Some, None, Ok}
 use Rattle.lists.specs.Limits.{max_wrap, max_width}
 use Rattle.fields.specs.Lines.{feed}
 use Rattle.kinds.specs.Kinds.{same}
-use Rattle.fields.specs.Reading.{FieldRead}
+use Rattle.fields.specs.Reading.{FieldRead, written_at}
 use Rattle.fields.specs.declared.Scanned.{Scanned}
 use Rattle.settings.specs.Settings.{settings_heading, settings_in, settings_of, malformed}
-use Rattle.settings.specs.Reading.{setting_read}
 use Rattle.settings.proofs.Told.{setting_told, setting_none, setting_place}
 
 module _ (s : List ℕ) where
   abbrev read : ℕ → ℕ → ℕ → FieldRead ℕ
-  read stop most at = setting_read stop most at (drop at s)
+  read stop most at = written_at stop most at (drop at s)
 
   pub no_heading : same (take 15 s) settings_heading ≡ false → settings_of s ≡ malformed
   unfolding settings_of

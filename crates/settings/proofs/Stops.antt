@@ -9,8 +9,12 @@ use lib.Dec.{eqb, ltb, leb-suc-suc}
 use lib.ListN.{length, take, drop}
 use borrow.Author.Tests.{lt-ltb}
 use Rattle.std.specs.Prelude.{not}
+use Rattle.std.specs.List.{position_or_len}
 use Rattle.settings.specs.Settings.{Part, part, unstopped, longer, until}
-use Rattle.settings.specs.Reading.{count_before}
+
+-- how many bytes stand before the first that is `stop`; all, if none is
+abbrev pub count_before : ℕ → List ℕ → ℕ
+count_before stop s = position_or_len (λ b. eqb b stop) s
 
 -- bytes cut before a place and after it, where there is such a place
 abbrev pub cut_at : ℕ → List ℕ → Part

@@ -1,8 +1,8 @@
 -- What a setting that was read tells of the definition: its number and what follows it, and that this lies in the input. Assumes nothing.
-use mathlib.Core.Path.{◌≡◌, refl, sym, ap, subst, ◌∙◌}
+use mathlib.Core.Path.{◌≡◌, refl, ap, subst, ◌∙◌}
 use mathlib.Core.Bool.{Bool, true, false, cond}
 use mathlib.Core.List.{List}
-use Prim.Native.Nat.{ℕ, suc, ◌+◌, ◌-◌, ◌≤◌}
+use Prim.Native.Nat.{ℕ, suc, ◌+◌, ◌-◌, ◌≤◌, ◌<◌}
 use native.Mathlib.Omega.{arith}
 use lib.Dec.{ltb}
 use lib.ListN.{length, take, drop, length-drop}
@@ -13,11 +13,10 @@ use Rattle.std.specs.Prelude.{Option, Some, None}
 use Rattle.std.specs.Option.{option_map, option_and_then}
 use Rattle.fields.specs.Numbers.{Numeral, numeral, unwritten, number_of, up_to, magnitude}
 use Rattle.fields.specs.Blanks.{front_to}
-use Rattle.fields.specs.Reading.{FieldRead, written_in, ended_at}
+use Rattle.fields.specs.Reading.{FieldRead, written_in, written_at, ended_at}
 use Rattle.fields.specs.declared.Scanned.{Scanned}
 use Rattle.settings.specs.Settings.{part, unstopped, with_part, with_numeral, then_setting, Settled, malformed}
-use Rattle.settings.specs.Reading.{count_before, setting_read}
-use Rattle.settings.proofs.Stops.{until_cut}
+use Rattle.settings.proofs.Stops.{count_before, until_cut}
 
 -- what follows a setting that was read at a place
 abbrev after : List ℕ → FieldRead ℕ → (ℕ → List ℕ → Settled) → Settled
@@ -33,52 +32,29 @@ module _ (most : ℕ) (s : List ℕ) (f : ℕ → List ℕ → Settled) where
       go true = refl
       go false = refl
 
-  setting_after : (stop at : ℕ) → then_setting stop most (drop at s) f ≡ after s (setting_read stop most at (drop at s)) f
-  unfolding then_setting setting_read
-  setting_after stop at = rw (until_cut stop (drop at s)) (go (ltb n (length (drop at s))))
+  setting_after : (stop at : ℕ) → then_setting stop most (drop at s) f ≡ after s (written_at stop most at (drop at s)) f
+  unfolding then_setting written_at front_to
+  setting_after stop at = rw (until_cut stop (drop at s)) (go (ltb n (length (drop at s))) refl)
     where
       n : ℕ
       n = count_before stop (drop at s)
-
-      field : Numeral
-      field = number_of (take n (drop at s))
 
       place : drop (suc n) (drop at s) ≡ drop (at + n + 1) s
       place = let e : at + suc n ≡ at + n + 1 = omega arith in drop-drop (suc n) at s ∙ rw e
 
-      go : (t : Bool)
+      go : (t : Bool) → ltb n (length (drop at s)) ≡ t
           → with_part (cond t (part (take n (drop at s)) (drop (suc n) (drop at s))) unstopped) (λ b r. with_numeral (number_of b) most (λ v. f v r))
-          ≡ after s (cond t (ended_at (at + n + 1) (written_in most field)) None) f
-      go true = rw place (numeral_after field (at + n + 1))
-      go false = refl
+          ≡ after s
+          (option_and_then (λ f. ended_at (at + length f + 1) (written_in most (number_of f)))
+          (option_map (λ (k : ℕ). take k (drop at s)) (cond t (Some n) None))) f
+      go true e =
+          let h : n ≤ length (drop at s) = omega (arith, ltb-true n (length (drop at s)) e) in
+          rw (length-take-le n (drop at s) h, place) (numeral_after (number_of (take n (drop at s))) (at + n + 1))
+      go false e = refl
 
 module _ (stop most at : ℕ) (s : List ℕ) where
   abbrev found : FieldRead ℕ
-  found = setting_read stop most at (drop at s)
-
-  -- by the bytes up to the stop
-
-  setting_front : found ≡ option_and_then (λ f. ended_at (at + length f + 1) (written_in most (number_of f))) (front_to stop (drop at s))
-  unfolding setting_read front_to
-  setting_front = go (ltb n (length (drop at s))) refl
-    where
-      n : ℕ
-      n = count_before stop (drop at s)
-
-      go : (t : Bool) → ltb n (length (drop at s)) ≡ t
-          → cond t (ended_at (at + n + 1) (written_in most (number_of (take n (drop at s))))) None
-          ≡ option_and_then (λ f. ended_at (at + length f + 1) (written_in most (number_of f)))
-          (option_map (λ (k : ℕ). take k (drop at s)) (cond t (Some n) None))
-      go true e =
-          let h : n ≤ length (drop at s) = omega (arith, ltb-true n (length (drop at s)) e) in
-          rw (length-take-le n (drop at s) h)
-      go false e = refl
-
-  pub setting_open : None ≡ front_to stop (drop at s) → found ≡ None
-  setting_open e = setting_front ∙ sym (ap (option_and_then (λ (f : List ℕ). ended_at (at + length f + 1) (written_in most (number_of f)))) e)
-
-  pub setting_ended : {f : List ℕ} → Some f ≡ front_to stop (drop at s) → found ≡ ended_at (at + length f + 1) (written_in most (number_of f))
-  setting_ended e = setting_front ∙ sym (ap (option_and_then (λ (f : List ℕ). ended_at (at + length f + 1) (written_in most (number_of f)))) e)
+  found = written_at stop most at (drop at s)
 
   pub setting_told : {r : Scanned ℕ} → found ≡ Some r → (f : ℕ → List ℕ → Settled) → then_setting stop most (drop at s) f ≡ f r.value (drop r.next s)
   setting_told e f = setting_after most s f stop at ∙ ap (λ (r : FieldRead ℕ). after s r f) e
@@ -91,16 +67,24 @@ module _ (stop most at : ℕ) (s : List ℕ) where
   Ends None = Unit {0}
 
   ends : Ends found
-  unfolding setting_read
-  ends = go (ltb n (length (drop at s))) refl (written_in most (number_of (take n (drop at s))))
+  unfolding written_at front_to
+  ends = go (ltb n (length (drop at s))) refl
     where
       n : ℕ
       n = count_before stop (drop at s)
 
-      go : (t : Bool) → ltb n (length (drop at s)) ≡ t → (x : Option ℕ) → Ends (cond t (ended_at (at + n + 1) x) None)
-      go true e (Some v) = omega (arith, ltb-true n (length (drop at s)) e, length-drop at s)
-      go true e None = tt
-      go false e x = tt
+      ended : (x : Option ℕ) → at + n + 1 ≤ length s → Ends (ended_at (at + n + 1) x)
+      ended (Some v) h = h
+      ended None h = tt
+
+      go : (t : Bool) → ltb n (length (drop at s)) ≡ t
+          → Ends (option_and_then (λ f. ended_at (at + length f + 1) (written_in most (number_of f)))
+          (option_map (λ (k : ℕ). take k (drop at s)) (cond t (Some n) None)))
+      go true e =
+          let h : n < length (drop at s) = ltb-true n (length (drop at s)) e in
+          rw (length-take-le n (drop at s) (omega (arith, h)))
+          (ended (written_in most (number_of (take n (drop at s)))) (omega (arith, h, length-drop at s)))
+      go false e = tt
 
   -- the place after a setting, counted from the end of the input
   pub setting_place : {r : Scanned ℕ} → found ≡ Some r → length s - length (drop r.next s) ≡ r.next

@@ -1,3 +1,2 @@
 pub mod Settings
-pub mod Reading
 pub mod Cases

@@ -1,18 +1,16 @@
 // The settings before a sheet: the first two lines of the input of a program. The format is our own: the Rust has no counterpart.
 #![tactic(auto)]
 
-ghost use Rattle.std.specs.Prelude.{◌≡◌, drop, ok_or};
+ghost use Rattle.std.specs.Prelude.{◌≡◌, ok_or};
 ghost use Rattle.lists.specs.Refusals.{refusal};
 ghost use Rattle.lists.specs.declared.Reason.TheVariants.{Setting};
 ghost use Rattle.settings.specs.Settings.{settings_of};
-ghost use Rattle.settings.specs.Reading.{setting_read};
 
-use fields::Scanned;
-use fields::numbers::written_in;
-use fields::places::field_at;
+use fields::numbers::number_at;
 use lists::{Reason, Refusal};
 
 // The three settings, and the place where the sheet starts: what the two lines say. `arguments::Settings` is what a call may ask, in its ranges.
+// Not that struct within: it has a proof in a ghost field, and the definition of an input's settings has none.
 #[derive(Clone, Copy, Debug, PartialEq, Eq)]
 pub struct Given {
     pub wrap: u32,
@@ -26,18 +24,6 @@ const HEADING_BYTES: usize = 15;
 
 const MAX_RAW: u32 = 1;
 
-// The setting from 0 to most at a place, and the place after the byte that ends it.
-fn setting_at(bytes: &[u8], at: usize, stop: u8, most: u32) -> Option<Scanned<u32>>
-    ensures { result ≡ setting_read stop most at (drop at bytes.now) }
-{
-    let field = field_at(bytes, at, stop)?;
-    let value = written_in(field, most)?;
-    Some(Scanned {
-        value,
-        next: at + field.len() + 1,
-    })
-}
-
 // The settings, where they are well formed and in their ranges.
 fn given_in(bytes: &[u8]) -> Option<Given>
     ensures { ok_or result (refusal Setting 0) ≡ settings_of bytes.now }
@@ -45,9 +31,9 @@ fn given_in(bytes: &[u8]) -> Option<Given>
     if !bytes.starts_with(b"wrap raw width\n") {
         return None;
     }
-    let wrap = setting_at(bytes, HEADING_BYTES, b' ', lists::MAX_WRAP)?;
-    let raw = setting_at(bytes, wrap.next, b' ', MAX_RAW)?;
-    let width = setting_at(bytes, raw.next, b'\n', lists::MAX_WIDTH)?;
+    let wrap = number_at(bytes, HEADING_BYTES, b' ', lists::MAX_WRAP)?;
+    let raw = number_at(bytes, wrap.next, b' ', MAX_RAW)?;
+    let width = number_at(bytes, raw.next, b'\n', lists::MAX_WIDTH)?;
     Some(Given {
         wrap: wrap.value,
         raw: raw.value,

@@ -1,4 +1,8 @@
 // The sheet reader: a whole sheet, line by line, into a slice of records.
+// The bytes and a place in them are two parameters but in cursor.rt, as in fields: the place where the next line starts goes into the answer.
+// `AtLine` is asked in four contracts: a type that holds it would be made and opened again at each call (docs/DESIGN-PASS.md).
+// The lines are filled from the front of their slice, beside a count: a `Vec` needs a heap.
+// `as` where a depth, a span or a line's place is known to fit the other type, or a depth becomes a place: a `TryFrom` would never fail.
 #![tactic(auto)]
 
 pub mod front; // front.rt: what is asked of a sheet before its lines

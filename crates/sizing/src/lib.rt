@@ -1,4 +1,6 @@
 // The figures of a table's columns, from the records of its entries and of the estimates, and the columns laid out, with room of two sizes.
+// raw and width are two parameters, as the definitions have them, and raw a number. Sizes and leasts are a slice each, as there is a list of each.
+// `as` where a line, a column or a span becomes a `usize`, for which there is no `From`.
 #![tactic(auto)]
 
 ghost use Rattle.std.specs.Prelude.{◌≡◌, ◌≤◌, length};

@@ -1,4 +1,6 @@
 // Where a row of a table stands: it is found in a sheet by the table's line and the row's number, and the table is laid out.
+// x and wide are two slices, as placing writes them; `PlacesRoom` is asked in three contracts, and goes on with them (docs/DESIGN-PASS.md).
+// `as` where a line, a row or its end becomes a `usize`, for which there is no `From`.
 #![tactic(auto)]
 
 mod making; // the row of one table of a measured sheet
@@ -65,6 +67,7 @@ fn find_sheet(
 }
 
 // What is found in the sheet, unless the arguments are refused; the places of all entries of the table are left in the slices.
+// A function and no closure: of what a closure given to `and_then` leaves in the slices nothing is known after it.
 pub fn find(
     sheet: &[u8],
     line: u32,

@@ -1,4 +1,5 @@
 // The row of one table of a measured sheet: the table is laid out first.
+// entries and rows are two slices, which are lent on to be written.
 ghost use Rattle.std.specs.Prelude.{◌≤◌, length};
 ghost use Rattle.lists.specs.Limits.{max_lines};
 ghost use Rattle.table.specs.inner.Room.{GridRoom};

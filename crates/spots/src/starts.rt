@@ -10,6 +10,7 @@ use lists::{Reason, Refusal};
 use records::RowEnd;
 
 // Whether the table goes down.
+// Named by its definition, `goes_down`.
 #[tactic(auto, unfolding(crate::specs::Rows::goes_down))]
 fn is_down(way: Way) -> bool
     ensures { result ≡ goes_down way }

@@ -51,25 +51,23 @@ module _ {A : Type 0} (k : Kit A) (m : Meaning k) where
   joined o {r = r} g h =
       g.splits ∙ ap (λ (l : List ℕ). g.text ++ (sign o ∷ l)) h.splits ∙ sym (append_assoc g.text (sign o ∷ h.text) r)
 
-  w_product : {o : Op} {d : ℕ} {s u r : List ℕ} {x y : A} → Tight o → Worth k m term d s (sign o ∷ u) x → Worth k m factor d u r y → Worth k m term d s r (k.join o x y)
-  w_product {o} i g h =
+  -- two with a sign between them
+  w_node : {o : Op} {l l' q : Level} {d : ℕ} {s u r : List ℕ} {x y : A} (g : Worth k m l d s (sign o ∷ u) x) (h : Worth k m l' d u r y)
+      → Reads q d (g.text ++ (sign o ∷ h.text)) (node o g.tree h.tree) → Worth k m q d s r (k.join o x y)
+  w_node {o} g h reads =
       record {
         text = g.text ++ (sign o ∷ h.text);
         tree = node o g.tree h.tree;
         splits = joined o g h;
-        reads = product i g.reads h.reads;
+        reads = reads;
         worth = m.of_node o g.tree h.tree ∙ cc (g.worth, h.worth);
       }
 
+  w_product : {o : Op} {d : ℕ} {s u r : List ℕ} {x y : A} → Tight o → Worth k m term d s (sign o ∷ u) x → Worth k m factor d u r y → Worth k m term d s r (k.join o x y)
+  w_product i g h = w_node g h (product i g.reads h.reads)
+
   w_sum : {o : Op} {d : ℕ} {s u r : List ℕ} {x y : A} → Loose o → Worth k m expr d s (sign o ∷ u) x → Worth k m term d u r y → Worth k m expr d s r (k.join o x y)
-  w_sum {o} i g h =
-      record {
-        text = g.text ++ (sign o ∷ h.text);
-        tree = node o g.tree h.tree;
-        splits = joined o g h;
-        reads = sum i g.reads h.reads;
-        worth = m.of_node o g.tree h.tree ∙ cc (g.worth, h.worth);
-      }
+  w_sum i g h = w_node g h (sum i g.reads h.reads)
 
   -- what waits makes an expr of a term, and a term of a factor
   abbrev Sums : ℕ → (A → A) → List ℕ → List ℕ → Type 0

@@ -1,4 +1,7 @@
 // One table of a measured sheet laid out: its grid made, and laid out in the front of lent slices.
+// raw and width are two parameters, as the definitions have them, and raw a number. column, x and wide are a slice each, as C lends them.
+// entries and rows are two slices where they are written: of a struct of both each function would have to promise that they stay as long.
+// `GridRoom` is asked in four crates: it goes on with the slices that are written to (docs/DESIGN-PASS.md).
 #![tactic(auto)]
 
 ghost use Rattle.std.specs.Prelude.{length};

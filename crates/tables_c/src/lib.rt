@@ -1,4 +1,5 @@
 // The eleven calls for C and Rust: numbers, lent slices and `#[repr(C)]` structs of numbers alone. A slice crosses as a pointer and a length.
+// The settings and the buffers are a parameter each: C hands them over so, and the calls that these make take them so.
 #![tactic(auto)]
 
 ghost use Rattle.std.specs.Prelude.{◌≡◌};

@@ -1,6 +1,5 @@
 -- No line is wider at the least than in full, whichever lines these are: from the last line back, a text's least width is the smaller of its size and
 -- wrap, children add up their sizes and keep the largest least width, and in each column of a table the largest is at most the sum. Assumes nothing.
-use mathlib.Core.Path.{sym, ◌∙◌}
 use mathlib.Core.Bool.{Bool, true, false, cond, ◌||◌}
 use mathlib.Core.List.{List, [], ◌∷◌, map}
 use Prim.Native.Nat.{ℕ, suc, ◌+◌, ◌-◌, ◌≤◌}
@@ -14,14 +13,12 @@ use Rattle.text.specs.declared.Estimate.{Estimate}
 use Rattle.kinds.specs.Kinds.{kind_number, has_text, is_leaf, link_kind, break_kind, table_kind, body_kind, row_kind}
 use Rattle.records.specs.declared.Kept.{Kept}
 use Rattle.columns.specs.Boxes.{Box, flat, Measures}
-use Rattle.columns.specs.Columns.{size_of, least_of, largest_at, sum_at, sums, largest}
-use Rattle.columns.proofs.Upto.{length_up_to, below_up_to}
-use Rattle.columns.proofs.Largest.{largest_least_size}
-use Rattle.cutting.proofs.Sums.{sum_le}
+use Rattle.columns.specs.Columns.{size_of, least_of, sums, largest}
 use Rattle.cells.specs.Cells.{rows_under}
 use Rattle.grid.specs.Grid.{Entry, grid_of, columns_of, entries_of}
 use Rattle.estimates.specs.Estimates.{Done, undone, estimate, none, add, Children, no_children, with_child, gather, leaf_of, prefix_of, prefixed, holder_of, box_of, box_rows, tabled, estimate_of, measured}
 use Rattle.estimates.proofs.Fillers.{flat_boxes}
+use Rattle.estimates.proofs.Tabling.{leasts_sums}
 use Rattle.table.specs.inner.Grids.{Fits}
 
 -- an estimate whose least width is no more than its size
@@ -44,26 +41,13 @@ module _ (t : ℕ) (rest : List Done) (f : All Fits rest) where
   boxes_measure [] = tt
   boxes_measure (e ∷ es) = (box_fits e, boxes_measure es)
 
-most_le_sum : (f : Box → ℕ) (bs : List Box) (j : ℕ) → largest_at f bs j ≤ sum_at f bs j
-unfolding largest_at sum_at
-most_le_sum f [] j = omega arith
-most_le_sum f (b ∷ bs) j = omega (arith, most_le_sum f bs j)
-
-leasts_le : (bs : List Box) (n : ℕ) → Measures bs → sum (largest least_of bs n) ≤ sum (sums size_of bs n)
-leasts_le bs n m =
-    omega (
-      arith,
-      sum_le (largest least_of bs n) (largest size_of bs n) (largest_least_size bs n m),
-      sum_le (largest size_of bs n) (sums size_of bs n) (length_up_to n _ ∙ sym (length_up_to n _), below_up_to n _ _ (most_le_sum size_of bs)),
-    )
-
 tabled_fits : (n : ℕ) (bs : List Box) → Measures bs → Fit (tabled n bs)
 unfolding tabled
 tabled_fits n bs m = go (eqb n 0)
   where
     go : (t : Bool) → Fit (cond t none (estimate (sum (sums size_of bs n) + (n - 1)) (sum (largest least_of bs n) + (n - 1)) 0))
     go true = omega arith
-    go false = omega (arith, leasts_le bs n m)
+    go false = omega (arith, leasts_sums bs n m)
 
 -- ---- leaves and holders
 

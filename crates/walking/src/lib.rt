@@ -1,4 +1,5 @@
 // The walk from a sheet's first line down: which width each line gets, or the first line that is too narrow for what it holds.
+// `as` where a line or a depth becomes a `usize`, or a place a number of 32 bits: there is no `From`, and a `TryFrom` would never fail.
 #![tactic(auto)]
 
 mod giving; // what a table gives its cells
@@ -21,6 +22,7 @@ pub struct Measured<'a> {
 }
 
 // The slices that every table is laid out in, which have the room for any: its entries and rows, its columns, and two figures of each entry.
+// A struct of `&mut` slices all the same: its ghost field states the lengths, and all five are lent out at once.
 #[derive(Drop)]
 pub struct Scratch<'a> {
     pub entries: &'a mut [Entry],

@@ -1,5 +1,7 @@
 // The call `walk`: which width each line of a sheet gets from its first line's. It asks its arguments first; then what is found in the sheet stands
 // in the lent buffers, and in the end it clears what is no figure. A refused call clears all.
+// wrap, raw, width and overflow, and each buffer, are a parameter, as the C interface hands them over, down to the function that writes.
+// `as` where the number of lines is known to fit 32 bits: a `TryFrom` would never fail.
 #![tactic(auto)]
 
 mod walking_out; // the walk, written to the lent buffers

@@ -1,4 +1,5 @@
 // The entries of a grid, row by row, with two figures of each. What is in the slices is not trusted: a figure or an entry outside counts as 0.
+// `as` where a place of 32 bits becomes a `usize`, for which there is no `From`.
 ghost use Rattle.std.specs.Prelude.{◌≡◌, get_or};
 
 use super::lines::Listing;

@@ -7,6 +7,7 @@ use super::lines::Listing;
 use answers::Way;
 
 // The letter of a way.
+// No `From`: what is printed for a way is by a definition of its own, `way_letter`.
 #[tactic(auto, unfolding(crate::specs::Writing::way_letter))]
 fn letter_of(way: Way) -> u8
     ensures { result ≡ way_letter way }

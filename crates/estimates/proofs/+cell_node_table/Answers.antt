@@ -3,56 +3,40 @@
 -- table (a cell that holds nothing without a call, by the laws that `cell` has for it), and `table` makes the table's grid once they are passed. The loops' invariants
 -- say that the lines passed have their estimates, and that what is combined so far, with the lines left, comes to the whole. The measure is
 -- three times the lines left, one more for `table` and two more for `node`, which may call for their own line. Assumes nothing.
-use Prim.Native.Nat.{◌<◌}
 use mathlib.Core.Path.{refl, sym, ap, ◌∙◌}
-use lib.ListN.{length, set}
+use lib.ListN.{set}
 use native.Mathlib.Omega.{arith}
 use borrow.Author.Tests.{eqb-false}
 use Rattle.estimates.specs.inner.Cycle.{Holder}
-use Rattle.estimates.proofs.Children.{inside, roomy, again, deeper, no_deeper, cell_child, cell_again, cell_leaf, cell_fits, cell_end, plain_holder, leaf_meets, table_meets, holder_ready, holder_meets}
+use Rattle.estimates.proofs.Children.{roomy, again, cell_child, cell_again, cell_leaf, cell_fits, cell_end, plain_holder, leaf_meets, table_meets, holder_ready, holder_meets}
 use Rattle.estimates.proofs.Framing.{table_again, table_unfilled, table_stop, table_ready, table_end}
 use Rattle.estimates.specs.Sheet.{line_at}
 use Rattle.estimates.proofs.+cell_node_table.Goals as goal
 
 pub cell-overflow_add-sum : goal.cell-overflow_add-sum
 cell-overflow_add-sum t c =
-    let within : c.loop-i.i < length c.args.lines.now = inside c.requires.node_ready (omega (arith, c.loop-i-test.true)) in
-    let ls = c.args.lines.now in
-    let deep : (line_at ls c.args.at).depth < (line_at ls c.loop-i.i).depth = deeper ls c.args.at c.loop-i.i refl refl c.if-line-top.false in
-    omega (arith, cell_fits c.requires.node_ready.sheet (cell_leaf c.requires.node_ready.sheet c.loop-i.invariant within deep refl (sym c.is_leaf.ensures ∙ c.if-is_leaf.true) c.leaf-e.ensures refl))
+    omega (arith, cell_fits c.requires.node_ready.sheet (cell_leaf c.requires.node_ready.sheet c.loop-i.invariant c.loop-i-test.true c.if-line-top.false refl (sym c.is_leaf.ensures ∙ c.if-is_leaf.true) c.leaf-e.ensures refl))
 
 pub cell-loop-i-preserved-then-is_leaf : goal.cell-loop-i-preserved-then-is_leaf
 cell-loop-i-preserved-then-is_leaf t c =
-    let within : c.loop-i.i < length c.args.lines.now = inside c.requires.node_ready (omega (arith, c.loop-i-test.true)) in
-    let ls = c.args.lines.now in
-    let deep : (line_at ls c.args.at).depth < (line_at ls c.loop-i.i).depth = deeper ls c.args.at c.loop-i.i refl refl c.if-line-top.false in
-    rw c.max-most.ensures (cell_leaf c.requires.node_ready.sheet c.loop-i.invariant within deep refl (sym c.is_leaf.ensures ∙ c.if-is_leaf.true) c.leaf-e.ensures refl)
+    rw c.max-most.ensures (cell_leaf c.requires.node_ready.sheet c.loop-i.invariant c.loop-i-test.true c.if-line-top.false refl (sym c.is_leaf.ensures ∙ c.if-is_leaf.true) c.leaf-e.ensures refl)
 
 pub cell-node-next-requires : goal.cell-node-next-requires
-cell-node-next-requires t c =
-    let within : c.loop-i.i < length c.args.lines.now = inside c.requires.node_ready (omega (arith, c.loop-i-test.true)) in
-    let ls = c.args.lines.now in
-    let deep : (line_at ls c.args.at).depth < (line_at ls c.loop-i.i).depth = deeper ls c.args.at c.loop-i.i refl refl c.if-line-top.false in (
-      omega (arith, c.decreases, c.loop-i-test.true, c.loop-i.invariant.passed.after),
-      (
-        again c.requires.node_ready c.loop-i.auto.figures c.loop-i.auto.leasts c.loop-i.auto.entries c.loop-i.auto.rows (omega (arith, c.loop-i-test.true)),
-        cell_child c.requires.node_ready.sheet c.requires.holder c.loop-i.invariant within deep,
-      ),
-    )
+cell-node-next-requires t c = (
+  omega (arith, c.decreases, c.loop-i-test.true, c.loop-i.invariant.passed.after),
+  (
+    again c.requires.node_ready c.loop-i.auto.figures c.loop-i.auto.leasts c.loop-i.auto.entries c.loop-i.auto.rows (omega (arith, c.loop-i-test.true)),
+    cell_child c.requires.node_ready.sheet c.requires.holder c.loop-i.invariant c.loop-i-test.true c.if-line-top.false,
+  ),
+)
 
 pub cell-overflow_add-sum-else-is_leaf : goal.cell-overflow_add-sum-else-is_leaf
 cell-overflow_add-sum-else-is_leaf t c =
-    let within : c.loop-i.i < length c.args.lines.now = inside c.requires.node_ready (omega (arith, c.loop-i-test.true)) in
-    let ls = c.args.lines.now in
-    let deep : (line_at ls c.args.at).depth < (line_at ls c.loop-i.i).depth = deeper ls c.args.at c.loop-i.i refl refl c.if-line-top.false in
-    omega (arith, cell_fits c.requires.node_ready.sheet (cell_again c.loop-i.invariant within deep c.node-next.ensures refl))
+    omega (arith, cell_fits c.requires.node_ready.sheet (cell_again c.loop-i.invariant c.loop-i-test.true c.if-line-top.false c.node-next.ensures refl))
 
 pub cell-loop-i-preserved : goal.cell-loop-i-preserved
 cell-loop-i-preserved t c =
-    let within : c.loop-i.i < length c.args.lines.now = inside c.requires.node_ready (omega (arith, c.loop-i-test.true)) in
-    let ls = c.args.lines.now in
-    let deep : (line_at ls c.args.at).depth < (line_at ls c.loop-i.i).depth = deeper ls c.args.at c.loop-i.i refl refl c.if-line-top.false in
-    rw c.max-most-else-is_leaf.ensures (cell_again c.loop-i.invariant within deep c.node-next.ensures refl)
+    rw c.max-most-else-is_leaf.ensures (cell_again c.loop-i.invariant c.loop-i-test.true c.if-line-top.false c.node-next.ensures refl)
 
 pub cell-returns-after-loop-i : goal.cell-returns-after-loop-i
 cell-returns-after-loop-i t c =
@@ -60,40 +44,34 @@ cell-returns-after-loop-i t c =
 
 pub cell-returns-then-line-top : goal.cell-returns-then-line-top
 cell-returns-then-line-top t c =
-    cell_end c.loop-i.invariant (λ h. no_deeper c.args.lines.now c.args.at c.loop-i.i refl refl c.if-line-top.true)
+    cell_end c.loop-i.invariant (λ h. c.if-line-top.true)
 
 pub node-holder-e-requires : goal.node-holder-e-requires
 node-holder-e-requires t c =
     let r = c.requires.node_ready in
-    let h = holder_ready r.sheet (inside r r.within) refl c.cell-p.ensures in
+    let h = holder_ready r.sheet r.within refl c.cell-p.ensures in
     record { numbered = h.0; fitting = h.1 }
 
 pub node-returns-then-is_leaf : goal.node-returns-then-is_leaf
 node-returns-then-is_leaf t c =
-    let r = c.requires.node_ready in leaf_meets r.sheet (inside r r.within) (roomy r) refl (sym c.is_leaf.ensures ∙ c.if-is_leaf.true) c.leaf-e.ensures refl
+    let r = c.requires.node_ready in leaf_meets r.sheet r.within (roomy r) refl (sym c.is_leaf.ensures ∙ c.if-is_leaf.true) c.leaf-e.ensures refl
 
 pub node-returns-then-eq : goal.node-returns-then-eq
 node-returns-then-eq t c =
-    let r = c.requires.node_ready in table_meets r.sheet (inside r r.within) c.table-p.ensures (ap (set _ _) c.estimate.ensures)
+    let r = c.requires.node_ready in table_meets r.sheet r.within c.table-p.ensures (ap (set _ _) c.estimate.ensures)
 
 pub node-returns-else-eq : goal.node-returns-else-eq
 node-returns-else-eq t c =
     let held : Holder (line_at c.args.lines.now c.args.at) = plain_holder refl c.requires.plain (sym c.is_leaf.ensures ∙ c.if-is_leaf.false) (eqb-false _ _ (sym c.eq.ensures ∙ c.if-eq.false)) in
-    let r = c.requires.node_ready in holder_meets r.sheet (inside r r.within) refl held c.cell-p.ensures c.holder-e.ensures refl
+    let r = c.requires.node_ready in holder_meets r.sheet r.within refl held c.cell-p.ensures c.holder-e.ensures refl
 
 pub below_table-loop-i-preserved-then-is_filled : goal.below_table-loop-i-preserved-then-is_filled
 below_table-loop-i-preserved-then-is_filled t c =
-    let within : c.loop-i.i < length c.args.lines.now = inside c.requires.node_ready (omega (arith, c.loop-i-test.true)) in
-    let ls = c.args.lines.now in
-    let deep : (line_at ls c.args.at).depth < (line_at ls c.loop-i.i).depth = deeper ls c.args.at c.loop-i.i refl refl c.if-line-top.false in
-    table_again c.requires.node_ready.sheet c.requires.at_table c.loop-i.invariant within deep (c.is_filled.ensures.cell c.if-is_filled.true) c.cell-p.ensures (ap (set _ _) c.estimate.ensures)
+    table_again c.requires.node_ready.sheet c.requires.at_table c.loop-i.invariant c.loop-i-test.true c.if-line-top.false (c.is_filled.ensures.cell c.if-is_filled.true) c.cell-p.ensures (ap (set _ _) c.estimate.ensures)
 
 pub below_table-loop-i-preserved : goal.below_table-loop-i-preserved
 below_table-loop-i-preserved t c =
-    let within : c.loop-i.i < length c.args.lines.now = inside c.requires.node_ready (omega (arith, c.loop-i-test.true)) in
-    let ls = c.args.lines.now in
-    let deep : (line_at ls c.args.at).depth < (line_at ls c.loop-i.i).depth = deeper ls c.args.at c.loop-i.i refl refl c.if-line-top.false in
-    table_unfilled c.requires.node_ready.sheet c.requires.at_table c.loop-i.invariant within deep c.is_filled.ensures c.if-is_filled.false refl
+    table_unfilled c.requires.node_ready.sheet c.requires.at_table c.loop-i.invariant c.loop-i-test.true c.if-line-top.false c.is_filled.ensures c.if-is_filled.false refl
 
 pub below_table-returns-after-loop-i : goal.below_table-returns-after-loop-i
 below_table-returns-after-loop-i t c =
@@ -101,7 +79,7 @@ below_table-returns-after-loop-i t c =
 
 pub below_table-returns-then-line-top : goal.below_table-returns-then-line-top
 below_table-returns-then-line-top t c =
-    table_stop c.requires.node_ready.sheet c.loop-i.invariant (λ h. no_deeper c.args.lines.now c.args.at c.loop-i.i refl refl c.if-line-top.true)
+    table_stop c.requires.node_ready.sheet c.loop-i.invariant (λ h. c.if-line-top.true)
 
 pub table-table_figures-requires : goal.table-table_figures-requires
 table-table_figures-requires t c =
@@ -111,5 +89,4 @@ table-table_figures-requires t c =
 pub table-returns : goal.table-returns
 table-returns t c =
     let r = c.requires.node_ready in
-    let a = inside r r.within in
-    table_end r.sheet c.below_table-end.ensures r.lined (r.tables.sound _ a c.requires.at_table) a c.requires.at_table c.table_figures.ensures
+    table_end r.sheet c.below_table-end.ensures r.lined (r.tables.sound _ r.within c.requires.at_table) r.within c.requires.at_table c.table_figures.ensures

@@ -12,24 +12,24 @@ returns-then-not-starts_with c = sym (no_heading _ (word_told settings_heading _
 pub returns-in_err-wrap : goal.returns-in_err-wrap
 returns-in_err-wrap c =
     let headed = word_told settings_heading _ c.starts_with.ensures.value c.if-not-starts_with.false in
-    rw c.from_residual.ensures (sym (no_wrap _ headed (sym c.setting_at.ensures ∙ c.in_err-wrap.was)))
+    rw c.from_residual.ensures (sym (no_wrap _ headed (sym c.number_at.ensures ∙ c.in_err-wrap.was)))
 
 pub returns-in_err-raw : goal.returns-in_err-raw
 returns-in_err-raw c =
     let headed = word_told settings_heading _ c.starts_with.ensures.value c.if-not-starts_with.false in
-    let wrap = sym c.setting_at.ensures ∙ c.in_ok-wrap.was in
-    rw c.from_residual-in_err-raw.ensures (sym (no_raw _ headed wrap (sym c.setting_at-2.ensures ∙ c.in_err-raw.was)))
+    let wrap = sym c.number_at.ensures ∙ c.in_ok-wrap.was in
+    rw c.from_residual-in_err-raw.ensures (sym (no_raw _ headed wrap (sym c.number_at-2.ensures ∙ c.in_err-raw.was)))
 
 pub returns-in_err-width : goal.returns-in_err-width
 returns-in_err-width c =
     let headed = word_told settings_heading _ c.starts_with.ensures.value c.if-not-starts_with.false in
-    let wrap = sym c.setting_at.ensures ∙ c.in_ok-wrap.was in
-    let raw = sym c.setting_at-2.ensures ∙ c.in_ok-raw.was in
-    rw c.from_residual-in_err-width.ensures (sym (no_width _ headed wrap raw (sym c.setting_at-3.ensures ∙ c.in_err-width.was)))
+    let wrap = sym c.number_at.ensures ∙ c.in_ok-wrap.was in
+    let raw = sym c.number_at-2.ensures ∙ c.in_ok-raw.was in
+    rw c.from_residual-in_err-width.ensures (sym (no_width _ headed wrap raw (sym c.number_at-3.ensures ∙ c.in_err-width.was)))
 
 pub returns : goal.returns
 returns c =
     let headed = word_told settings_heading _ c.starts_with.ensures.value c.if-not-starts_with.false in
-    let wrap = sym c.setting_at.ensures ∙ c.in_ok-wrap.was in
-    let raw = sym c.setting_at-2.ensures ∙ c.in_ok-raw.was in
-    sym (all_set _ headed wrap raw (sym c.setting_at-3.ensures ∙ c.in_ok-width.was))
+    let wrap = sym c.number_at.ensures ∙ c.in_ok-wrap.was in
+    let raw = sym c.number_at-2.ensures ∙ c.in_ok-raw.was in
+    sym (all_set _ headed wrap raw (sym c.number_at-3.ensures ∙ c.in_ok-width.was))

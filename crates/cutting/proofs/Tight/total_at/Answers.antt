@@ -1,35 +1,29 @@
--- `cutting::Tight::total_at` meets its contract. The loop's invariant: t with the sum of the widths from i on is the sum of all, and t is at most i times
--- the largest figure of 32 bits. A turn adds the width of column i. Assumes nothing.
-use mathlib.Core.Path.{sym, ◌∙◌}
-use mathlib.Core.Logic.{inl, inr}
-use Prim.Native.Nat.{◌≤◌}
-use native.Mathlib.Omega.{arith}
-use lib.ListN.{length}
-use Rattle.std.specs.Iterator.Adapters.{enumerate_count}
-use Rattle.cutting.proofs.Pairs.{read_next, read_all}
-use Rattle.cutting.proofs.Fill.{adding_turn, adding_end}
+-- `cutting::Tight::total_at` meets its contract: the chain gives the columns, and of each its width may be asked. Assumes nothing.
+use mathlib.Core.Path.{refl, sym, ap, ◌∙◌}
+use borrow.Author.Rules.{rules}
+use Rattle.std.specs.List.{sum_by}
+use Rattle.std.proofs.lemmas.Iterator.{YieldsList-from_map}
+use Rattle.std.proofs.lemmas.Iterator.Consumers.{sum_from_yields_List}
+use Rattle.std.proofs.lemmas.List.Recursion.{is_sum_by}
+use Rattle.lists.specs.Lists.{sum}
+use Rattle.cutting.specs.inner.Fill.{place, width_at, filled}
+use Rattle.cutting.proofs.Columns.{columns_come, widths_from, may_ask}
 use Rattle.cutting.proofs.Tight.total_at.Goals as goal
 
-pub loop-i-preserved : goal.loop-i-preserved
-loop-i-preserved c =
-    let ls = c.args.self.now.leasts.now in
-    let ss = c.args.self.now.shares.now in
-    let s = c.loop-i.invariant in
-    let t = c.in-Some.ensures.steps in
-    let a = read_next ss _ s.1 t.0.0 in
-    let b = read_next ls _ s.2 t.0.1 in
-    let turn = adding_turn ls ss c.args.level c.args.bound c.args.self.now.roomy.above.0 s.0 a.0
-    (rw (sym a.1, sym b.1, sym t.1) (c.from-t.ensures ∙ c.width_at.ensures)) (omega arith) in
-    (rw t.2 turn, rw t.2 a.2, rw t.2 b.2)
+pub sum-requires-clause-can : goal.sum-requires-clause-can
+sum-requires-clause-can c =
+    let tight = c.args.self.now in
+    let ask = may_ask c.map.result.iter tight.leasts.now tight.shares.now (cc) (cc) (cc) tight.roomy.above tight.roomy.few in
+    (search rules, record { at = λ xs t q x u so_far folds next. let asked = ask xs t u x so_far next in search (rules, asked) })
 
 pub returns : goal.returns
+unfolding sum
 returns c =
-    let ls = c.args.self.now.leasts.now in
-    let ss = c.args.self.now.shares.now in
-    let s = c.loop-i.invariant in
-    let all : length ss ≤ enumerate_count c.loop-i.i-iterator =
-    elim c.in-None.ensures.steps.0 [
-      | inl a ↦ read_all ss _ s.1 a.1.0
-      | inr b ↦ omega (arith, read_all ls _ s.2 b.1.0, c.args.self.now.roomy.above.0)
-    ] in
-    adding_end ls ss c.args.level c.args.bound c.args.self.now.roomy.above.0 s.0 all
+    let tight = c.args.self.now in
+    let ls = tight.leasts.now in
+    let ss = tight.shares.now in
+    sum_from_yields_List c.map.result _ c.sum.ensures.ran
+    (YieldsList-from_map _ (λ x. width_at x.1.1 x.1.0 c.args.level (place x.1.1 x.0) c.args.bound)
+    (columns_come c.map.result.iter ls ss (cc) (cc) (cc)) c.map.ensures.closure (λ x r q called. search rules))
+    ∙ ap (sum_by (λ x. x)) (widths_from 0 ls ss c.args.level c.args.bound tight.roomy.above.0)
+    ∙ sym (is_sum_by sum (λ x. x) refl (λ _ _. refl) (filled ls ss c.args.level c.args.bound))

@@ -1,29 +1,33 @@
 -- `fields::numbers::signed_at` meets its contract. Without a minus the number is one from 0 on; after a minus it is what `natural_at` reads
 -- there, counted down, and no zero (`signed_plain`, `signed_minus`). The difference does not go below 0, since the number is at most the shift.
 -- Assumes nothing.
-use borrow.Author.Tests.{eq-eqb, ne_eqb}
+use borrow.Author.Tests.{eq-eqb, ne_eqb, ltb-true, ltb-false}
 use mathlib.Core.Path.{sym, ap, ◌∙◌}
 use native.Mathlib.Omega.{arith}
 use Rattle.fields.proofs.Signs.{lowered, natural_most, signed_out, signed_plain, signed_minus}
 use Rattle.fields.proofs.numbers.signed_at.Goals as goal
 
-pub returns-then-at-bytes : goal.returns-then-at-bytes
-returns-then-at-bytes c = sym (signed_out _ _ c.if-at-bytes.true)
+pub returns-in_err-first : goal.returns-in_err-first
+returns-in_err-first c = c.from_residual.ensures ∙ sym (signed_out _ _ (ltb-false _ _ (sym c.in_err-first.ensures.lookup.0)))
 
-pub returns-then-bytes-at-ne45 : goal.returns-then-bytes-at-ne45
-returns-then-bytes-at-ne45 c = c.shifted_at.ensures ∙ sym (signed_plain _ _ c.if-at-bytes.false c.if-bytes-at-ne45.true)
+pub returns-then-first-ne45 : goal.returns-then-first-ne45
+returns-then-first-ne45 c =
+    let first = c.in_ok-first.ensures.lookup in
+    c.shifted_at.ensures ∙ sym (signed_plain _ _ (ltb-true _ _ (sym first.0)) first.1 c.if-first-ne45.true)
 
 pub returns-in_err-n : goal.returns-in_err-n
 returns-in_err-n c =
-    c.from_residual.ensures
+    let first = c.in_ok-first.ensures.lookup in
+    c.from_residual-in_err-n.ensures
     ∙ sym
-    (signed_minus _ _ c.if-at-bytes.false c.if-bytes-at-ne45.false
+    (signed_minus _ _ (ltb-true _ _ (sym first.0)) first.1 c.if-first-ne45.false
     ∙ ap lowered (sym c.natural_at.ensures ∙ c.in_err-n.was))
 
 pub returns-then-n-eq0 : goal.returns-then-n-eq0
 returns-then-n-eq0 c =
+    let first = c.in_ok-first.ensures.lookup in
     sym
-    (signed_minus _ _ c.if-at-bytes.false c.if-bytes-at-ne45.false
+    (signed_minus _ _ (ltb-true _ _ (sym first.0)) first.1 c.if-first-ne45.false
     ∙ ap lowered (sym c.natural_at.ensures ∙ c.in_ok-n.was)
     ∙ rw (eq-eqb _ _ c.if-n-eq0.true))
 
@@ -34,7 +38,8 @@ overflow_sub-result c =
 
 pub returns : goal.returns
 returns c =
+    let first = c.in_ok-first.ensures.lookup in
     sym
-    (signed_minus _ _ c.if-at-bytes.false c.if-bytes-at-ne45.false
+    (signed_minus _ _ (ltb-true _ _ (sym first.0)) first.1 c.if-first-ne45.false
     ∙ ap lowered (sym c.natural_at.ensures ∙ c.in_ok-n.was)
     ∙ rw (ne_eqb _ _ c.if-n-eq0.false))

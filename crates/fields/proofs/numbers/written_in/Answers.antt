@@ -1,21 +1,22 @@
--- `fields::numbers::written_in` meets its contract: by its first byte a field is empty, all digits, a lone 0, or digits after a 0, which write nothing.
--- Assumes nothing.
+-- `fields::numbers::written_in` meets its contract: a field is empty, goes on after a 0, or is what its digits write. Assumes nothing.
 use mathlib.Core.Path.{sym, ◌∙◌}
-use native.Mathlib.Omega.{arith}
 use borrow.Author.Tests.{eqb-true, eqb-false}
-use Rattle.fields.proofs.Written.{written_none, written_digits, written_led, written_zero}
+use Rattle.fields.proofs.Written.{written_none, written_led, written_digits}
 use Rattle.fields.proofs.numbers.written_in.Goals as goal
+use Rattle.fields.proofs.numbers.written_in.Goals.{else-led_by_zero-via-then-led_by_zero+else-not-is_empty, else-led_by_zero-via-else-led_by_zero}
 
-pub returns-then-is_empty : goal.returns-then-is_empty
-returns-then-is_empty c = sym (written_none _ _ (eqb-true _ _ (sym c.is_empty.ensures ∙ c.if-is_empty.true)))
+pub returns-in_err-first : goal.returns-in_err-first
+returns-in_err-first c = c.from_residual.ensures ∙ sym (written_none _ _ c.in_err-first.ensures.cases)
 
-pub returns-then-not-led_by_zero : goal.returns-then-not-led_by_zero
-returns-then-not-led_by_zero c =
-    let some = eqb-false _ _ (sym c.is_empty.ensures ∙ c.if-is_empty.false) in
-    c.digits_in.ensures ∙ sym (written_digits _ c.args.field.now (omega arith) c.if-not-led_by_zero.true)
+pub returns-then-not-is_empty : goal.returns-then-not-is_empty
+returns-then-not-is_empty c =
+    sym (written_led _ c.in_ok-first.ensures.cases.0 c.if-led_by_zero.true (eqb-false _ _ (sym c.is_empty.ensures ∙ c.if-not-is_empty.true)))
 
-pub returns-then-goes_on : goal.returns-then-goes_on
-returns-then-goes_on c = sym (written_led _ _ c.if-goes_on.true c.if-not-led_by_zero.false)
-
-pub returns-else-goes_on : goal.returns-else-goes_on
-returns-else-goes_on c = sym (written_zero _ _ c.if-goes_on.false c.if-not-led_by_zero.false)
+pub returns : goal.returns
+returns c =
+    let field = c.in_ok-first.ensures.cases.0 in
+    c.digits_in.ensures
+    ∙ sym (elim c.else-led_by_zero.branch [
+      | else-led_by_zero-via-then-led_by_zero+else-not-is_empty w ↦ written_digits _ field (λ e. eqb-true _ _ (sym w.is_empty.ensures ∙ w.if-not-is_empty.false))
+      | else-led_by_zero-via-else-led_by_zero w ↦ written_digits _ field (λ e. absurd (w.if-led_by_zero.false e))
+    ])
