@@ -1,3 +1,4 @@
+pub mod Handed
 pub mod Turns
 pub mod Sofar
 pub mod Lengths

@@ -143,16 +143,11 @@ pub fn evaluate(text: &[u8]) -> Result<i64, Reason>
     let mut place = Top::Want(nothing);
     for &c in text {
         if c == b'(' {
-            let Some(f) = opening(place, depth) else {
-                return Err(Reason::NoExpression);
-            };
-            outer[depth] = f;
+            outer[depth] = opening(place, depth).ok_or(Reason::NoExpression)?;
             depth += 1;
             place = Top::Want(nothing);
         } else if c == b')' {
-            let Some(x) = total(place) else {
-                return Err(Reason::NoExpression);
-            };
+            let x = total(place).ok_or(Reason::NoExpression)?;
             if depth == 0 {
                 return Err(Reason::NoExpression);
             }

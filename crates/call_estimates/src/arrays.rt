@@ -23,7 +23,7 @@ fn check_in<const L: usize>(sheet: &[u8]) -> Result<usize, Refusal>
     opening::open_sheet(sheet, None, &mut lines, &mut scratch)
 }
 
-// The same in the shortest arrays that do. Not by `estimates_short`: no second array is asked for here.
+// The same in the shortest arrays that do. Not by `estimates_short`: no second length is asked for here.
 pub fn check_within(sheet: &[u8]) -> Result<usize, Refusal>
     ensures { result ≡ opened_of None sheet.now }
 {

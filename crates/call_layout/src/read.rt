@@ -16,8 +16,7 @@ fn answer_of(a: Arrangement) -> Layout
     requires { (a.counts.entries ≤ max_entries) × (a.counts.columns ≤ max_position) }
     ensures { result ≡ answer_of a }
 {
-    let counts = a.counts;
-    let laid = a.laid;
+    let Arrangement { counts, laid } = a;
     Layout {
         way: laid.way,
         entries: counts.entries as u32,

@@ -49,7 +49,7 @@ module _ {es : List Entry} {cause missing₀ : List ℕ} (p : Listable es cause 
         all d = sym (append-nil (take n missing)) ∙ ap (λ (xs : List Box). take n missing ++ hidden_from i xs cause) (sym d) ∙ z.rest
 
     -- the entry at i, and whether a column of it is shown
-    module _ (h : i < length es) {e : Entry} (q : e ≡ get_or es i no_entry) {from to : ℕ} (f : from ≡ e.first) (t : to ≡ from + e.span) {r : Bool}
+    module _ (h : i < length es) {e : Entry} (q : e ≡ get_or es i no_entry) {from to : ℕ} (f : from ≡ e.first) (t : to ≡ e.first + e.span) {r : Bool}
         (s : r ≡ none_shown (take (to - from) (drop from cause))) where
       here : drop i bs ≡ bare_box e ∷ drop (i + 1) bs
       here =

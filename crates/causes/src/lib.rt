@@ -2,7 +2,7 @@
 // raw and width are two parameters, as the definitions have them, and raw a number. Sizes, leasts, shares and widths are a slice each, as there is
 // a list of each. entries and figures are two slices: what is asked of them, `Tellable` and `Entered`, is of the columns too. cause is a slice of
 // numbers, as the C interface lends it.
-// `as` where a column or a span becomes a `usize`, or a place a number of 32 bits: there is no `From`, and a `TryFrom` would never fail.
+// `as` where a place becomes a number of 32 bits: there is no `From`, and a `TryFrom` would never fail.
 #![tactic(auto)]
 
 pub mod tables; // those of one table
@@ -103,9 +103,7 @@ pub fn list_missing(entries: &[Entry], cause: &[u32], missing: &mut [u32]) -> us
 {
     let mut n = 0;
     for (i, e) in entries.iter().enumerate() {
-        let from = e.first as usize;
-        let to = from + e.span as usize;
-        if none_shown(&cause[from..to]) {
+        if none_shown(&cause[e.columns()]) {
             missing[n] = i as u32;
             n += 1;
         }

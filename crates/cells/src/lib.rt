@@ -75,8 +75,7 @@ pub fn filled(cols: u32, instead: u32) -> u32
 }
 
 // How many rows a cell takes where `left` rows follow its own in the body: a rowspan never leaves its body, and rows 0 runs to the last row.
-// `hangs_within` of grid_counts is alike: each is by its own definition.
-fn rows_within(rows: u32, left: u32) -> u32
+pub fn rows_within(rows: u32, left: u32) -> u32
     requires { left < max_lines }
     ensures { result ≡ taken left rows }
 {

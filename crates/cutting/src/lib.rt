@@ -10,6 +10,8 @@ ghost use Rattle.cutting.specs.Cut.{pick, cut, gaps, Below};
 ghost use Rattle.cutting.specs.Level.{level_of};
 ghost use Rattle.cutting.specs.inner.Fill.{Summed, Cuttable, Roomy, place, width_at, filled};
 
+use std::cmp::Ordering;
+
 // At most so many characters are taken one by one, with a look at every column for each: to find the level takes as many looks or more.
 const FEW: u64 = 16;
 
@@ -146,13 +148,10 @@ impl Tight<'_> {
         while lo + 1 < hi {
             let mid = lo + (hi - lo) / 2;
             let t = self.total_at(level, mid);
-            if t == full {
-                return mid;
-            }
-            if t < full {
-                lo = mid;
-            } else {
-                hi = mid;
+            match t.cmp(&full) {
+                Ordering::Equal => return mid,
+                Ordering::Less => lo = mid,
+                Ordering::Greater => hi = mid,
             }
         }
         lo

@@ -71,7 +71,7 @@ fn text_line(classes: &Classes, bytes: &[u8], depth: u8, from: usize) -> Option<
 {
     let front = text::scan_front(classes, bytes, from, b'\n');
     let to = front.end;
-    if to >= bytes.len() || bytes[to] != b'\n' {
+    if bytes.get(to) != Some(&b'\n') {
         return None;
     }
     Some(Scanned {

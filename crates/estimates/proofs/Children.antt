@@ -7,7 +7,6 @@ use native.Mathlib.Omega.{arith}
 use native.Mathlib.Decide.{dec_lt}
 use lib.Dec.{eqb}
 use lib.ListN.{length, get_or, drop, set}
-use lib.Seq.{get_or-set_same}
 use Rattle.lists.specs.Limits.{max_size}
 use Rattle.text.specs.declared.Estimate.{Estimate}
 use Rattle.kinds.specs.Kinds.{kind_number, table_kind, break_kind, link_kind, has_text, is_leaf}
@@ -16,7 +15,7 @@ use Rattle.records.specs.declared.Entry.{Entry}
 use Rattle.records.specs.declared.RowEnd.{RowEnd}
 use Rattle.estimates.specs.Estimates.{estimate, none, Children, gather, leaf_of, prefix_of, holder_of}
 use Rattle.estimates.specs.Sheet.{Sheet, line_at}
-use Rattle.estimates.specs.inner.Cycle.{NodeReady, Ends, Passed, Plain, Holder, Numbered, Fitting, NodeMeets, CellMeets, TableMeets, est_at, done_of, held_at, held_of, weight}
+use Rattle.estimates.specs.inner.Cycle.{NodeReady, Ends, Passed, Plain, Holder, Numbered, Fitting, NodeMeets, CellMeets, est_at, done_of, held_at, held_of, weight}
 use Rattle.estimates.specs.declared.Part.{Part}
 use Rattle.estimates.proofs.Laws.{gather_stop, gather_child}
 use Rattle.estimates.proofs.ByKind.{leaf_est, holder_est}
@@ -72,12 +71,12 @@ module _ {wrap : ℕ} {ls : List Kept} {b : List Estimate} {at : ℕ} where
       (may w at i (record { before = c.passed.after; within = h; deeper = omega (arith, c.next h); between = c.passed.deeper })
       ).elsewhere k.table k.body k.row
 
-  pub cell_again : {c c' : List Estimate} {sum most children i r : ℕ} {e : Estimate} → CellLoop wrap ls b c at sum most children i → i < length ls
-      → (line_at ls at).depth < (line_at ls i).depth → NodeMeets wrap ls c c' i r → e ≡ get_or c' i none
-      → CellLoop wrap ls b c' at (sum + e.size) (max most e.least) (children + 1) r
-  cell_again {sum = sum} {most = most} {children = children} {i = i} {r = r} c h u n g =
+  pub cell_again : {c c' : List Estimate} {sum most children i r : ℕ} → CellLoop wrap ls b c at sum most children i → i < length ls
+      → (line_at ls at).depth < (line_at ls i).depth → NodeMeets wrap ls c c' i r
+      → CellLoop wrap ls b c' at (sum + (get_or c' i none).size) (max most (get_or c' i none).least) (children + 1) r
+  cell_again {sum = sum} {most = most} {children = children} {i = i} {r = r} c h u n =
       let w = n.passed in
-      let v = g ∙ w.done i (omega arith) w.after in
+      let v = w.done i (omega arith) w.after in
       let z = w.sound i (omega arith) w.after in
       let e : (line_at ls i).depth ≡ (line_at ls at).depth + 1 = omega (arith, c.next h) in
       rw v
@@ -147,7 +146,7 @@ holder_sound l p n h = go (eqb (kind_number l.kind) link_kind)
 
 module _ {wrap : ℕ} {ls : List Kept} {b : List Estimate} {at : ℕ} (sheet : Sheet ls) (within : at < length ls) where
   -- a line's own store, with an estimate e that its weight bears
-  meets : {c c' : List Estimate} {e : Estimate} {r : ℕ} → Passed ls (done_of wrap ls) b c at (at + 1) r → Ends ls (line_at ls at).depth r
+  pub meets : {c c' : List Estimate} {e : Estimate} {r : ℕ} → Passed ls (done_of wrap ls) b c at (at + 1) r → Ends ls (line_at ls at).depth r
       → e ≡ est_at (done_of wrap ls) at → e.size + weight ls at ≤ weight ls r → e.least ≤ e.size → c' ≡ set c at e
       → NodeMeets wrap ls b c' at r
   meets {e = e} {r = r} p t f m l s =
@@ -180,10 +179,6 @@ module _ {wrap : ℕ} {ls : List Kept} {b : List Estimate} {at : ℕ} (sheet : S
           }) in
           absurd (true≢false (sym a ∙ p.holder))
 
-  pub table_meets : {c c' : List Estimate} {r : Part} → TableMeets wrap ls b c at r → c' ≡ set c at (estimate r.size r.least 0)
-      → NodeMeets wrap ls b c' at r.after
-  table_meets m s = meets m.passed m.ends m.est m.small m.least_size s
-
   -- what `holder` takes
   pub holder_ready : {c : List Estimate} {r : Part} {l : Kept} → l ≡ line_at ls at → CellMeets wrap ls b c at r → Numbered l r.children × Fitting r
   holder_ready {r = r} t m = (
@@ -209,12 +204,3 @@ module _ {wrap : ℕ} {ls : List Kept} {b : List Estimate} {at : ℕ} (sheet : S
       let y : e ≡ est_at (done_of wrap ls) at
       = f ∙ ap (λ (a : Kept). holder_of a (held_of r)) t ∙ ap (λ (h : Children). holder_of (line_at ls at) h) m.held ∙ holder_est wrap ls at within k in
       meets m.passed m.ends y (omega (arith, m.small, weight_more ls at)) x s
-
--- a turn of `cell` over a leaf, which it measures itself
-pub cell_leaf : {wrap : ℕ} {ls : List Kept} {b c c' : List Estimate} {at sum most children i : ℕ} {l : Kept} {e : Estimate} → Sheet ls
-    → CellLoop wrap ls b c at sum most children i → i < length ls → (line_at ls at).depth < (line_at ls i).depth → l ≡ line_at ls i
-    → is_leaf l.kind ≡ true → e ≡ leaf_of wrap l → c' ≡ set c i e
-    → CellLoop wrap ls b c' at (sum + e.size) (max most e.least) (children + 1) (i + 1)
-cell_leaf {c = c} {i = i} {e = e} w v h u t k f s =
-    let z = v.passed.sized in
-    cell_again {e = e} v h u (leaf_meets w h z t k f s) (rw s (sym (get_or-set_same c i e none (omega arith))))

@@ -29,7 +29,7 @@ use Rattle.estimates.specs.Estimates.{estimate, none, undone, est_of, estimates,
 use Rattle.estimates.specs.Sheet.{Sheet, line_at}
 use Rattle.estimates.specs.Meets.{Bounded, CellsMeasured}
 use Rattle.estimates.specs.inner.Spread.{spread_cells, tabled_by, entry_boxes, records_at, FiguresReady, Tabulated}
-use Rattle.estimates.specs.inner.Cycle.{NodeReady, Ends, Passed, FilledAt, Holder, CellsPassed, CellMeets, TableMeets, est_at, done_of, held_at, weight, size_in, sizes_of, sizes_from}
+use Rattle.estimates.specs.inner.Cycle.{NodeReady, Ends, Passed, FilledAt, Holder, CellsPassed, NodeMeets, CellMeets, est_at, done_of, held_at, weight, size_in, sizes_of, sizes_from}
 use Rattle.estimates.specs.declared.Part.{Part}
 use Rattle.estimates.proofs.Laws.{cells_stop, cells_skip, cells_cell}
 use Rattle.estimates.proofs.ByKind.{body_est, row_est, table_est, holder_est, cell_plain}
@@ -39,7 +39,7 @@ use Rattle.estimates.proofs.Nesting.{Framed, framed}
 use Rattle.estimates.proofs.Weighing.{weight_more, fits}
 use Rattle.estimates.proofs.Tabling.{tabled_small}
 use Rattle.estimates.proofs.Passing.{step, stored, begin}
-use Rattle.estimates.proofs.Children.{cell_start, cell_end}
+use Rattle.estimates.proofs.Children.{cell_start, cell_end, meets}
 
 -- at line i: the cells passed weigh no more than the lines passed
 pub record TableLoop (wrap : ℕ) (ls : List Kept) (b c : List Estimate) (at i : ℕ) : Type 0 where
@@ -198,17 +198,15 @@ module _ {wrap : ℕ} {ls : List Kept} {b : List Estimate} {at : ℕ} (w : Sheet
           let e : suc at + (k - suc at) ≡ k = omega (arith, o.before) in
           cell_done k o ∙ sym (ap est_of (get_or-drop (suc at) (done_of wrap ls) (k - suc at) undone ∙ ap (λ (j : ℕ). get_or (done_of wrap ls) j undone) e))
 
-      pub table_end : {r : Part} → kind_number (line_at ls at).kind ≡ table_kind → Tabulated (columns_of (table_rows ls at)) bs i r → TableMeets wrap ls b c at r
-      table_end {r} t m =
+      pub table_end : {c' : List Estimate} {e : Estimate} → kind_number (line_at ls at).kind ≡ table_kind → Tabulated (columns_of (table_rows ls at)) bs e → c' ≡ set c at e
+          → NodeMeets wrap ls b c' at i
+      table_end {e = e} t m s =
           let n = columns_of (table_rows ls at) in
-          let y : r.size ≡ (tabled_by n bs).size = ap (λ (x : Estimate). x.size) m.est in
-          record {
-            passed = rw m.after l.passed;
-            ends = rw m.after l.ends;
-            est = figured z a g c (suc at) (drop (suc at) (done_of wrap ls)) after_table m ∙ table_est wrap ls at a t;
-            small = rw m.after (omega (arith, y, tabled_small n bs, grid_columns (table_rows ls at) g, bounded, weight_more ls at));
-            least_size = m.least_size;
-          }
+          let y : e.size ≡ (tabled_by n bs).size = ap (λ (x : Estimate). x.size) m.est in
+          meets w a l.passed l.ends
+          (figured z a g c (suc at) (drop (suc at) (done_of wrap ls)) after_table m ∙ table_est wrap ls at a t)
+          (omega (arith, y, tabled_small n bs, grid_columns (table_rows ls at) g, bounded, weight_more ls at))
+          m.least_size s
 
 -- what the table's figures take, in slices
 pub table_ready : {wrap : ℕ} {lines : List Kept} {figures₀ : List Estimate} {leasts₀ : List ℕ} {entries₀ : List declared.Entry} {rows₀ : List RowEnd} {b : List Estimate} {at i scratch : ℕ} (figures : List Estimate) (es : List declared.Entry) (rs : List RowEnd)

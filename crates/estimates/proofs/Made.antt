@@ -21,9 +21,8 @@ use Rattle.grid.specs.Judging.{Lined, shown}
 use Rattle.grid.proofs.GridFacts.{Within, held_spanned, grid_within, grid_columns}
 use Rattle.grid.proofs.GridCells.{IsCell, entries_cells}
 use Rattle.gridding.specs.Cut.{GridRecords}
-use Rattle.estimates.specs.Estimates.{Done, undone, none, estimate, box_rows, tabled}
+use Rattle.estimates.specs.Estimates.{Done, undone, none, box_rows, tabled}
 use Rattle.estimates.specs.inner.Spread.{entry_boxes, EntryFits, TabulateReady, Tabulated, records_at, FiguresReady}
-use Rattle.estimates.specs.declared.Part.{Part}
 use Rattle.estimates.proofs.Fillers.{Estimated, flat_boxes, tabled_records}
 
 module _ {ks : List Kept} {at scratch m n : ℕ} {es : List Estimate} (r : FiguresReady ks at es scratch m n) where
@@ -70,8 +69,8 @@ module _ {ks : List Kept} {at : ℕ} (z : Lined ks) (within : at < length ks) (s
     same = λ h. let k : e.owner - 1 - t ≡ e.owner - suc t = omega arith in f (e.owner - 1) (i h).1 ∙ ap (λ (x : ℕ). (get_or rest x undone).est) k;
   }
 
-  pub figured : {end : ℕ} {p : Part} → Tabulated (columns_of (table_rows ks at)) (entry_boxes es (records_at ks at)) end p
-      → estimate p.size p.least 0 ≡ tabled (columns_of (table_rows ks at)) (flat (box_rows t rest (grid_of (table_rows ks at))))
+  pub figured : {p : Estimate} → Tabulated (columns_of (table_rows ks at)) (entry_boxes es (records_at ks at)) p
+      → p ≡ tabled (columns_of (table_rows ks at)) (flat (box_rows t rest (grid_of (table_rows ks at))))
   figured s =
       let xs = entries_of (grid_of (table_rows ks at)) in
       s.est

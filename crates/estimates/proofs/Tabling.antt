@@ -90,16 +90,16 @@ tabled_small columns bs = go (eqb columns 0)
 
 -- the code's figures: `wide` columns, of which it has lent so many of the scratch
 
-pub table_none : {columns wide end : ℕ} (bs : List Box) → wide ≡ columns → wide ≡ 0 → Tabulated columns bs end (record { after = end; size = 0; least = 0; children = 0 })
-table_none {columns} bs q e = record { after = refl; est = sym (tabled_none columns bs (sym q ∙ e)); least_size = omega arith }
+pub table_none : {columns wide : ℕ} (bs : List Box) → wide ≡ columns → wide ≡ 0 → Tabulated columns bs none
+table_none {columns} bs q e = record { est = sym (tabled_none columns bs (sym q ∙ e)); least_size = omega arith }
 
 module _ {bs : List Box} {n all : ℕ} {columns : List ℕ} (s : Spreads bs n all columns) where
-  pub table_some : {count wide least end : ℕ} → wide ≡ count → n ≡ count → least ≡ sum columns → sum columns ≤ all → (wide ≡ 0 → ⊥)
-      → Tabulated count bs end (record { after = end; size = all + (wide - 1); least = least + (wide - 1); children = 0 })
-  table_some {count} {wide} {least} {end} q r l f e =
+  pub table_some : {count wide least : ℕ} → wide ≡ count → n ≡ count → least ≡ sum columns → sum columns ≤ all → (wide ≡ 0 → ⊥)
+      → Tabulated count bs (estimate (all + (wide - 1)) (least + (wide - 1)) 0)
+  table_some {count} {wide} {least} q r l f e =
       let t = tabled_some count bs (λ z. e (q ∙ z)) in
       let g : least ≤ all = omega arith in
-      record { after = refl; est = rw (t, l, q, s.all, s.leasts, r); least_size = omega arith }
+      record { est = rw (t, l, q, s.all, s.leasts, r); least_size = omega arith }
 
 -- what is added up in the scratch is at most the sum of the cells
 pub leasts_fit : {entries : List Entry} {figures : List Estimate} {n all : ℕ} {columns : List ℕ} → SpreadReady entries figures n

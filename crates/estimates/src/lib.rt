@@ -14,7 +14,7 @@ ghost use Rattle.records.specs.Kept.{no_kept};
 ghost use Rattle.estimates.specs.Estimates.{estimate};
 ghost use Rattle.estimates.specs.Sheet.{line_at};
 ghost use Rattle.estimates.specs.Meets.{Lent, Measured, CellsMeasured};
-ghost use Rattle.estimates.specs.inner.Cycle.{NodeReady, Plain, Holder, FilledAt, CellsPassed, NodeMeets, CellMeets, TableMeets};
+ghost use Rattle.estimates.specs.inner.Cycle.{NodeReady, Plain, Holder, FilledAt, CellsPassed, NodeMeets, CellMeets};
 
 use kinds::Kind;
 use records::{Entry, Kept, RowEnd};
@@ -43,7 +43,7 @@ impl Part {
 }
 
 // The estimate of a line that has neither text nor children.
-// Arrays are filled with it before they are written. No `Default`: the definitions have it by name, `none`.
+// Arrays are filled with it before they are written. No `Default`: what it answers is no constant, which an array is filled with.
 pub const NONE: text::Estimate = text::Estimate {
     size: 0,
     least: 0,
@@ -71,9 +71,7 @@ fn node(
         figures[at] = e;
         at + 1
     } else if line.kind == Kind::Table {
-        let p = table(lines, figures, leasts, entries, rows, wrap, at);
-        figures[at] = p.estimate();
-        p.after
+        table(lines, figures, leasts, entries, rows, wrap, at)
     } else {
         let p = cell(lines, figures, leasts, entries, rows, wrap, at);
         let e = single::holder(line, p);
@@ -128,8 +126,8 @@ fn below_table(
     i
 }
 
-// Measures all below the table at `at`, and returns the table's own figures, by its grid: this is made when all below is measured, so that no
-// call holds it over others. Ports `RenderTable::calc_size_estimate`.
+// Measures the table at `at` and all below it, and returns the line after those. The grid is made when all below is measured, so that no call holds
+// it over others. Ports `RenderTable::calc_size_estimate`.
 #[cycle(cell_node_table)]
 fn table(
     lines: &[Kept],
@@ -139,13 +137,14 @@ fn table(
     rows: &mut [RowEnd],
     wrap: u32,
     at: usize,
-) -> Part
+) -> usize
     requires node_ready { NodeReady lines.now figures.old leasts.old entries.old rows.old at }
     requires at_table { kind_number (line_at lines.now at).kind ≡ table_kind }
-    ensures { TableMeets wrap lines.now figures.old figures.new at result }
+    ensures { NodeMeets wrap lines.now figures.old figures.new at result }
 {
     let end = below_table(lines, figures, leasts, entries, rows, wrap, at);
-    spread::table_figures(lines, at, end, figures, leasts, entries, rows)
+    figures[at] = spread::table_figures(lines, at, figures, leasts, entries, rows);
+    end
 }
 
 // Measures all below the line at `at`, and returns its children combined. Ports `RenderTableCell::get_size_estimate`, and the folds over
@@ -176,23 +175,18 @@ fn cell(
         if line.depth <= top.depth {
             break;
         }
-        // Three lines of both arms are alike: a function for them would have as many parameters or more.
-        if line.kind.is_leaf() {
+        let next = if line.kind.is_leaf() {
             // most children are texts, which need no call of `node`
-            let e = single::leaf(line, wrap);
-            figures[i] = e;
-            sum += e.size;
-            most = most.max(e.least);
-            children += 1;
-            i += 1;
+            figures[i] = single::leaf(line, wrap);
+            i + 1
         } else {
-            let next = node(lines, figures, leasts, entries, rows, wrap, i);
-            let child = figures[i];
-            sum += child.size;
-            most = most.max(child.least);
-            children += 1;
-            i = next;
-        }
+            node(lines, figures, leasts, entries, rows, wrap, i)
+        };
+        let child = figures[i];
+        sum += child.size;
+        most = most.max(child.least);
+        children += 1;
+        i = next;
     }
     Part {
         after: i,

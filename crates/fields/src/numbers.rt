@@ -10,7 +10,7 @@ use super::places::field_at;
 use text::decimal::SHIFT;
 
 // The value of a field of digits. Once it is above most, no further digit brings it back, so the reading stops there: any number of digits may follow.
-fn digits_in(field: &[u8], most: u32) -> Option<u32>
+pub fn digits_in(field: &[u8], most: u32) -> Option<u32>
     ensures { result ≡ digits_in most 0 field.now }
 {
     let mut value = 0u64;

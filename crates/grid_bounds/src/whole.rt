@@ -16,8 +16,7 @@ pub fn sheet_fits(lines: &[Kept], most: u32) -> bool
     let mut end: u32 = 0;
     let mut entries: u32 = 0;
     for line in lines {
-        let is_cell = line.kind == Kind::Cell;
-        if is_cell {
+        if line.kind == Kind::Cell {
             let cols = u32::from(line.cols);
             let rows = u32::from(line.rows);
             if !super::has_room(cols, rows, end, entries, most) {

@@ -1,8 +1,19 @@
--- The loops of `row_sum` and of `survey` on plain lists. Assumes nothing.
-use mathlib.Core.Path.{◌≡◌, refl, ap, ◌∙◌}
-use mathlib.Core.List.{List}
-use Prim.Native.Nat.{ℕ, ◌+◌, ◌-◌, ◌*◌, ◌≤◌, ◌<◌, max}
-use native.Mathlib.Decide.{ℕ_discrete}
+-- The sum of a row, and the loop of `survey`, on plain lists. Assumes nothing.
+use mathlib.Core.Path.{◌≡◌, refl, sym, ap, ◌∙◌}
+use mathlib.Core.Bool.{Bool}
+use mathlib.Core.List.{List, [], ◌∷◌, map}
+use Prim.Native.Nat.{ℕ, suc, ◌+◌, ◌-◌, ◌*◌, ◌≤◌, ◌<◌, max}
+use lib.Dec.{eqb, ltb}
+use borrow.Author.Tests.{eq-eqb, ne_eqb, lt-ltb, le-ltb}
+use Rattle.std.specs.Prelude.{Option, ⊤}
+use Rattle.std.specs.Iterator.{Drains}
+use Rattle.std.specs.Iterator.Runs.{Run, EachRunFrom}
+use Rattle.std.specs.List.{filter, take_while, fold, sum_by}
+use Rattle.std.proofs.lemmas.Iterator.{YieldsList}
+use Rattle.std.proofs.lemmas.Iterator.Consumers.{sum_from_yields_List, fits_from_yields_list}
+use Rattle.std.proofs.lemmas.List.Recursion.{is_sum_by}
+use Rattle.std.proofs.lemmas.List.Sums.{take_while-cons}
+use native.Mathlib.Decide.{dec_lt, ℕ_discrete}
 use native.Mathlib.Omega.{arith}
 use lib.ListN.{length, get_or, take, drop, set, length-set}
 use lib.Seq.{get_or-set_same, get_or-set_other}
@@ -10,47 +21,83 @@ use Rattle.lists.specs.Lists.{sum}
 use Rattle.lists.specs.Limits.{max_lines, max_cols}
 use Rattle.records.specs.Kept.{no_kept}
 use Rattle.records.specs.declared.Kept.{Kept}
-use Rattle.cells.specs.Cells.{Frame, frame, row_sum, widest}
+use Rattle.cells.specs.Cells.{Cell, Frame, frame, row_sum, widest}
 use Rattle.grid_counts.specs.inner.Tallies.{Lines, RowSum, BodyReady, Surveyed}
 use Rattle.grid_counts.proofs.Scan.{framed, framed_all, rest_is, there, cells_none, cells_more, cells_on, rows_none, rows_more, rows_on}
 
 -- ---- a row's sum
 
-pub record Summing (ks : List Kept) (d s j : ℕ) : Type 0 where
-  pub place : j ≤ length ks
-  pub whole : (n : ℕ) → s + row_sum (framed n ks d j).cells ≡ row_sum (frame d n ks).cells
-  pub small : s ≤ j * max_cols
+abbrev pub below_row : ℕ → Kept → Bool
+below_row d l = ltb (d + 2) l.depth
 
-pub sum_start : (ks : List Kept) (d : ℕ) → Summing ks d 0 0
-sum_start ks d =
-    record { place = omega arith; whole = λ n. omega (arith, ap (λ (f : Frame). row_sum f.cells) (framed_all n ks d)); small = omega arith }
+abbrev pub of_cell : ℕ → Kept → Bool
+of_cell d l = eqb l.depth (d + 3)
 
-module _ {ks : List Kept} {d s j : ℕ} (t : Lines ks d) (z : Summing ks d s j) where
-  pub sum_stop : (n : ℕ) → (get_or ks j no_kept).depth ≤ d + 2 → RowSum (frame d n ks).cells s
-  unfolding row_sum sum
-  sum_stop n h = record { is = let e = rw (cells_none n ks d j h) at (z.whole n) in omega arith; small = omega (arith, z.small, z.place, t.short) }
+abbrev pub wide_of : Kept → ℕ
+wide_of l = max l.cols 1
 
-  abbrev l : Kept
-  l = get_or ks j no_kept
+-- the cols of the cells, 0 as 1, in a row that the first of the lines are
+abbrev pub wides : ℕ → List Kept → List ℕ
+wides d ks = map wide_of (filter (of_cell d) (take_while (below_row d) ks))
 
-  module _ (h : d + 2 < l.depth) where
-    here : j < length ks
-    here = there 0 ks d j (omega arith)
+module _ (d : ℕ) where
+  wides_none : (l : Kept) (ls : List Kept) → l.depth ≤ d + 2 → wides d (l ∷ ls) ≡ []
+  wides_none l ls h = rw (take_while-cons (below_row d) l ls, le-ltb (d + 2) l.depth h)
 
-    pub sum_more : l.depth - (d + 2) ≡ 1 → (c : ℕ) → c ≡ max l.cols 1 → Summing ks d (s + c) (j + 1)
-    unfolding row_sum sum
-    sum_more e c m = record {
-      place = omega (arith, here);
-      whole = λ n. let w = rw (cells_more n ks d j h e) at (z.whole n) in omega arith;
-      small = omega (arith, z.small, t.narrow j);
-    }
+  wides_more : (l : Kept) (ls : List Kept) → l.depth ≡ d + 3 → wides d (l ∷ ls) ≡ max l.cols 1 ∷ wides d ls
+  wides_more l ls e = rw (take_while-cons (below_row d) l ls, lt-ltb (d + 2) l.depth (omega arith), eq-eqb l.depth (d + 3) e)
 
-    pub sum_on : (l.depth - (d + 2) ≡ 1 → ⊥) → Summing ks d s (j + 1)
-    sum_on other = record {
-      place = omega (arith, here);
-      whole = λ n. let w = rw (cells_on n ks d j h other) at (z.whole n) in w;
-      small = omega (arith, z.small);
-    }
+  wides_on : (l : Kept) (ls : List Kept) → d + 2 < l.depth → (l.depth ≡ d + 3 → ⊥) → wides d (l ∷ ls) ≡ wides d ls
+  wides_on l ls h e = rw (take_while-cons (below_row d) l ls, lt-ltb (d + 2) l.depth h, ne_eqb l.depth (d + 3) e)
+
+  wides_sum : (n : ℕ) (ks : List Kept) → sum (wides d ks) ≡ row_sum (frame d n ks).cells
+  unfolding sum row_sum frame
+  wides_sum n [] = refl
+  wides_sum n (l ∷ ls) = go (dec_lt (d + 2) l.depth) (ℕ_discrete l.depth (d + 3)) (wides_sum (0 + 1 + n) ls)
+    where
+      cells_at : {cs : List Cell} → (framed n (l ∷ ls) d 0).cells ≡ cs → row_sum cs ≡ row_sum (frame d n (l ∷ ls)).cells
+      cells_at e = ap row_sum (sym e ∙ ap (λ (f : Frame). f.cells) (framed_all n (l ∷ ls) d))
+
+      go : Dec (d + 2 < l.depth) → Dec (l.depth ≡ d + 3) → sum (wides d ls) ≡ row_sum (frame d (0 + 1 + n) ls).cells
+          → sum (wides d (l ∷ ls)) ≡ row_sum (frame d n (l ∷ ls)).cells
+      go (no g) e rest = ap sum (wides_none l ls (omega arith)) ∙ cells_at (cells_none n (l ∷ ls) d 0 (omega arith))
+      go (yes g) (yes e) rest =
+          ap sum (wides_more l ls e) ∙ ap (λ (k : ℕ). max l.cols 1 + k) rest
+          ∙ cells_at (cells_more n (l ∷ ls) d 0 g (omega arith))
+      go (yes g) (no e) rest = ap sum (wides_on l ls g e) ∙ rest ∙ cells_at (cells_on n (l ∷ ls) d 0 g (λ o. e (omega arith)))
+
+  wides_small : (ks : List Kept) → ((k : ℕ) → (get_or ks k no_kept).cols ≤ max_cols) → sum (wides d ks) ≤ length ks * max_cols
+  unfolding sum
+  wides_small [] h = omega arith
+  wides_small (l ∷ ls) h = go (dec_lt (d + 2) l.depth) (ℕ_discrete l.depth (d + 3)) (wides_small ls (λ k. h (suc k)))
+    where
+      go : Dec (d + 2 < l.depth) → Dec (l.depth ≡ d + 3) → sum (wides d ls) ≤ length ls * max_cols → sum (wides d (l ∷ ls)) ≤ length (l ∷ ls) * max_cols
+      go (no g) e rest = omega (arith, ap sum (wides_none l ls (omega arith)))
+      go (yes g) (yes e) rest = omega (arith, ap sum (wides_more l ls e), h 0)
+      go (yes g) (no e) rest = omega (arith, ap sum (wides_on l ls g e))
+
+-- an iterator of which every run is told gives these
+abbrev pub Gives : {S A : Type 0} {steps : S → Option A → S → Type 0} {s : S} {P : Run steps → Type 0} → EachRunFrom steps s P → List A → Type 0
+Gives {steps = steps} {s = s} runs xs = YieldsList steps (λ x. x) s xs
+
+module _ {ks : List Kept} {d : ℕ} (t : Lines ks d) where
+  wides_fit : sum (wides d ks) ≤ max_lines * max_cols
+  wides_fit = omega (arith, wides_small d ks t.narrow, t.short)
+
+  by_sum : sum (wides d ks) ≡ sum_by (λ x. x) (wides d ks)
+  unfolding sum
+  by_sum = is_sum_by sum (λ x. x) refl (λ _ _. refl) (wides d ks)
+
+  -- what an iterator that gives them comes to
+  pub row_fits : {S : Type 0} {steps : S → Option ℕ → S → Type 0} (s : S) → YieldsList steps (λ x. x) s (wides d ks)
+      → EachRunFrom steps s (λ p. fold (λ a x. a + x) 0 p.items < 4294967296)
+  row_fits s come = fits_from_yields_list s 4294967296 come (omega (arith, wides_fit, by_sum))
+
+  pub row_summed : {S : Type 0} {steps : S → Option ℕ → S → Type 0} (s : S) (r : ℕ) → ((xs : List ℕ) × (⊤ → Drains steps s xs) × (r ≡ fold (λ a x. a + x) 0 xs)) → YieldsList steps (λ x. x) s (wides d ks)
+      → (n : ℕ) → RowSum (frame d n ks).cells r
+  row_summed s r ran come n =
+      let e = sum_from_yields_List s r ran come ∙ sym by_sum in
+      record { is = e ∙ wides_sum d n ks; small = omega (arith, e, wides_fit) }
 
 -- the sum of the row whose cells are lent
 pub sum_lent : (ks : List Kept) (d i s : ℕ) → ((n : ℕ) → RowSum (frame d n (take (length ks - i) (drop i ks))).cells s) → (n : ℕ) → RowSum (framed n ks d i).cells s

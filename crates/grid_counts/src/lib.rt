@@ -30,14 +30,14 @@ pub struct Body {
 }
 
 // One more than the entries that a table may have: counting stops there.
-const MANY: u32 = 8193;
+const MANY: u32 = MAX_ENTRIES as u32 + 1;
 
 // Into how many rows a cell hangs, where `left` rows follow its own in the body.
-// `rows_within` of cells is alike: each is by its own definition.
 fn hangs_within(rows: u32, left: u32) -> u32
+    requires { left < max_lines }
     ensures { Hanging left rows result }
 {
-    if rows == 0 { left } else { left.min(rows - 1) }
+    cells::rows_within(rows, left) - 1
 }
 
 // The entries of a cell that hangs into so many rows more; no more than `MANY` are counted.
@@ -63,16 +63,13 @@ fn row_sum(lines: &[Kept], d: u8) -> u32
     ensures { (n : ℕ) → RowSum (frame d n lines.now).cells result }
 {
     let row = d + 2;
-    let mut sum: u32 = 0;
-    for line in lines {
-        if line.depth <= row {
-            break;
-        }
-        if line.depth == row + 1 {
-            sum += u32::from(line.cols.max(1));
-        }
-    }
-    sum
+    let cell = d + 3;
+    lines
+        .iter()
+        .take_while(|line| row < line.depth)
+        .filter(|line| line.depth == cell)
+        .map(|line| u32::from(line.cols.max(1)))
+        .sum()
 }
 
 // How many rows the body has that the first of these lines are, and their largest sum; and a clear place for each of its rows.
@@ -141,9 +138,7 @@ fn count_body(lines: &[Kept], d: u8, entries: u32, ends: &mut [u32]) -> Result<u
     requires { BodyReady lines.now d entries ends.old }
     ensures { (n : ℕ) → BodyCounted (frame d n lines.now).rows entries result }
 {
-    let found = survey(lines, d, ends);
-    let rows = found.rows;
-    let most = found.most;
+    let Body { rows, most } = survey(lines, d, ends);
     let body = d + 1;
     let mut reach: u32 = 0;
     let mut n = entries;

@@ -12,13 +12,11 @@ use kinds::Kind;
 pub fn n_at(bytes: &[u8], at: usize, kind: Kind) -> Option<Scanned<u32>>
     ensures { result ≡ number_read (n_fits kind) shifted at (drop at bytes.now) }
 {
-    if kind == Kind::Head {
-        return numbers::shifted_at(bytes, at, 1, 6);
+    match kind {
+        Kind::Head => numbers::shifted_at(bytes, at, 1, 6),
+        Kind::Ol => numbers::signed_at(bytes, at),
+        _ => numbers::shifted_at(bytes, at, 0, 0),
     }
-    if kind == Kind::Ol {
-        return numbers::signed_at(bytes, at);
-    }
-    numbers::shifted_at(bytes, at, 0, 0)
 }
 
 // Cells alone have spans: the largest that a line of the kind may have, where a cell may have `most`.

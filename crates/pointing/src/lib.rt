@@ -29,7 +29,7 @@ fn closes_at(x: u32, wide: u32, column: u32) -> bool
 fn lies_inside(x: u32, wide: u32, from: u32, to: u32) -> bool
     ensures { result ≡ inside (at x wide) from to }
 {
-    wide != 0 && from <= x && x <= to && wide <= to - x
+    wide != 0 && (from..=to).contains(&x) && wide <= to - x
 }
 
 // The joining character by whether a gap stands above, and below.

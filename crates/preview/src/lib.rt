@@ -9,7 +9,7 @@ ghost use Rattle.lists.specs.Limits.{max_entries};
 ghost use Rattle.pointing.specs.Point.{placed};
 ghost use Rattle.answers.specs.declared.Under.TheVariants.{Cell};
 ghost use Rattle.preview.specs.Preview.{pointed_of, joined_of, WithinAnswer};
-ghost use Rattle.preview.specs.inner.Said.{SpotFits, SpotRoom, pointed_by, joined_by, entries_by, counted_by, EntriesListed};
+ghost use Rattle.preview.specs.inner.Said.{SpotFits, SpotRoom, entries_by, counted_by, EntriesListed};
 
 use answers::{Joint, Under};
 use arguments::Settings;
@@ -30,29 +30,8 @@ fn told(under: Under<usize>) -> Under<u32>
     }
 }
 
-// What lies at the column of the row that was found.
-// Here and below a `PlacedRow` is written out: a function for it would have as many parameters as it has fields.
-#[tactic(auto, unfolding(crate::specs::inner::Said::pointed_by))]
-fn point_in(
-    spot: Result<Span, Refusal>,
-    x: &[u32],
-    wide: &[u32],
-    column: u32,
-) -> Result<Under<u32>, Refusal>
-    requires { SpotFits spot x.now wide.now }
-    ensures { result ≡ pointed_by (placed x.now wide.now) column spot }
-{
-    let row = spot?;
-    let placed = PlacedRow {
-        x,
-        wide,
-        first: row.first,
-        end: row.end,
-    };
-    Ok(told(placed.at(column)))
-}
-
 // What lies at character column x of a row.
+// Here and below a `PlacedRow` is written out: a function for it would be handed nearly what it writes.
 // `joining` and `within` begin alike: one function with a closure would ask of it what `SpotFits` says, and promise what it answers.
 pub fn at(
     sheet: &[u8],
@@ -68,35 +47,14 @@ pub fn at(
     let asked = Settings::of_pointing(wrap, raw, width);
     let mut starts = [0u32; MAX_ENTRIES];
     let mut widths = [0u32; MAX_ENTRIES];
-    let spot = spots::find(sheet, line, asked, row, &mut starts, &mut widths);
-    point_in(spot, &starts, &widths, x)
-}
-
-// The joining character below the row that was found.
-#[tactic(auto, unfolding(crate::specs::inner::Said::joined_by))]
-fn join_in(
-    spot: Result<Span, Refusal>,
-    x: &[u32],
-    wide: &[u32],
-    column: u32,
-) -> Result<Joint, Refusal>
-    requires { SpotFits spot x.now wide.now }
-    ensures { result ≡ joined_by (placed x.now wide.now) column spot }
-{
-    let row = spot?;
-    let above = PlacedRow {
-        x,
-        wide,
+    let row = spots::find(sheet, line, asked, row, &mut starts, &mut widths)?;
+    let placed = PlacedRow {
+        x: &starts,
+        wide: &widths,
         first: row.first,
         end: row.end,
     };
-    let below = PlacedRow {
-        x,
-        wide,
-        first: row.end,
-        end: row.next,
-    };
-    Ok(above.joining(&below, column))
+    Ok(told(placed.at(x)))
 }
 
 // The joining character at character column x between a row and the next.
@@ -115,8 +73,20 @@ pub fn joining(
     let asked = Settings::of_pointing(wrap, raw, width);
     let mut starts = [0u32; MAX_ENTRIES];
     let mut widths = [0u32; MAX_ENTRIES];
-    let spot = spots::find(sheet, line, asked, row, &mut starts, &mut widths);
-    join_in(spot, &starts, &widths, x)
+    let row = spots::find(sheet, line, asked, row, &mut starts, &mut widths)?;
+    let above = PlacedRow {
+        x: &starts,
+        wide: &widths,
+        first: row.first,
+        end: row.end,
+    };
+    let below = PlacedRow {
+        x: &starts,
+        wide: &widths,
+        first: row.end,
+        end: row.next,
+    };
+    Ok(above.joining(&below, x))
 }
 
 // The printed cells in the stretch of the row that was found, written to the front of the lent buffer, and how many.

@@ -1,13 +1,14 @@
 // What is kept of a line of a sheet, of an entry of a grid and of a row of it.
 #![tactic(auto)]
 
-ghost use Rattle.std.specs.Prelude.{◌≡◌};
+ghost use Rattle.std.specs.Prelude.{◌≡◌, ◌+◌};
 ghost use Rattle.records.specs.Kept.{kept_bare, kept_cell, kept_text};
 
 use kinds::Kind;
+use std::ops::Range;
 
 // The number of a line that has none: 0, shifted up as numbers are.
-// `SHIFT` of text is the same number: neither crate stands on the other.
+// `SHIFT` of text is the same number for another thing: each is by its own definition.
 const NO_NUMBER: u32 = 1000000000;
 
 // What is kept of a line. The number is shifted up by 1,000,000,000; own is the size of the line's own text, 2 more for img.
@@ -64,6 +65,17 @@ pub struct Entry {
     pub cell: u32,
     pub first: u32,
     pub span: u32,
+}
+
+impl Entry {
+    // Its columns. `as` since there is no `From` of 32 bits to a `usize`.
+    pub fn columns(self) -> Range<usize>
+        ensures start { result.start ≡ self.first }
+        ensures end { result.end ≡ self.first + self.span }
+    {
+        let first = self.first as usize;
+        first..first + self.span as usize
+    }
 }
 
 // A row of a table's grid: its line, and how many entries there are up to and including it.

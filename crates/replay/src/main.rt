@@ -4,6 +4,8 @@
 
 ghost use Rattle.std.specs.Prelude.{◌≡◌, ◌≤◌, ◌<◌, length, IfSome};
 
+use fields::numbers::digits_in;
+use fields::places::field_at;
 use writing::lines::Listing;
 
 // The descriptor of standard input.
@@ -12,25 +14,14 @@ const STANDARD_INPUT: i32 = 0;
 const INPUT_BYTES: usize = 1048576;
 
 // The bytes of the first case of an input, and those after it; none where no whole frame stands there.
-// Not by `written_in` of fields: that refuses leading zeros, which are taken here.
+// Not by `written_in` of fields: that refuses leading zeros, which are taken here. `as` for the size: it is at most that of the whole input.
 fn first_case(input: &[u8]) -> Option<(&[u8], &[u8])>
     ensures { IfSome result (λ r. length r.1.now < length input.now) }
 {
     let framed = input.strip_prefix(b"case ")?;
-    let mut size = 0;
-    for (i, &b) in framed.iter().enumerate() {
-        if b == b'\n' {
-            return framed[i + 1..].split_at_checked(size);
-        }
-        if !b.is_ascii_digit() {
-            return None;
-        }
-        size = 10 * size + usize::from(b - b'0');
-        if size > INPUT_BYTES {
-            return None;
-        }
-    }
-    None
+    let field = field_at(framed, 0, b'\n')?;
+    let size = digits_in(field, INPUT_BYTES as u32)?;
+    framed[field.len() + 1..].split_at_checked(size as usize)
 }
 
 // Puts the number of a case and what is listed of it.

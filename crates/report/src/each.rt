@@ -1,10 +1,11 @@
 // Each table of a walked sheet, laid out and printed.
 // `as` where a place or a number of columns is known to fit 32 bits: a `TryFrom` would never fail.
 ghost use Rattle.std.specs.Prelude.{◌≤◌, length};
+ghost use Rattle.lists.specs.Limits.{max_size};
 ghost use Rattle.causes.specs.inner.Tables.{Explainable};
 ghost use Rattle.report.specs.inner.Read.{TableAt};
 
-use super::{Asked, Form, Walked};
+use super::{Form, Walked};
 use answers::Way;
 use gridding::Records;
 use kinds::Kind;
@@ -13,6 +14,15 @@ use text::Estimate;
 use walking::{Measured, Scratch};
 use writing::entries::Entries;
 use writing::lines::Listing;
+
+// What is asked for of a table: the form, and the two settings that a measured table is laid out at. The width is the one that the walk gives it.
+#[derive(Clone, Copy)]
+struct Asked {
+    form: Form,
+    raw: u32,
+    width: u32,
+    ghost width_bound: { width ≤ max_size },
+}
 
 // Puts what is asked for of a table that is laid out. An explanation prints no places of entries: it takes their room.
 fn shown(
@@ -91,7 +101,8 @@ fn table(out: &mut Listing<'_>, place: usize, asked: Asked, m: Measured<'_>, s: 
 fn walked_table(
     out: &mut Listing<'_>,
     place: usize,
-    asked: Asked,
+    form: Form,
+    raw: u32,
     w: Walked<'_>,
     s: &mut Scratch<'_>,
 )
@@ -100,20 +111,16 @@ fn walked_table(
     let Some(width) = w.widths[place] else {
         return;
     };
-    let asked = Asked {
-        form: asked.form,
-        raw: asked.raw,
-        width,
-    };
+    let asked = Asked { form, raw, width };
     table(out, place, asked, w.measured, s);
 }
 
 // Puts every table of a sheet that has a width, in the order of their lines. Every table is laid out in the same room, of which nothing is cleared in
 // between.
-pub fn all_tables(out: &mut Listing<'_>, asked: Asked, w: Walked<'_>, s: &mut Scratch<'_>) {
+pub fn all_tables(out: &mut Listing<'_>, form: Form, raw: u32, w: Walked<'_>, s: &mut Scratch<'_>) {
     for (i, line) in w.measured.lines.iter().enumerate() {
         if line.kind == Kind::Table {
-            walked_table(out, i, asked, w, s);
+            walked_table(out, i, form, raw, w, s);
         }
     }
 }

@@ -4,8 +4,7 @@
 
 mod each; // each.rt: each table of a walked sheet
 
-ghost use Rattle.std.specs.Prelude.{◌≤◌, length};
-ghost use Rattle.lists.specs.Limits.{max_size};
+ghost use Rattle.std.specs.Prelude.{length};
 ghost use Rattle.report.specs.inner.Read.{WalkNarrow};
 
 use arguments::Settings;
@@ -26,16 +25,6 @@ pub enum Form {
     Explain,
 }
 
-// What is asked for: the form, and the settings of a layout.
-// Two of the four settings: a walk has no wrap, the width of a table in it is its own, and walking does not stand on arguments.
-#[derive(Clone, Copy)]
-pub struct Asked {
-    pub form: Form,
-    pub raw: u32,
-    pub width: u32,
-    pub ghost width_bound: { width ≤ max_size },
-}
-
 // A measured sheet and the width of each of its lines, if it has one: tables can be laid out at these.
 #[derive(Clone, Copy)]
 pub struct Walked<'a> {
@@ -46,7 +35,7 @@ pub struct Walked<'a> {
 
 // Puts every table of a walked sheet. All tables are laid out in the same arrays, which pacing makes likewise: no function can hand out slices of its own
 // arrays, and a struct that owned them would fix their lengths, where `Scratch` takes slices of any length that do.
-fn laid(out: &mut Listing<'_>, asked: Asked, w: Walked<'_>) {
+fn laid(out: &mut Listing<'_>, form: Form, raw: u32, w: Walked<'_>) {
     let mut entries = [records::NO_ENTRY; MAX_ENTRIES];
     let mut rows = [records::NO_ROW; MAX_LINES];
     let mut column = [0u32; MAX_POSITION];
@@ -59,7 +48,7 @@ fn laid(out: &mut Listing<'_>, asked: Asked, w: Walked<'_>) {
         x: &mut x,
         wide: &mut wide,
     };
-    each::all_tables(out, asked, w, &mut s);
+    each::all_tables(out, form, raw, w, &mut s);
 }
 
 // Puts every table of a sheet at the width that the walk gives it, unless the sheet is refused. The sheet is read, measured and walked once, however many
@@ -75,11 +64,6 @@ fn opened(
     let mut figures = [estimates::NONE; MAX_LINES];
     let mut walk = [None; MAX_LINES];
     let mut leasts = [0u32; MAX_POSITION];
-    let asked = Asked {
-        form,
-        raw: settings.raw,
-        width: settings.width,
-    };
     let n = pacing::walk_sheet(
         sheet,
         None,
@@ -97,7 +81,7 @@ fn opened(
         measured,
         widths: &walk,
     };
-    laid(out, asked, w);
+    laid(out, form, settings.raw, w);
     Ok(())
 }
 

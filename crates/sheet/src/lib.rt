@@ -104,7 +104,10 @@ fn still_filled(filled: bool, lines: &[Kept], n: usize, next: Kept) -> bool
     requires { n ≤ length lines.now }
     ensures { result ≡ true → (filled ≡ true) × (0 < n → lacks_child (get_or lines.now (n - 1) no_kept) next ≡ false) }
 {
-    filled && (n == 0 || !lacks_child(lines[n - 1], next))
+    filled
+        && !lines[..n]
+            .last()
+            .is_some_and(|last| lacks_child(*last, next))
 }
 
 // What is asked after the lines: 4 for no line, or for the first table or body left empty. In most sheets there is none, which is seen at once.

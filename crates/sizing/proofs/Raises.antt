@@ -68,13 +68,13 @@ module _ {es : List Entry} {figures : List Estimate} {sizes₀ leasts₀ : List 
             leasts_are = largest_skip least_of bs n leasts i here_in b here z.leasts_are (omega (arith, entry_whole.low));
           }
 
-      pub raise_turn : (a k : ℕ) → a ≡ e.first → k ≡ e.span → {ys vs : List ℕ} →
-          ys ≡ map (λ (x : ℕ). max x (f.size / e.span)) (take k (drop a sizes)) →
-          vs ≡ map (λ (x : ℕ). max x (f.least / e.span)) (take k (drop a leasts)) →
-          Sofar es figures n (take a sizes ++ (ys ++ drop k (drop a sizes))) (take a leasts ++ (vs ++ drop k (drop a leasts))) (i + 1)
-      raise_turn a k p o {ys} {vs} y v =
+      pub raise_turn : {a k a₂ k₂ : ℕ} {ys vs : List ℕ} →
+          a ≡ e.first → k ≡ e.span → ys ≡ map (λ (x : ℕ). max x (f.size / e.span)) (take k (drop a sizes)) →
+          a₂ ≡ e.first → k₂ ≡ e.span → vs ≡ map (λ (x : ℕ). max x (f.least / e.span)) (take k₂ (drop a₂ leasts)) →
+          Sofar es figures n (take a sizes ++ (ys ++ drop k (drop a sizes))) (take a₂ leasts ++ (vs ++ drop k₂ (drop a₂ leasts))) (i + 1)
+      raise_turn {a} {k} {a₂} {k₂} {ys} {vs} p o y p₂ o₂ v =
           record {
             at_most = omega arith;
             sizes_are = largest_turn size_of bs n sizes i here_in b here z.sizes_are ys a k entry_whole.ends p o y;
-            leasts_are = largest_turn least_of bs n leasts i here_in b here z.leasts_are vs a k entry_whole.ends p o v;
+            leasts_are = largest_turn least_of bs n leasts i here_in b here z.leasts_are vs a₂ k₂ entry_whole.ends p₂ o₂ v;
           }

@@ -1,6 +1,6 @@
 // The figures of a table's columns, from the records of its entries and of the estimates, and the columns laid out, with room of two sizes.
 // raw and width are two parameters, as the definitions have them, and raw a number. Sizes and leasts are a slice each, as there is a list of each.
-// `as` where a line, a column or a span becomes a `usize`, for which there is no `From`.
+// `as` where a line becomes a `usize`, for which there is no `From`.
 #![tactic(auto)]
 
 ghost use Rattle.std.specs.Prelude.{◌≡◌, ◌≤◌, length};
@@ -21,10 +21,8 @@ fn figures_of(figures: &[Estimate], cell: u32) -> Estimate
     requires { cell ≤ length figures.now }
     ensures { result ≡ figure_at figures.now cell }
 {
-    if cell == 0 {
-        return estimates::NONE;
-    }
-    figures[(cell - 1) as usize]
+    cell.checked_sub(1)
+        .map_or(estimates::NONE, |at| figures[at as usize])
 }
 
 // The largest quotient of figure and span in each column, as `render_table_tree` takes it of sizes and of least widths.
@@ -39,10 +37,8 @@ pub fn raise_columns(entries: &[Entry], figures: &[Estimate], sizes: &mut [u32],
         let f = figures_of(figures, e.cell);
         // without a size, as with every filler, there is nothing to raise: no least is above its size
         if f.size != 0 {
-            let from = e.first as usize;
-            let to = from + e.span as usize;
-            columns::raise(&mut sizes[from..to], f.size / e.span);
-            columns::raise(&mut leasts[from..to], f.least / e.span);
+            columns::raise(&mut sizes[e.columns()], f.size / e.span);
+            columns::raise(&mut leasts[e.columns()], f.least / e.span);
         }
     }
 }

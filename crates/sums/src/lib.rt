@@ -22,7 +22,8 @@ fn bounded(x: Option<i64>) -> Option<i64>
     x.filter(|x| x.unsigned_abs() <= LIMIT)
 }
 
-// The result of an operator on two values. A quotient is towards zero; there is none by nought.
+// The result of an operator on two values. A quotient is towards zero; there is none by nought. `bounded` in each arm: as one call around the `match`
+// it was not proved, since the definition has it in each.
 fn reckoned(o: Op, a: i64, b: i64) -> Option<i64>
     ensures { result ≡ result_of o a b }
 {

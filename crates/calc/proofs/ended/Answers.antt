@@ -1,21 +1,14 @@
 -- `calc::ended` meets its contract: the number of open brackets decides first, then the place. Assumes nothing.
 use mathlib.Core.Path.{sym, ap, ◌∙◌}
-use Prim.Native.Nat.{ℕ}
-use native.Mathlib.Omega.{arith}
 use borrow.Author.Tests.{eq-eqb, ne_eqb}
-use Rattle.std.specs.Prelude.{refl, ◌≡◌, Option, None, Some, Result, Err, ok_or, ℤ}
+use Rattle.std.specs.Prelude.{refl, ◌≡◌, Option, None, Some, Err, ok_or, ℤ}
 use Rattle.std.specs.Result.{result_ok}
 use Rattle.std.proofs.Common.{rules}
-use Rattle.lists.specs.declared.Reason.{Reason}
 use Rattle.lists.specs.declared.Reason.TheVariants.{OutOfBounds}
 use Rattle.sums.specs.Answers.{answer_by}
 use Rattle.calc.specs.inner.Kept.{place_of, end_at}
+use Rattle.calc.proofs.Handed.{handed}
 use Rattle.calc.proofs.ended.Goals as goal
-
--- what is handed up is the reason that was given
-handed : (o : Option (Option ℤ)) (why e : Reason) (r : Result (Option ℤ) Reason) → r ≡ ok_or o why → r ≡ Err e → (o ≡ None) × (e ≡ why)
-handed None why e r a b = (refl, cc)
-handed (Some x) why e r a b = let z : ◌≡◌ {A = ℕ} 0 1 = cc in absurd (omega arith)
 
 pub returns-then-depth-ne0 : goal.returns-then-depth-ne0
 unfolding end_at answer_by
@@ -24,9 +17,9 @@ returns-then-depth-ne0 c = rw (ne_eqb _ 0 c.if-depth-ne0.true)
 pub returns-in_err-ok_or : goal.returns-in_err-ok_or
 unfolding end_at answer_by
 returns-in_err-ok_or c =
-    let h = handed _ _ _ _ c.ok_or.ensures.value c.in_err-ok_or.was in
     let q : c.from_residual.result ≡ Err c.in_err-ok_or.field-0.0 = search rules in
-    rw (eq-eqb _ 0 c.if-depth-ne0.false) (q ∙ ap Err h.1 ∙ ap answer_by (sym h.0 ∙ c.total.ensures))
+    let h = handed _ _ _ _ c.ok_or.ensures.value c.in_err-ok_or.was in
+    rw (eq-eqb _ 0 c.if-depth-ne0.false) (q ∙ ap Err h.1 ∙ ap answer_by (h.0 ∙ c.total.ensures))
 
 pub returns : goal.returns
 unfolding end_at answer_by

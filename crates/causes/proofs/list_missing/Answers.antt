@@ -16,8 +16,8 @@ pub loop-i-preserved : goal.loop-i-preserved
 loop-i-preserved c =
     let more = less (goal.at.loop-i-preserved c).In-loop-i in
     elim c.if-none_shown.branch [
-      | then-none_shown w ↦ rw (w.missing-is, w.n-is) (list_take c.requires c.loop-i.invariant more refl refl refl c.none_shown.ensures w.if-none_shown.true refl)
-      | else-none_shown w ↦ rw (w.missing-is, w.n-is) (list_pass c.requires c.loop-i.invariant more refl refl refl c.none_shown.ensures w.if-none_shown.false)
+      | then-none_shown w ↦ rw (w.missing-is, w.n-is) (list_take c.requires c.loop-i.invariant more refl c.columns.ensures.start c.columns.ensures.end c.none_shown.ensures w.if-none_shown.true refl)
+      | else-none_shown w ↦ rw (w.missing-is, w.n-is) (list_pass c.requires c.loop-i.invariant more refl c.columns.ensures.start c.columns.ensures.end c.none_shown.ensures w.if-none_shown.false)
     ]
 
 pub returns : goal.returns

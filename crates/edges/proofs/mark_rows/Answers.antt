@@ -79,8 +79,4 @@ count_words-requires c =
     }
 
 pub returns : goal.returns
-returns c =
-    record {
-      counted = c.count_words.ensures;
-      marked = rows_stop c.loop-row.invariant (omega (arith, length-map c.args.rows.now row_end, c.loop-row-test.false));
-    }
+returns c = rows_stop c.loop-row.invariant (omega (arith, length-map c.args.rows.now row_end, c.loop-row-test.false))

@@ -4,22 +4,17 @@
 -- say that the lines passed have their estimates, and that what is combined so far, with the lines left, comes to the whole. The measure is
 -- three times the lines left, one more for `table` and two more for `node`, which may call for their own line. Assumes nothing.
 use mathlib.Core.Path.{refl, sym, ap, ◌∙◌}
-use lib.ListN.{set}
+use Prim.Native.Nat.{ℕ, ◌+◌, max}
+use lib.ListN.{get_or, set}
 use native.Mathlib.Omega.{arith}
 use borrow.Author.Tests.{eqb-false}
-use Rattle.estimates.specs.inner.Cycle.{Holder}
-use Rattle.estimates.proofs.Children.{roomy, again, cell_child, cell_again, cell_leaf, cell_fits, cell_end, plain_holder, leaf_meets, table_meets, holder_ready, holder_meets}
+use Rattle.estimates.specs.Estimates.{none}
+use Rattle.estimates.specs.inner.Cycle.{Holder, NodeMeets}
+use Rattle.estimates.proofs.Children.{CellLoop, roomy, again, cell_child, cell_again, cell_fits, cell_end, plain_holder, leaf_meets, holder_ready, holder_meets}
 use Rattle.estimates.proofs.Framing.{table_again, table_unfilled, table_stop, table_ready, table_end}
 use Rattle.estimates.specs.Sheet.{line_at}
 use Rattle.estimates.proofs.+cell_node_table.Goals as goal
-
-pub cell-overflow_add-sum : goal.cell-overflow_add-sum
-cell-overflow_add-sum t c =
-    omega (arith, cell_fits c.requires.node_ready.sheet (cell_leaf c.requires.node_ready.sheet c.loop-i.invariant c.loop-i-test.true c.if-line-top.false refl (sym c.is_leaf.ensures ∙ c.if-is_leaf.true) c.leaf-e.ensures refl))
-
-pub cell-loop-i-preserved-then-is_leaf : goal.cell-loop-i-preserved-then-is_leaf
-cell-loop-i-preserved-then-is_leaf t c =
-    rw c.max-most.ensures (cell_leaf c.requires.node_ready.sheet c.loop-i.invariant c.loop-i-test.true c.if-line-top.false refl (sym c.is_leaf.ensures ∙ c.if-is_leaf.true) c.leaf-e.ensures refl)
+use Rattle.estimates.proofs.+cell_node_table.Goals.{cell-Joined-is_leaf, cell-then-is_leaf, cell-else-is_leaf}
 
 pub cell-node-next-requires : goal.cell-node-next-requires
 cell-node-next-requires t c = (
@@ -30,13 +25,25 @@ cell-node-next-requires t c = (
   ),
 )
 
-pub cell-overflow_add-sum-else-is_leaf : goal.cell-overflow_add-sum-else-is_leaf
-cell-overflow_add-sum-else-is_leaf t c =
-    omega (arith, cell_fits c.requires.node_ready.sheet (cell_again c.loop-i.invariant c.loop-i-test.true c.if-line-top.false c.node-next.ensures refl))
+-- a child is passed with all below it
+child_passed : (t : ℕ) (c : cell-Joined-is_leaf t) → NodeMeets c.args.wrap c.args.lines.now c.loop-i.figures c.if-is_leaf.figures c.loop-i.i c.if-is_leaf.next
+child_passed t c =
+    let w = c.requires.node_ready.sheet in
+    elim c.if-is_leaf.branch [
+      | cell-then-is_leaf b ↦
+          rw b.next-is (leaf_meets w c.loop-i-test.true c.loop-i.invariant.passed.sized refl (sym c.is_leaf.ensures ∙ b.if-is_leaf.true) b.leaf.ensures b.figures-is)
+      | cell-else-is_leaf b ↦ rw (b.figures-is, b.next-is) b.node-next.ensures
+    ]
+
+turn : (t : ℕ) (c : cell-Joined-is_leaf t)
+    → CellLoop c.args.wrap c.args.lines.now c.args.figures.now c.if-is_leaf.figures c.args.at (c.loop-i.sum + (get_or c.if-is_leaf.figures c.loop-i.i none).size) (max c.loop-i.most (get_or c.if-is_leaf.figures c.loop-i.i none).least) (c.loop-i.children + 1) c.if-is_leaf.next
+turn t c = cell_again c.loop-i.invariant c.loop-i-test.true c.if-line-top.false (child_passed t c)
+
+pub cell-overflow_add-sum : goal.cell-overflow_add-sum
+cell-overflow_add-sum t c = omega (arith, cell_fits c.requires.node_ready.sheet (turn t (goal.at.cell-overflow_add-sum t c).Joined-is_leaf))
 
 pub cell-loop-i-preserved : goal.cell-loop-i-preserved
-cell-loop-i-preserved t c =
-    rw c.max-most-else-is_leaf.ensures (cell_again c.loop-i.invariant c.loop-i-test.true c.if-line-top.false c.node-next.ensures refl)
+cell-loop-i-preserved t c = rw c.max-most.ensures (turn t (goal.at.cell-loop-i-preserved t c).Joined-is_leaf)
 
 pub cell-returns-after-loop-i : goal.cell-returns-after-loop-i
 cell-returns-after-loop-i t c =
@@ -55,10 +62,6 @@ node-holder-e-requires t c =
 pub node-returns-then-is_leaf : goal.node-returns-then-is_leaf
 node-returns-then-is_leaf t c =
     let r = c.requires.node_ready in leaf_meets r.sheet r.within (roomy r) refl (sym c.is_leaf.ensures ∙ c.if-is_leaf.true) c.leaf-e.ensures refl
-
-pub node-returns-then-eq : goal.node-returns-then-eq
-node-returns-then-eq t c =
-    let r = c.requires.node_ready in table_meets r.sheet r.within c.table-p.ensures (ap (set _ _) c.estimate.ensures)
 
 pub node-returns-else-eq : goal.node-returns-else-eq
 node-returns-else-eq t c =
@@ -89,4 +92,4 @@ table-table_figures-requires t c =
 pub table-returns : goal.table-returns
 table-returns t c =
     let r = c.requires.node_ready in
-    table_end r.sheet c.below_table-end.ensures r.lined (r.tables.sound _ r.within c.requires.at_table) r.within c.requires.at_table c.table_figures.ensures
+    table_end r.sheet c.below_table-end.ensures r.lined (r.tables.sound _ r.within c.requires.at_table) r.within c.requires.at_table c.table_figures.ensures refl

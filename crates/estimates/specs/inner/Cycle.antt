@@ -119,10 +119,3 @@ pub record CellMeets (wrap : ℕ) (ls : List Kept) (b c : List Estimate) (at : �
   pub few : r.children + at < r.after
   pub small : r.size + weight ls (at + 1) ≤ weight ls r.after
   pub least_size : r.least ≤ r.size
-
-pub record TableMeets (wrap : ℕ) (ls : List Kept) (b c : List Estimate) (at : ℕ) (r : Part) : Type 0 where
-  pub passed : Passed ls (done_of wrap ls) b c at (at + 1) r.after
-  pub ends : Ends ls (line_at ls at).depth r.after
-  pub est : estimate r.size r.least 0 ≡ est_at (done_of wrap ls) at
-  pub small : r.size + weight ls at ≤ weight ls r.after
-  pub least_size : r.least ≤ r.size

@@ -15,7 +15,6 @@ use Rattle.grid.specs.Grid.{grid_of}
 use Rattle.grid.specs.Facts.{Sound, CellOf}
 use Rattle.grid.specs.Judging.{Lined, shown}
 use Rattle.estimates.specs.Estimates.{estimate, none}
-use Rattle.estimates.specs.declared.Part.{Part}
 
 -- ---- a table by boxes
 
@@ -33,9 +32,8 @@ pub record Spreads (bs : List Box) (n r : ℕ) (columns : List ℕ) : Type 0 whe
   pub all : r ≡ spread_cells bs
   pub leasts : columns ≡ largest least_of bs n
 
-pub record Tabulated (columns : ℕ) (bs : List Box) (end : ℕ) (r : Part) : Type 0 where
-  pub after : r.after ≡ end
-  pub est : estimate r.size r.least 0 ≡ tabled_by columns bs
+pub record Tabulated (columns : ℕ) (bs : List Box) (r : Estimate) : Type 0 where
+  pub est : r ≡ tabled_by columns bs
   pub least_size : r.least ≤ r.size
 
 -- ---- the boxes of entries

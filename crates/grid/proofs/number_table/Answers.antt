@@ -6,5 +6,5 @@ use Rattle.grid.proofs.number_table.Goals as goal
 pub returns : goal.returns
 returns c =
     numbered_words
-    (marked_set _ _ _ _ c.new-none.ensures c.with-start.ensures c.mark_rows-numbers.ensures.marked)
+    (marked_set _ _ _ _ c.new-none.ensures c.with-start.ensures c.mark_rows-numbers.ensures)
     c.number_rows.ensures

@@ -1,26 +1,26 @@
--- `grid_counts::row_sum` meets its contract. The loop's invariant, `Summing`: what is added up, with the sum of the cells from the next line on, is the row's sum.
--- Assumes nothing.
-use mathlib.Core.Path.{◌∙◌}
-use Prim.Native.Nat.{◌+◌, ◌<◌}
-use native.Mathlib.Omega.{arith}
-use lib.ListN.{get_or}
-use Rattle.records.specs.Kept.{no_kept}
-use Rattle.grid_counts.proofs.Scan.{past_lines}
-use Rattle.grid_counts.proofs.SumLoop.{sum_stop, sum_more, sum_on}
+-- `grid_counts::row_sum` meets its contract: the chain gives the cols of the row's cells. Assumes nothing.
+use borrow.Author.Rules.{rules}
+use Rattle.std.proofs.lemmas.Iterator.{YieldsList-from_slice, YieldsList-from_map}
+use Rattle.std.proofs.lemmas.Iterator.Search.{YieldsList-from_take_while}
+use Rattle.std.proofs.lemmas.Iterator.Consumers.{YieldsList-at, YieldsList-from_filter}
+use Rattle.grid_counts.proofs.SumLoop.{below_row, of_cell, wide_of, wides, Gives, row_fits, row_summed}
 use Rattle.grid_counts.proofs.row_sum.Goals as goal
-use Rattle.grid_counts.proofs.row_sum.Goals.{then-line-row-2, else-line-row-2}
+use Rattle.grid_counts.proofs.row_sum.Goals.{After-map}
 
-pub loop-line-preserved : goal.loop-line-preserved
-loop-line-preserved c =
-    let z = c.loop-line.invariant in
-    let deep : c.args.d + 2 < (get_or c.args.lines.now c.loop-line.line-index no_kept).depth = omega arith in
-    elim c.if-line-row-2.branch [
-      | then-line-row-2 w ↦ rw w.sum-is (sum_more c.requires z deep (omega (arith, w.if-line-row-2.true)) _ (w.from-sum.ensures ∙ w.max.ensures))
-      | else-line-row-2 w ↦ rw w.sum-is (sum_on c.requires z deep (λ o. w.if-line-row-2.false (omega arith)))
-    ]
+come : (c : After-map) → Gives c.map.ensures.runs (wides c.args.d c.args.lines.now)
+come c =
+    YieldsList-from_map _ wide_of
+    (YieldsList-at c.map.ensures.source
+    (YieldsList-from_filter _ (of_cell c.args.d)
+    (YieldsList-at c.filter.ensures.source
+    (YieldsList-from_take_while _ (below_row c.args.d)
+    (YieldsList-at c.take_while.ensures.source (YieldsList-from_slice c.args.lines.now c.iter.ensures.rest))
+    c.take_while.ensures.closure c.take_while.ensures.done (λ x b q called. search rules)))
+    c.filter.ensures.closure (λ x b q called. search rules)))
+    c.map.ensures.closure (λ x r q called. search rules)
 
-pub returns-after-loop-line : goal.returns-after-loop-line
-returns-after-loop-line c = λ n. sum_stop c.requires c.loop-line.invariant n (omega (arith, past_lines c.args.lines.now c.loop-line.line-index (omega arith)))
+pub sum-requires-clause-fits : goal.sum-requires-clause-fits
+sum-requires-clause-fits c = row_fits c.requires c.map.result (come (goal.at.sum-requires-clause-fits c).After-map)
 
-pub returns-then-line-row : goal.returns-then-line-row
-returns-then-line-row c = λ n. sum_stop c.requires c.loop-line.invariant n (omega arith)
+pub returns : goal.returns
+returns c = row_summed c.requires c.map.result c.sum.result c.sum.ensures.ran (come (goal.at.returns c).After-map)

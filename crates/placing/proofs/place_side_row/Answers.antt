@@ -1,7 +1,7 @@
 -- `placing::place_side_row` meets its contract. The loop's invariant, `Sides`: the entries before i are written, and those left are placed from
 -- `start` on. An entry's columns lie within the row's, since it tiles them, so its part is there and its sum fits; the entry is written as the
 -- definition places it, and `start` is where the definition goes on. Assumes nothing.
-use mathlib.Core.Path.{◌≡◌, refl}
+use mathlib.Core.Path.{◌≡◌}
 use Prim.Native.Nat.{◌+◌, ◌-◌, ◌≤◌, ◌<◌}
 use native.Mathlib.Omega.{arith}
 use lib.ListN.{length, get_or, take, drop}
@@ -24,9 +24,7 @@ inside c = side_columns _ _ _ _ c.requires c.loop-i.i (less c)
 -- what `total` answers is their sum
 sum_is : (c : After-total-total) → let e = get_or c.args.entries.now c.loop-i.i no_entry in
     c.total-total.result ≡ sum (take e.span (drop e.first c.args.ws.now))
-sum_is c =
-    let e = get_or c.args.entries.now c.loop-i.i no_entry in
-    part_sum _ _ e.first e.span _ _ c.total-total.ensures refl refl
+sum_is c = part_sum _ _ _ _ _ _ c.total-total.ensures c.columns.ensures.start c.columns.ensures.end
 
 -- the entry does not reach too far
 room : (c : After-total-total) → c.loop-i.start + (c.total-total.result + (get_or c.args.entries.now c.loop-i.i no_entry).span) ≤ max_size + 1
@@ -38,14 +36,16 @@ room c =
 pub loop-i-init : goal.loop-i-init
 loop-i-init c = side_start _ _ _ _ c.requires
 
+pub offset_bounds-ws-columns : goal.offset_bounds-ws-columns
+offset_bounds-ws-columns c = omega (arith, inside (goal.at.offset_bounds-ws-columns c).In-loop-i)
+
 pub slice_bounds-total-end : goal.slice_bounds-total-end
 slice_bounds-total-end c = omega (arith, inside (goal.at.slice_bounds-total-end c).In-loop-i)
 
 pub total-total-requires : goal.total-total-requires
 total-total-requires c =
-    let e = get_or c.args.entries.now c.loop-i.i no_entry in
-    let s = side_sum _ _ _ _ c.requires e.first (e.first + e.span - e.first) in
-    omega (arith, s)
+    let r = c.columns.result in
+    omega (arith, side_sum _ _ _ _ c.requires r.start (r.end - r.start))
 
 pub own_width-requires : goal.own_width-requires
 own_width-requires c = omega (arith, room (goal.at.own_width-requires c).After-total-total)

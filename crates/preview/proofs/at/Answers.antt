@@ -1,12 +1,30 @@
--- `preview::at` meets its contract: the arrays have a place for each entry, and what lies at the column of the row that was found is the answer.
--- Assumes nothing.
-use mathlib.Core.Path.{◌∙◌}
+-- `preview::at` meets its contract: the arrays have a place for each entry, the number of a cell of the row fits, and what lies at the column of the row
+-- that was found is the answer. Assumes nothing.
+use Rattle.std.specs.Prelude.{Err}
+use Rattle.std.proofs.Common.{rules}
+use mathlib.Core.Path.{◌≡◌, sym, ◌∙◌}
+use Rattle.preview.specs.inner.Said.{pointed_by}
 use Rattle.spots.proofs.Early.{spot_opened}
-use Rattle.preview.proofs.Calls.{spot_fits, pointed_said}
+use Rattle.preview.proofs.Calls.{spot_fits, cell_fits, pointed_said}
 use Rattle.preview.proofs.at.Goals as goal
 
-pub point_in-requires : goal.point_in-requires
-point_in-requires c = spot_fits _ (spot_opened c.of_pointing-asked.ensures.asks c.find-spot.ensures)
+pub invariant_of-placed : goal.invariant_of-placed
+invariant_of-placed c = record { in_slices = (spot_fits _ (spot_opened c.of_pointing-asked.ensures.asks c.find.ensures) _ c.in_ok-row.was).here }
+
+pub told-requires : goal.told-requires
+told-requires c =
+    let fits = spot_fits _ (spot_opened c.of_pointing-asked.ensures.asks c.find.ensures) _ c.in_ok-row.was in
+    λ n e. cell_fits c.args.x fits n (sym c.at.ensures ∙ e)
 
 pub returns : goal.returns
-returns c = c.point_in.ensures ∙ pointed_said _ (spot_opened c.of_pointing-asked.ensures.asks c.find-spot.ensures) c.args.x c.of_pointing-asked.ensures.verdict
+unfolding pointed_by
+returns c =
+    let found = spot_opened c.of_pointing-asked.ensures.asks c.find.ensures in
+    rw (c.told.ensures, c.at.ensures) (rw c.in_ok-row.was at (pointed_said _ found c.args.x c.of_pointing-asked.ensures.verdict))
+
+pub returns-in_err-row : goal.returns-in_err-row
+unfolding pointed_by
+returns-in_err-row c =
+    let found = spot_opened c.of_pointing-asked.ensures.asks c.find.ensures in
+    let q : c.from_residual.result ≡ Err c.in_err-row.field-0.0 = search rules in
+    q ∙ (rw c.in_err-row.was at (pointed_said _ found c.args.x c.of_pointing-asked.ensures.verdict))

@@ -2,7 +2,6 @@
 -- give. A turn passes an entry without a size, or raises its columns by its two quotients; the parts that are lent lie within the columns,
 -- as the entry ends there. Assumes nothing.
 use mathlib.Core.Path.{◌≡◌, refl}
-use Prim.Native.Nat.{◌+◌, ◌-◌}
 use native.Mathlib.Omega.{arith}
 use lib.ListN.{length, get_or, replicate}
 use Rattle.std.proofs.Common.{rules}
@@ -27,6 +26,12 @@ loop-e-init c =
     let leasts : c.fill-2.new.self ≡ replicate (length c.args.leasts.now) 0 = search rules in
     raise_start c.requires refl sizes leasts
 
+pub offset_bounds-sizes-columns : goal.offset_bounds-sizes-columns
+offset_bounds-sizes-columns c = omega (arith, (whole (goal.at.offset_bounds-sizes-columns c).After-figures_of-f).ends)
+
+pub offset_bounds-leasts-columns : goal.offset_bounds-leasts-columns
+offset_bounds-leasts-columns c = omega (arith, (whole (goal.at.offset_bounds-leasts-columns c).After-figures_of-f).ends)
+
 pub slice_bounds-raise-end : goal.slice_bounds-raise-end
 slice_bounds-raise-end c =
     omega (arith, (whole (goal.at.slice_bounds-raise-end c).After-figures_of-f).ends, sizes_count c.requires refl c.loop-e.invariant)
@@ -43,13 +48,12 @@ nonzero_div-f-then-f-ne0 c = (whole (goal.at.nonzero_div-f-then-f-ne0 c).After-f
 
 pub loop-e-preserved : goal.loop-e-preserved
 loop-e-preserved c =
-    let e = get_or c.args.entries.now c.loop-e.e-index no_entry in
-    let a = e.first in
-    let k = e.span in
     elim c.if-f-ne0.branch [
       | then-f-ne0 w ↦
           rw (w.sizes-is, w.leasts-is)
-          (raise_turn c.requires refl c.loop-e.invariant c.loop-e-test.true refl c.figures_of-f.ensures a (a + k - a) refl (omega arith) w.raise.ensures w.raise-then-f-ne0.ensures)
+          (raise_turn c.requires refl c.loop-e.invariant c.loop-e-test.true refl c.figures_of-f.ensures
+          w.columns.ensures.start (omega arith) w.raise.ensures
+          w.columns-then-f-ne0.ensures.start (omega arith) w.raise-then-f-ne0.ensures)
       | else-f-ne0 w ↦
           rw (w.sizes-is, w.leasts-is)
           (raise_skip c.requires refl c.loop-e.invariant c.loop-e-test.true refl c.figures_of-f.ensures w.if-f-ne0.false)

@@ -18,6 +18,9 @@ fit c = c.requires.fit c.loop-entry.entry-index c.loop-entry-test.true
 sum_small : (c : Then-entry-ne0) → c.loop-entry.sum + (get_or c.args.entries.now c.loop-entry.entry-index no_entry).span * ((get_or c.args.figures.now ((get_or c.args.entries.now c.loop-entry.entry-index no_entry).cell - 1) none).size / (get_or c.args.entries.now c.loop-entry.entry-index no_entry).span) + max_position ≤ 2 ^ 32
 sum_small c = sum_fits c.loop-entry.invariant c.loop-entry-test.true _ refl c.if-entry-ne0.true (c.requires.fit c.loop-entry.entry-index c.loop-entry-test.true) refl c.requires.room
 
+pub overflow_mul-sum : goal.overflow_mul-sum
+overflow_mul-sum c = omega (arith, sum_small (goal.at.overflow_mul-sum c).Then-entry-ne0)
+
 pub overflow_add-sum : goal.overflow_add-sum
 overflow_add-sum c = omega (arith, sum_small (goal.at.overflow_add-sum c).Then-entry-ne0)
 
@@ -25,12 +28,10 @@ pub loop-entry-preserved : goal.loop-entry-preserved
 loop-entry-preserved c =
     let at = (goal.at.loop-entry-preserved c).In-loop-entry in
     let inside = c.loop-entry-test.true in
-    let from = (get_or c.args.entries.now c.loop-entry.entry-index no_entry).first in
-    let wide = (get_or c.args.entries.now c.loop-entry.entry-index no_entry).span in
     elim c.if-entry-ne0.branch [
       | then-entry-ne0 w ↦
           rw (w.columns-is, w.sum-is)
-          (spread_cell c.loop-entry.invariant inside _ refl w.if-entry-ne0.true (fit at) refl _ from (from + wide - from) refl (omega arith) w.raise.ensures)
+          (spread_cell c.loop-entry.invariant inside _ refl w.if-entry-ne0.true (fit at) refl _ _ _ w.columns.ensures.start (omega arith) w.raise.ensures)
       | else-entry-ne0 w ↦ rw (w.columns-is, w.sum-is) (spread_filler c.loop-entry.invariant inside _ refl w.if-entry-ne0.false)
     ]
 

@@ -1,17 +1,14 @@
--- `sheet::front::feeds_in` meets its contract. A turn passes one byte, a line feed or another. Assumes nothing.
-use native.Mathlib.Omega.{arith}
-use Rattle.sheet.proofs.Heading.{feeds_here, feeds_past, feeds_end}
+-- `sheet::front::feeds_in` meets its contract: a byte counts 1 if it is a line feed. Assumes nothing.
+use mathlib.Core.Path.{refl}
+use borrow.Author.Rules.{rules}
+use lib.Dec.{eqb}
+use Rattle.std.specs.Prelude.{cond}
+use Rattle.std.proofs.lemmas.List.Recursion.{is_sum_by}
+use Rattle.fields.specs.Lines.{feed, feeds}
 use Rattle.sheet.proofs.front.feeds_in.Goals as goal
-use Rattle.sheet.proofs.front.feeds_in.Goals.{then-b-eq10, else-b-eq10}
-
-pub loop-b-preserved : goal.loop-b-preserved
-loop-b-preserved c =
-    let s = c.args.block.now in
-    let i = c.loop-b.b-index in
-    elim c.if-b-eq10.branch [
-      | then-b-eq10 w ↦ (omega (arith, w.n-is), omega (arith, w.n-is, feeds_here s i c.loop-b-test.true w.if-b-eq10.true))
-      | else-b-eq10 w ↦ (omega (arith, w.n-is), omega (arith, w.n-is, feeds_past s i c.loop-b-test.true w.if-b-eq10.false))
-    ]
 
 pub returns : goal.returns
-returns c = omega (arith, feeds_end c.args.block.now c.loop-b.b-index c.loop-b-test.false)
+unfolding feeds
+returns c =
+    let counted = is_sum_by feeds (λ b. cond (eqb b feed) 1 0) refl (λ _ _. refl) c.args.block.now in
+    search (rules, counted)
