@@ -36,6 +36,7 @@ fn entry_records(cell: &[u32], first: &[u32], span: &[u32], entries: &mut [Entry
 }
 
 // Puts what is asked for of the grid of the table on a line: how many columns it has, and its entries with their first columns and spans.
+// The arrays are declared here and in each function that calls: none can hand out slices of its own, and there is no heap.
 fn put_grid<F>(out: &mut Listing<'_>, sheet: &[u8], line: u32, put: F)
 where
     F: Fn(&mut Listing<'_>, u32, Entries),

@@ -22,7 +22,7 @@ impl Way {
     }
 }
 
-// The answer of `grid`: how many rows, entries and columns the table has.
+// The answer of `grid`: how many rows, entries and columns the table has. `Counts` of gridding has the same three as places: here they are what C gets.
 #[derive(Clone, Copy, Debug, PartialEq, Eq)]
 pub struct Grid {
     pub rows: u32,

@@ -3,7 +3,8 @@
 // raw and overflow are numbers: the definitions take 0 or 1 and refuse any other; of a `bool` each contract would make the number again.
 #![tactic(auto, unfolding(lists::specs::Refusals::verdict_of, lists::specs::Refusals::first_answer, crate::specs::Arguments::any_shorter))]
 
-ghost use Rattle.std.specs.Prelude.{◌≡◌, [], ◌∷◌, ◌||◌, ◌≤◌};
+ghost use Rattle.std.specs.Prelude.{◌≡◌, [], ◌∷◌, ◌||◌, ◌≤◌, ltb};
+ghost use Rattle.std.specs.List.{list_any};
 ghost use Rattle.lists.specs.Limits.{max_size, max_lines, max_entries};
 ghost use Rattle.arguments.specs.Arguments.{any_shorter, estimates_arguments, grid_arguments, layout_arguments, missing_arguments, pointing_arguments, within_arguments, walk_settings, walk_arguments, nested_arguments};
 ghost use Rattle.lists.specs.Refusals.{check, verdict_of};
@@ -22,6 +23,13 @@ pub struct Settings {
     pub ghost width_bound: { width ≤ max_size },
 }
 
+// Whether one of the lengths of lent buffers is below the least that is asked.
+fn any_shorter(least: usize, lengths: &[usize]) -> bool
+    ensures { result ≡ list_any (λ n. ltb n least) lengths.now }
+{
+    lengths.iter().any(|n| *n < least)
+}
+
 // A refusal of no line, if the test holds.
 fn refuse_if(test: bool, reason: Reason) -> Result<(), Refusal>
     ensures { result ≡ verdict_of (check test reason 0 ∷ []) }
@@ -33,7 +41,7 @@ pub fn of_estimates(wrap: u32, size: usize, least: usize, prefix: usize) -> Resu
     ensures { result ≡ verdict_of (estimates_arguments wrap (size ∷ least ∷ prefix ∷ [])) }
 {
     refuse_if(wrap > MAX_WRAP, Reason::Setting)?;
-    let short = size < MAX_LINES || least < MAX_LINES || prefix < MAX_LINES;
+    let short = any_shorter(MAX_LINES, &[size, least, prefix]);
     refuse_if(short, Reason::ShortBuffer)
 }
 
@@ -46,16 +54,16 @@ pub fn of_grid(
 ) -> Result<(), Refusal>
     ensures { result ≡ verdict_of (grid_arguments (cell ∷ first ∷ span ∷ []) (row ∷ row_end ∷ [])) }
 {
-    let entries_short = cell < MAX_ENTRIES || first < MAX_ENTRIES || span < MAX_ENTRIES;
-    let rows_short = row < MAX_LINES || row_end < MAX_LINES;
-    refuse_if(entries_short || rows_short, Reason::ShortBuffer)
+    let short = any_shorter(MAX_ENTRIES, &[cell, first, span])
+        || any_shorter(MAX_LINES, &[row, row_end]);
+    refuse_if(short, Reason::ShortBuffer)
 }
 
 // Whether the buffer for the columns of a layout is too short, or one of those for its entries.
 fn layout_short(column: usize, x: usize, wide: usize) -> bool
     ensures { result ≡ (any_shorter max_lines (column ∷ []) || any_shorter max_entries (x ∷ wide ∷ [])) }
 {
-    column < MAX_LINES || x < MAX_ENTRIES || wide < MAX_ENTRIES
+    any_shorter(MAX_LINES, &[column]) || any_shorter(MAX_ENTRIES, &[x, wide])
 }
 
 // Each gives the settings as they are given, unless they or the lengths of the lent buffers are refused.
@@ -90,7 +98,7 @@ impl Settings {
         ensures { Judged (missing_arguments wrap raw width (entry ∷ []) (cause ∷ [])) wrap raw width 0 result }
     {
         let settings = Settings::of_pointing(wrap, raw, width)?;
-        let short = entry < MAX_ENTRIES || cause < MAX_LINES;
+        let short = any_shorter(MAX_ENTRIES, &[entry]) || any_shorter(MAX_LINES, &[cause]);
         refuse_if(short, Reason::ShortBuffer)?;
         Ok(settings)
     }
@@ -105,7 +113,8 @@ impl Settings {
         ensures { Judged (within_arguments wrap raw width (listed ∷ [])) wrap raw width 0 result }
     {
         let settings = Settings::of_pointing(wrap, raw, width)?;
-        refuse_if(listed < MAX_ENTRIES, Reason::ShortBuffer)?;
+        let short = any_shorter(MAX_ENTRIES, &[listed]);
+        refuse_if(short, Reason::ShortBuffer)?;
         Ok(settings)
     }
 
@@ -134,7 +143,7 @@ impl Settings {
         ensures { Judged (walk_arguments wrap raw width overflow (given ∷ wide ∷ [])) wrap raw width overflow result }
     {
         let settings = Settings::of_walking(wrap, raw, width, overflow)?;
-        let short = given < MAX_LINES || wide < MAX_LINES;
+        let short = any_shorter(MAX_LINES, &[given, wide]);
         refuse_if(short, Reason::ShortBuffer)?;
         Ok(settings)
     }

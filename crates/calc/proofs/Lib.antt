@@ -1,4 +1,3 @@
-pub mod Handed
 pub mod Turns
 pub mod Sofar
 pub mod Lengths

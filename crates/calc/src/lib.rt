@@ -26,6 +26,7 @@ struct Frame {
 }
 
 // Within the innermost open bracket: not to be read; a factor has to come; a number of so many digits so far; a factor has come.
+// `Wrong` is a case and no `None` around it, as the definition has it (`Machine`).
 #[derive(Clone, Copy)]
 enum Top {
     Wrong,

@@ -2,6 +2,7 @@
 // the sheet stands in the lent buffers, and in the end it clears what is no figure. A refused call clears all.
 // Each buffer is a parameter, as the C interface lends it, down to the function that writes it; `LinesRoom` goes on with them (docs/DESIGN-PASS.md).
 // `as` where the number of lines is known to fit 32 bits: a `TryFrom` would never fail.
+// `L ≤ max_lines` is of a const parameter, and so no type's.
 #![tactic(auto)]
 
 mod arrays; // the arrays to work in, by the size of the sheet

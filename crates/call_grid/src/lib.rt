@@ -2,6 +2,7 @@
 // in the end it clears what is no figure. A refused call clears all.
 // Each buffer is a parameter, as the C interface lends it, down to the function that writes it; `GridRoom` goes on with them (docs/DESIGN-PASS.md).
 // `as` where a count or a place becomes a `usize`, for which there is no `From`.
+// `(L ≤ max_lines) × (E ≤ max_entries)` is of const parameters, and so no type's.
 #![tactic(auto)]
 
 mod arrays; // the arrays to work in, by the size of the sheet

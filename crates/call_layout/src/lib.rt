@@ -3,6 +3,7 @@
 // wrap, raw and width, and each buffer, are a parameter, as the C interface hands them over, down to the function that writes; `OutRoom` goes on
 // with the buffers (docs/DESIGN-PASS.md).
 // `as` where a count or a place becomes a `usize`, for which there is no `From`.
+// `(L ≤ max_lines) × (E ≤ max_entries)` is of const parameters, and so no type's.
 #![tactic(auto)]
 
 mod arrays; // the arrays to work in, by the size of the sheet

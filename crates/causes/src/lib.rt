@@ -82,8 +82,8 @@ pub fn write_causes(width: u32, sizes: &[u32], shares: &[u32], column: &[u32], c
     requires { Causable sizes.now shares.now column.now cause.old }
     ensures { cause.new ≡ up_to (length sizes.now) (number_at width sizes.now shares.now column.now) }
 {
-    for (i, size) in sizes.iter().enumerate() {
-        let why = cause_of(width, *size, shares[i], column[i]);
+    for (i, (size, (share, wide))) in sizes.iter().zip(shares.iter().zip(column)).enumerate() {
+        let why = cause_of(width, *size, *share, *wide);
         cause[i] = why.number();
     }
 }

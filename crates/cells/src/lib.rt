@@ -2,6 +2,7 @@
 // Cells and rows are filled from the front of their slices, beside a count: a `Vec` needs a heap.
 // The place of a table stands beside the lines: a line's place says its number, which goes into the records.
 // `as` where a place or a count becomes a number of 32 bits, or the other way round: there is no `From`, and a `TryFrom` would never fail.
+// `BodyHeld` and that few rows are left are asked in several contracts: a type that holds them would be made and opened again at each call.
 #![tactic(auto)]
 
 ghost use Rattle.std.specs.Prelude.{◌≡◌, cond, length, get_or, set, ltb, eqb, ◌+◌, ◌<◌, ◌/◌};
@@ -58,13 +59,7 @@ fn row_sum(cells: &[u32]) -> u32
     requires { Narrow (spans_of cells.now) }
     ensures { result ≡ row_sum (bare (spans_of cells.now)) }
 {
-    let mut sum: u32 = 0;
-    // by places: a cell is three numbers of the slice, a form that the rules of the project ask for
-    for i in 0..cells.len() / 3 {
-        let c = cell_at(cells, i);
-        sum += c.span.max(1);
-    }
-    sum
+    cells.chunks_exact(3).map(|cell| cell[1].max(1)).sum()
 }
 
 // A cell's cols, with `instead` in the place of 0.
@@ -198,9 +193,8 @@ pub fn list_rows(lines: &[Kept], at: usize, cells: &mut [u32], rows: &mut [RowEn
     let mut r = 0;
     let mut first_cell = 0;
     let mut first_row = 0;
-    // by places: the place of a line says its number, which goes into the records
-    for i in at + 1..lines.len() {
-        let line = lines[i];
+    // ended by `break`, since a turn asks by how much its line is deeper
+    for (i, line) in (at + 1..).zip(&lines[at + 1..]) {
         let e = u32::from(line.depth);
         if e <= d {
             break;

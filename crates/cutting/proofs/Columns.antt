@@ -19,7 +19,6 @@ use Rattle.std.proofs.lemmas.Iterator.{YieldsList, YieldsList-from_slice, Yields
 use Rattle.std.proofs.lemmas.Iterator.Consumers.{YieldsList-from_enumerate, YieldsList-turn}
 use Rattle.std.proofs.lemmas.List.FromFn.{length-enumerate_from, get_or-enumerate_from}
 use Rattle.std.proofs.lemmas.Slice.Zip.{length-zip, get_or-zip}
-use Rattle.lists.specs.Limits.{max_lines}
 use Rattle.cutting.specs.Cut.{Below}
 use Rattle.cutting.specs.inner.Fill.{place, width_at, filled_from}
 
@@ -41,12 +40,12 @@ module _ (s : Enumerate (Zip (Iter ℕ) (Iter ℕ))) (ls ss : List ℕ) (leasts 
   pub columns_come : YieldsList (enumerate_steps (zip_steps iter_steps iter_steps)) (λ x. (x.0, (x.1.0.now, x.1.1.now))) s (columns_from 0 ls ss)
   columns_come = YieldsList-from_enumerate (YieldsList-from_zip (YieldsList-from_slice ss shares) (YieldsList-from_slice ls leasts)) first
 
-  -- of each that comes its width may be asked
-  pub may_ask : Below ls ss → length ss ≤ max_lines
+  -- of each that comes the number is one of a column, and the least is no larger than the share
+  pub may_ask : Below ls ss
       → (xs : List (ℕ × (Bor ℕ × Bor ℕ))) (t u : Enumerate (Zip (Iter ℕ) (Iter ℕ))) (x : ℕ × (Bor ℕ × Bor ℕ))
       → Yields (enumerate_steps (zip_steps iter_steps iter_steps)) s xs t → enumerate_steps (zip_steps iter_steps iter_steps) t (Some x) u
-      → (x.0 < max_lines) × (x.1.1.now ≤ x.1.0.now)
-  may_ask below few xs t u x so_far next =
+      → (x.0 < length ss) × (x.1.1.now ≤ x.1.0.now)
+  may_ask below xs t u x so_far next =
       let k = length xs in
       let turn = YieldsList-turn columns_come xs t so_far (Some x) u x refl next in
       let n = length-enumerate_from 0 (zip ss ls) in
@@ -55,4 +54,4 @@ module _ (s : Enumerate (Zip (Iter ℕ) (Iter ℕ))) (ls ss : List ℕ) (leasts 
       let q = ap (λ y. y.1) p ∙ get_or-zip ss ls k _ (omega (arith, turn.0)) (omega (arith, turn.0, below.0)) in
       let share = ap (λ y. y.0) q ∙ get_or_default_zero ss k _ (omega (arith, turn.0)) in
       let least = ap (λ y. y.1) q ∙ get_or_default_zero ls k _ (omega (arith, turn.0, below.0)) in
-      (omega (arith, ap (λ y. y.0) p, turn.0), omega (arith, share, least, below.1 k))
+      (omega (arith, ap (λ y. y.0) p, turn.0, m), omega (arith, share, least, below.1 k))

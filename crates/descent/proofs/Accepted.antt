@@ -12,7 +12,8 @@ use Rattle.kinds.specs.Kinds.{kind_number, table_kind}
 use Rattle.records.specs.Kept.{no_kept}
 use Rattle.sheet.specs.Sheet.{sheet_checks, sheet_lines}
 use Rattle.sheet.specs.Reading.{reading_of}
-use Rattle.sheet.proofs.First.{both_true, first_passes, passes_append}
+use Rattle.lists.proofs.Tests.{both}
+use Rattle.sheet.proofs.First.{first_passes, passes_append}
 use Rattle.cells.specs.Listed.{table_rows}
 use Rattle.grid.specs.Grid.{tables_checks}
 use Rattle.grid.specs.Facts.{Sound}
@@ -25,16 +26,16 @@ use Rattle.passing.specs.Walk.{narrow_checks}
 use Rattle.pacing.specs.inner.Found.{walked_checks}
 
 module _ (s : List ℕ) (wrap raw width overflow : ℕ) (p : passes (walked_checks None s wrap raw width overflow) ≡ true) where
-  both : (passes (open_checks None s) ≡ true) × (passes (narrow_checks wrap raw width overflow (kept_lines s)) ≡ true)
-  both =
-      both_true (passes (open_checks None s)) (passes (narrow_checks wrap raw width overflow (kept_lines s)))
+  all_pass : (passes (open_checks None s) ≡ true) × (passes (narrow_checks wrap raw width overflow (kept_lines s)) ≡ true)
+  all_pass =
+      both (passes (open_checks None s)) (passes (narrow_checks wrap raw width overflow (kept_lines s)))
       (sym (passes_append (open_checks None s) (narrow_checks wrap raw width overflow (kept_lines s))) ∙ p)
 
   opens : (passes (sheet_checks s) ≡ true) × (passes (tables_checks 1 (kept_lines s)) ≡ true)
   unfolding after_reading
   opens =
-      both_true (passes (sheet_checks s)) (passes (tables_checks 1 (kept_lines s)))
-      (sym (passes_append (sheet_checks s) (tables_checks 1 (kept_lines s))) ∙ both.0)
+      both (passes (sheet_checks s)) (passes (tables_checks 1 (kept_lines s)))
+      (sym (passes_append (sheet_checks s) (tables_checks 1 (kept_lines s))) ∙ all_pass.0)
 
   reads : reading_of s ≡ Ok (length (sheet_lines s))
   unfolding reading_of
@@ -50,4 +51,4 @@ module _ (s : List ℕ) (wrap raw width overflow : ℕ) (p : passes (walked_chec
       (rw (← add-one t) at (table_passes 1 (kept_lines s) t (t + 1) (omega arith) h k opens.1))
 
   pub not_narrow : passes (narrow_checks wrap raw width overflow (kept_lines s)) ≡ true
-  not_narrow = both.1
+  not_narrow = all_pass.1

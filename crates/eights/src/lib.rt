@@ -1,6 +1,7 @@
 // The commonest lines of a sheet, told by comparing eight bytes at once, in the form in which lines are kept. Every other line is left to the
 // crate line, which reads all.
-// The bytes and a place in them are two parameters, as in fields: the place where the next line starts goes into the answer.
+// The bytes and a place in them are two parameters, as in fields: the place where the next line starts goes into the answer. That a place lies in the
+// bytes is asked where it is read, of other parameters each time.
 // `as` where cols and rows are known to be at most 9: a `TryFrom` would never fail.
 #![tactic(auto)]
 
@@ -114,8 +115,12 @@ pub fn common_line(classes: &Classes, bytes: &[u8], at: usize) -> Option<Scanned
     requires bytes_len_bound { length bytes.now ≤ max_bytes }
     ensures { Tells bytes.now at result }
 {
-    if bytes.len() < LONGEST || at > bytes.len() - LONGEST || !bytes[at].is_ascii_digit() {
+    let rest = bytes.get(at..)?;
+    let [depth @ b'0'..=b'9', ..] = rest else {
+        return None;
+    };
+    if rest.len() < LONGEST {
         return None;
     }
-    line_with(classes, bytes, at, bytes[at] - b'0')
+    line_with(classes, bytes, at, *depth - b'0')
 }

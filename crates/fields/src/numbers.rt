@@ -9,7 +9,8 @@ use super::Scanned;
 use super::places::field_at;
 use text::decimal::SHIFT;
 
-// The value of a field of digits. Once it is above most, no further digit brings it back, so the reading stops there: any number of digits may follow.
+// The value of a field of digits, the first of which may be 0. Once it is above most, no further digit brings it back, so the reading stops there: any
+// number of digits may follow. A `for` that ends early: `try_fold` would hold the same lines in a closure.
 pub fn digits_in(field: &[u8], most: u32) -> Option<u32>
     ensures { result ≡ digits_in most 0 field.now }
 {
@@ -27,6 +28,7 @@ pub fn digits_in(field: &[u8], most: u32) -> Option<u32>
 }
 
 // The number from 0 to most that a field writes: digits without a leading zero. A minus would stand before a number below 0.
+// No match of slice patterns: where arms meet the proof has no name for what they say.
 pub fn written_in(field: &[u8], most: u32) -> Option<u32>
     ensures { result ≡ written_in most (number_of field.now) }
 {
@@ -38,7 +40,8 @@ pub fn written_in(field: &[u8], most: u32) -> Option<u32>
     digits_in(field, most)
 }
 
-// The number from 0 to most in the field that ends at the first byte of a value, and the place after that byte.
+// The number from 0 to most in the field that ends at the first byte of a value, and the place after that byte. `kind_at` is alike, with another reader:
+// one function for both would be asked of a closure what it answers.
 pub fn number_at(bytes: &[u8], at: usize, stop: u8, most: u32) -> Option<Scanned<u32>>
     ensures { result ≡ written_at stop most at (drop at bytes.now) }
 {

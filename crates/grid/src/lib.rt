@@ -43,8 +43,8 @@ fn number_table(rows: &[RowEnd], entries: &mut [Entry]) -> Option<usize>
     requires { RowsFit 0 (row_ends_of rows.now) (entry_spans_of entries.old) }
     ensures { RowsNumbered (edge_of_rows (rows_from 0 (row_ends_of rows.now) (entry_spans_of entries.old))) (rows_from 0 (row_ends_of rows.now) (entry_spans_of entries.old)) (entry_cells_of entries.old) result entries.new }
 {
-    let none = edges::Edges::new();
-    let start = none.with(0);
+    let mut start = edges::Edges::new();
+    start.insert(0);
     let numbers = edges::mark_rows(start, entries, rows);
     number_rows(&numbers, rows, entries)
 }

@@ -44,6 +44,7 @@ pub fn table_fits(lines: &[Kept], at: usize) -> bool
     let mut hung: u32 = 0;
     let mut end: u32 = 0;
     let mut entries: u32 = 0;
+    // Ended by `break`, since a turn asks by how much its line is deeper: `take_while` would ask that twice.
     for line in &lines[at + 1..] {
         if line.depth <= d {
             break;

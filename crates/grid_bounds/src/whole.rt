@@ -8,7 +8,7 @@ use lists::MAX_ENTRIES;
 use records::Kept;
 
 // Whether all cells of the sheet together span no more columns than a row may, and ask for at most `most` rows, so that no table has more entries; none
-// has cols 0 or rows 0.
+// has cols 0 or rows 0. Its turn is like one of `table_fits`, which adds up what hangs too: as one function both would take and give three numbers.
 pub fn sheet_fits(lines: &[Kept], most: u32) -> bool
     requires { most ≤ max_entries }
     ensures { result ≡ true → SheetBound most lines.now }

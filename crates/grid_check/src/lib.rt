@@ -1,6 +1,7 @@
 // Checks every table of a sheet by counting: no grid is made, and one slice is lent.
 // The lines and the place of a table are two parameters, as `table_rows` has the two.
-// `Lined` is asked in three contracts: a type that holds it would be made and opened again at each call (docs/DESIGN-PASS.md).
+// `Lined`, and that there are as many places as lines, are asked in several contracts: a type that holds them would be made and opened again at each
+// call (docs/DESIGN-PASS.md).
 // `as` where a line's place is known to fit 32 bits: a `TryFrom` would never fail.
 #![tactic(auto)]
 

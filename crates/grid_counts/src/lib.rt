@@ -2,6 +2,7 @@
 // its own cols and the spans that hang into it; a slice tells for each row of a body how much ends with it.
 // The lines and the place of a table are two parameters, as `table_rows` has the two.
 // `as` where a figure becomes a `usize`, or a number of rows one of 32 bits: there is no `From`, and a `TryFrom` would never fail.
+// The loops end by `break`, since a turn asks by how much its line is deeper: `take_while` would ask that twice (see `table_fits` of grid_bounds).
 #![tactic(auto)]
 
 ghost use Rattle.std.specs.Prelude.{◌≡◌, ℕ, ◌≤◌, ◌<◌, ◌+◌, min, length, get_or, set};
@@ -132,14 +133,14 @@ fn count_row(
     })
 }
 
-// Counts the body that the first of these lines are, where there are so many entries before it: how many there are up to its end, or refusal 5. Row q is
-// next, and `reach` hang into it.
+// Counts the body that the first of these lines are, where there are so many entries before it: how many there are up to its end, or refusal 5.
 fn count_body(lines: &[Kept], d: u8, entries: u32, ends: &mut [u32]) -> Result<u32, Reason>
     requires { BodyReady lines.now d entries ends.old }
     ensures { (n : ℕ) → BodyCounted (frame d n lines.now).rows entries result }
 {
     let Body { rows, most } = survey(lines, d, ends);
     let body = d + 1;
+    // what hangs into row q, the next to be counted, and how many entries stand before it
     let mut reach: u32 = 0;
     let mut n = entries;
     let mut q = 0;

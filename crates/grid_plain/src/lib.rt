@@ -34,11 +34,9 @@ fn try_row(lines: &[Kept], from: usize, d: u32, n: usize, entries: &mut [Entry])
     requires { RowReady lines.now d from n entries.old }
     ensures { RowWalked lines.now d from n result entries.old entries.new }
 {
-    let count = lines.len();
     let mut k = 0;
-    // by places: a line's place says its number, and the answer says where the next lines begin
-    for i in from..count {
-        let line = lines[i];
+    // each with its place: it says the line's number, and the answer says where the next lines begin
+    for (i, line) in (from..).zip(&lines[from..]) {
         let e = u32::from(line.depth);
         if e <= d + 2 {
             return Some(RowCells { next: i, cells: k });
@@ -57,7 +55,7 @@ fn try_row(lines: &[Kept], from: usize, d: u32, n: usize, entries: &mut [Entry])
         }
     }
     Some(RowCells {
-        next: count,
+        next: lines.len(),
         cells: k,
     })
 }
@@ -107,8 +105,8 @@ pub fn make(lines: &[Kept], at: usize, entries: &mut [Entry], rows: &mut [RowEnd
     requires { TableReady lines.now at entries.old rows.old }
     ensures { TableMade (table_rows lines.now at) result entries.new rows.new }
 {
-    let Some(counts) = try_plain(lines, at, entries, rows) else {
-        return gridding::make_sound(lines, at, entries, rows);
-    };
-    counts
+    match try_plain(lines, at, entries, rows) {
+        Some(counts) => counts,
+        None => gridding::make_sound(lines, at, entries, rows),
+    }
 }

@@ -16,16 +16,10 @@ use lists::MAX_LINES;
 use records::{Entry, Kept, RowEnd};
 use rows::Overhang;
 
-// Lines of a table for which short arrays do, and the numbers of a record for each of them. The sizes are for speed alone.
+// Lines of a table for which short arrays do. The sizes are for speed alone.
 const FEW_LINES: usize = 16;
 
-const FEW: usize = 3 * FEW_LINES;
-
 const SOME_LINES: usize = 512;
-
-const SOME: usize = 3 * SOME_LINES;
-
-const MANY: usize = 3 * MAX_LINES;
 
 // How many rows, entries and columns a grid has.
 #[derive(Clone, Copy)]
@@ -93,29 +87,29 @@ fn make_in(
     }
 }
 
-// The grid of a table in arrays of N numbers, three for each of its lines, and in one of L records, one for each. It is never taken into its
-// caller's frame: so a small table does not pay for the room of a large one. Two lengths: the language has no computed const argument.
+// The grid of a table in arrays for L lines: of three numbers and of a record for each. It is never taken into its caller's frame: so a small table
+// does not pay for the room of a large one. Three arrays of L numbers are lent as one slice, since the language has no computed const argument; L
+// arrays of three would be filled one by one, which takes up to 55 % more instructions.
 #[inline(never)]
-fn make_sized<const N: usize, const L: usize>(
+fn make_sized<const L: usize>(
     lines: &[Kept],
     at: usize,
     entries: &mut [Entry],
     rows: &mut [RowEnd],
 ) -> Counts
     requires table_ready { TableReady lines.now at entries.old rows.old }
-    requires roomy { 3 * (length lines.now - at) ≤ N }
-    requires small { N ≤ 3 * max_lines }
-    requires three_each { N ≡ 3 * L }
+    requires roomy { length lines.now - at ≤ L }
+    requires small { L ≤ max_lines }
     ensures { TableMade (table_rows lines.now at) result entries.new rows.new }
 {
-    let mut cells = [0u32; N];
-    let mut overhang = [0u32; N];
+    let mut cells = [[0u32; L]; 3];
+    let mut overhang = [[0u32; L]; 3];
     let mut next = [rows::NO_OVERHANG; L];
     make_in(
         lines,
         at,
-        &mut cells,
-        &mut overhang,
+        cells.as_flattened_mut(),
+        overhang.as_flattened_mut(),
         &mut next,
         entries,
         rows,
@@ -129,11 +123,11 @@ fn make_within(lines: &[Kept], at: usize, entries: &mut [Entry], rows: &mut [Row
 {
     let n = lines.len() - at;
     if n <= FEW_LINES {
-        make_sized::<FEW, FEW_LINES>(lines, at, entries, rows)
+        make_sized::<FEW_LINES>(lines, at, entries, rows)
     } else if n <= SOME_LINES {
-        make_sized::<SOME, SOME_LINES>(lines, at, entries, rows)
+        make_sized::<SOME_LINES>(lines, at, entries, rows)
     } else {
-        make_sized::<MANY, MAX_LINES>(lines, at, entries, rows)
+        make_sized::<MAX_LINES>(lines, at, entries, rows)
     }
 }
 

@@ -1,6 +1,7 @@
 // The call `missing`: which entries of a table are missing, and why each column is 0 wide that is. It asks its arguments first; then what is found in
 // the sheet stands in the lent buffers, and in the end it clears what is no figure. A refused call clears all.
-// wrap, raw and width, and each buffer, are a parameter, as the C interface hands them over, down to the function that writes.
+// wrap, raw and width, and each buffer, are a parameter, as the C interface hands them over, down to the function that writes; `GridRoom` goes on
+// with the slices to work in.
 // `as` where a count or a place becomes a `usize`, or a count one of 32 bits: there is no `From`, and a `TryFrom` would never fail.
 #![tactic(auto)]
 

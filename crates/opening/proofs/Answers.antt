@@ -14,7 +14,8 @@ use Rattle.lists.specs.Refusals.{Check, first_answer, verdict_of, refusal}
 use Rattle.kinds.specs.Kinds.{kind_number, table_kind}
 use Rattle.records.specs.Kept.{no_kept}
 use Rattle.records.specs.declared.Kept.{Kept}
-use Rattle.sheet.proofs.First.{both_true, first_told}
+use Rattle.lists.proofs.Tests.{both}
+use Rattle.sheet.proofs.First.{first_told}
 use Rattle.grid.specs.Grid.{tables_checks}
 use Rattle.grid_check.specs.Checking.{TablesChecked}
 use Rattle.opening.specs.Opening.{is_table, after_reading}
@@ -48,8 +49,8 @@ module _ {A : Type 0} (refused : Refusal → A) (accepted : A) (ks : List Kept) 
 pub table_apt : (ks : List Kept) (line : ℕ) → is_table ks line ≡ true → Apt ks line
 unfolding is_table
 table_apt ks line e =
-    let (front, kind) = both_true (leb 1 line && leb line (length ks)) (eqb (kind_number (get_or ks (line - 1) no_kept).kind) table_kind) e in
-    let (low, high) = both_true (leb 1 line) (leb line (length ks)) front in
+    let (front, kind) = both (leb 1 line && leb line (length ks)) (eqb (kind_number (get_or ks (line - 1) no_kept).kind) table_kind) e in
+    let (low, high) = both (leb 1 line) (leb line (length ks)) front in
     record { from_one = leb-true 1 line low; within = leb-true line (length ks) high; kind = eqb-true _ _ kind }
 
 -- a verdict as a reading of n lines

@@ -11,7 +11,8 @@ use lib.ListN.{length, take}
 use Rattle.lists.specs.Refusals.{first_answer, passes}
 use Rattle.sheet.specs.Sheet.{sheet_lines, sheet_checks}
 use Rattle.sheet.specs.Reading.{reading_of, Reads}
-use Rattle.sheet.proofs.First.{passes_both, both_true, first_accepts, first_passes, passes_append}
+use Rattle.lists.proofs.Tests.{both}
+use Rattle.sheet.proofs.First.{passes_both, first_accepts, first_passes, passes_append}
 use Rattle.sheet.proofs.Accepted.{refused_carries, accepted_leaves}
 use Rattle.sheet.proofs.Bounds.{accepted_lines}
 use Rattle.opening.specs.Opening.{kept_lines, is_table, after_reading, opened_of}
@@ -28,7 +29,7 @@ module _ (asked : Option ℕ) (s : List ℕ) (n : ℕ) (e : opened_of asked s �
 
   opened_parts : (passes (sheet_checks s) ≡ true) × (passes (after_reading asked (kept_lines s)) ≡ true)
   opened_parts =
-      both_true (passes (sheet_checks s)) (passes (after_reading asked (kept_lines s)))
+      both (passes (sheet_checks s)) (passes (after_reading asked (kept_lines s)))
       (sym (passes_append (sheet_checks s) (after_reading asked (kept_lines s))) ∙ opened_all.0)
 
   -- it is accepted by the reader

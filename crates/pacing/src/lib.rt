@@ -1,5 +1,5 @@
 // A sheet opened, measured and walked.
-// lines and figures are two slices: both are written, and nothing is known of them before.
+// lines and figures are two slices: both are written, and nothing is known of them before. `room_for` goes on with what is lent.
 #![tactic(auto)]
 
 ghost use Rattle.std.specs.Prelude.{◌≤◌, length};

@@ -1,30 +1,24 @@
--- The placed entries of two slices: how many, each of them, and the next one of a row. Assumes nothing.
-use mathlib.Core.Path.{◌≡◌, refl, ap, ◌∙◌}
+-- The placed entries of two slices: how many, and a part of them. Assumes nothing.
+use mathlib.Core.Path.{◌≡◌, refl, sym, ap, ◌∙◌}
 use mathlib.Core.List.{List, [], ◌∷◌, map}
-use Prim.Native.Nat.{ℕ, zero, suc, ◌+◌, ◌<◌}
-use native.Mathlib.Nat.{not-suc-le-zero, le_of_suc-le-suc}
-use native.Mathlib.Numerals.{add-one}
+use Prim.Native.Nat.{ℕ, zero, suc, ◌+◌, ◌-◌, ◌≤◌}
 use native.Mathlib.Omega.{arith}
-use lib.ListN.{length, get_or, drop}
-use lib.Seq.{slice, slice-cons, get_or-drop}
+use lib.ListN.{length, take, drop}
+use lib.Seq.{slice, take-nil, drop-nil}
+use Rattle.std.proofs.lemmas.List.{drop-take}
+use Rattle.std.specs.Iterator.Adapters.{zip_first, zip_second}
+use Rattle.std.specs.Slice.Iter.{iter_rest}
+use Rattle.std.specs.declared.ops.RangeFrom.{RangeFrom}
+use Rattle.std.specs.declared.iter.Zip.{Zip}
+use Rattle.std.specs.declared.slice.Iter.{Iter}
 use Rattle.placing.specs.Place.{Placed, at}
 use Rattle.placing.specs.inner.Rows.{Written}
 use Rattle.pointing.specs.Point.{placed}
-use Rattle.pointing.specs.inner.Rows.{InSlices}
 
 pub placed_length : (xs wides : List ℕ) → length (placed xs wides) ≡ length xs
 unfolding placed
 placed_length [] wides = refl
 placed_length (x ∷ xs) wides = ap suc (placed_length xs (drop 1 wides))
-
-pub placed_at : (xs wides : List ℕ) (i : ℕ) → i < length xs → get_or (placed xs wides) i (at 0 0) ≡ at (get_or xs i 0) (get_or wides i 0)
-unfolding placed
-placed_at [] wides i h = absurd (not-suc-le-zero h)
-placed_at (x ∷ xs) wides zero h = refl
-placed_at (x ∷ xs) wides (suc i) h =
-    let e : 1 + i ≡ suc i = omega arith in
-    placed_at xs (drop 1 wides) i (le_of_suc-le-suc h)
-    ∙ ap (λ (w : ℕ). at (get_or xs i 0) w) (get_or-drop 1 wides i 0 ∙ ap (λ (m : ℕ). get_or wides m 0) e)
 
 -- the slices that placing writes are the placed entries again
 placed_map : (ps : List Placed) → placed (map (λ (p : Placed). p.x) ps) (map (λ (p : Placed). p.width) ps) ≡ ps
@@ -35,10 +29,34 @@ placed_map (p ∷ ps) = ap (λ (l : List Placed). p ∷ l) (placed_map ps)
 pub placed_written : (ps : List Placed) (xs wides : List ℕ) → Written ps xs wides → placed xs wides ≡ ps
 placed_written ps xs wides w = rw (w.x, w.wide) (placed_map ps)
 
--- the next entry of a row
-pub next_entry : (first end i : ℕ) (xs wides : List ℕ) → InSlices first end xs wides → i < end →
-    slice i end (placed xs wides) ≡ at (get_or xs i 0) (get_or wides i 0) ∷ slice (i + 1) end (placed xs wides)
-next_entry first end i xs wides r h =
-    rw (add-one i)
-    (slice-cons i end (placed xs wides) (at 0 0) h (omega (arith, placed_length xs wides, r.xs_there))
-    ∙ ap (λ (p : Placed). p ∷ slice (suc i) end (placed xs wides)) (placed_at xs wides i (omega (arith, r.xs_there))))
+-- a part of the placed entries is placed from the parts of the slices
+pub placed_take : (n : ℕ) (xs wides : List ℕ) → take n (placed xs wides) ≡ placed (take n xs) (take n wides)
+unfolding placed
+placed_take zero xs wides = refl
+placed_take (suc n) [] wides = refl
+placed_take (suc n) (x ∷ xs) [] = ap (λ (l : List Placed). at x 0 ∷ l) (placed_take n xs [] ∙ ap (placed (take n xs)) (take-nil n))
+placed_take (suc n) (x ∷ xs) (w ∷ wides) = ap (λ (l : List Placed). at x w ∷ l) (placed_take n xs wides)
+
+placed_drop : (n : ℕ) (xs wides : List ℕ) → drop n (placed xs wides) ≡ placed (drop n xs) (drop n wides)
+unfolding placed
+placed_drop zero xs wides = refl
+placed_drop (suc n) [] wides = refl
+placed_drop (suc n) (x ∷ xs) [] = placed_drop n xs [] ∙ ap (placed (drop n xs)) (drop-nil n)
+placed_drop (suc n) (x ∷ xs) (w ∷ wides) = placed_drop n xs wides
+
+pub placed_cut : (first end : ℕ) (xs wides : List ℕ) → first ≤ end
+    → placed (take (end - first) (drop first xs)) (take (end - first) (drop first wides)) ≡ slice first end (placed xs wides)
+placed_cut first end xs wides h =
+    let e : first + (end - first) ≡ end = omega arith in
+    let cut = rw e at (drop-take first (end - first) (placed xs wides)) in
+    sym (placed_take (end - first) (drop first xs) (drop first wides)) ∙ ap (take (end - first)) (sym (placed_drop first xs wides)) ∙ sym cut
+
+-- what the walk over a row, each entry with its place, has left of the two slices
+abbrev pub Walk : Type 0
+Walk = Zip (RangeFrom ℕ) (Zip (Iter ℕ) (Iter ℕ))
+
+abbrev pub xs_left : Walk → List ℕ
+xs_left s = iter_rest (zip_first (zip_second s))
+
+abbrev pub wides_left : Walk → List ℕ
+wides_left s = iter_rest (zip_second (zip_second s))

@@ -1,82 +1,70 @@
--- The loop of `at`: what is ahead of entry i, once it is known whether a printed cell has ended at the column, is what the row has there.
+-- The loop of `at`: what is ahead of the next entry, once it is known whether a printed cell has ended at the column, is what the row has there.
 -- Assumes nothing.
 use mathlib.Core.Bool.{Bool, true, false, cond}
-use mathlib.Core.Path.{◌≡◌, refl, sym}
+use mathlib.Core.Path.{◌≡◌, sym, ap}
 use mathlib.Core.List.{List, [], ◌∷◌}
-use Prim.Native.Nat.{ℕ, ◌+◌, ◌≤◌, ◌<◌}
+use Prim.Native.Nat.{ℕ, ◌+◌, ◌-◌, ◌<◌}
 use native.Mathlib.Omega.{arith}
-use lib.ListN.{get_or}
-use lib.Seq.{slice, slice_empty}
+use lib.ListN.{length, take, drop, length-drop}
+use lib.Seq.{slice, length-take-le}
 use borrow.Author.Tests.{lt-ltb, le-ltb}
 use Rattle.placing.specs.Place.{Placed, at}
 use Rattle.pointing.specs.Point.{placed, covers, closes, some_printed, gap_before, pointed}
 use Rattle.pointing.specs.inner.Rows.{InSlices}
+use Rattle.pointing.proofs.Parts.{placed_cut}
 use Rattle.answers.specs.declared.Under.{Under}
 use Rattle.answers.specs.declared.Under.TheVariants.{Cell, Gap, Nothing}
-use Rattle.pointing.proofs.Parts.{next_entry}
 
 unfoldable pub ahead : Bool → ℕ → ℕ → List Placed → Under ℕ
 ahead true k x ps = gap_before ps
 ahead false k x ps = pointed k x ps
 
-pub record Sofar (xs wides : List ℕ) (first end x : ℕ) (ended : Bool) (i : ℕ) : Type 0 where
-  pub within : i ≤ end
-  pub rest : ahead ended i x (slice i end (placed xs wides)) ≡ pointed first x (slice first end (placed xs wides))
+-- all : what the row has there; xs and wides are what is left of the row
+pub record Sofar (all : Under ℕ) (end x : ℕ) (ended : Bool) (i : ℕ) (xs wides : List ℕ) : Type 0 where
+  pub before : i + length xs ≡ end
+  pub even : length xs ≡ length wides
+  pub rest : ahead ended i x (placed xs wides) ≡ all
 
-module _ (xs wides : List ℕ) (first end x : ℕ) (r : InSlices first end xs wides) where
-  pub sofar_start : Sofar xs wides first end x false first
-  unfolding ahead
-  sofar_start = record { within = r.order; rest = refl }
+pub sofar_start : (first end x : ℕ) (xs wides : List ℕ) → InSlices first end xs wides
+    → Sofar (pointed first x (slice first end (placed xs wides))) end x false first (take (end - first) (drop first xs)) (take (end - first) (drop first wides))
+unfolding ahead
+sofar_start first end x xs wides r =
+    let n = end - first in
+    let a = length-take-le n (drop first xs) (omega (arith, length-drop first xs, r.xs_there)) in
+    let b = length-take-le n (drop first wides) (omega (arith, length-drop first wides, r.wides_there)) in
+    record { before = omega (arith, a, r.order); even = omega (arith, a, b); rest = ap (pointed first x) (placed_cut first end xs wides r.order) }
 
-  module _ (i : ℕ) where
-    pub sofar_stop : (ended : Bool) → Sofar xs wides first end x ended i → end ≤ i →
-        Nothing ≡ pointed first x (slice first end (placed xs wides))
-    unfolding ahead gap_before some_printed pointed
-    sofar_stop ended z h = go ended (rw same at z.rest)
+module _ {all : Under ℕ} {end x i : ℕ} where
+  -- nothing is left
+  pub sofar_stop : (ended : Bool) (xs wides : List ℕ) → Sofar all end x ended i xs wides → length xs ≡ 0 → Nothing ≡ all
+  unfolding ahead gap_before some_printed pointed placed
+  sofar_stop true [] wides z h = z.rest
+  sofar_stop false [] wides z h = z.rest
+  sofar_stop ended (y ∷ xs) wides z h = absurd (omega arith)
+
+  module _ {y w : ℕ} {xs wides : List ℕ} where
+    -- a printed entry after one that ended at the column
+    pub sofar_gap : (ended : Bool) → Sofar all end x ended i (y ∷ xs) (w ∷ wides) → ended ≡ true → 0 < w → Gap ≡ all
+    unfolding ahead gap_before some_printed placed
+    sofar_gap ended z t h = rw (lt-ltb 0 w h) at (rw t at z.rest)
+
+    -- a missing one
+    pub sofar_skip : (ended : Bool) → Sofar all end x ended i (y ∷ xs) (w ∷ wides) → ended ≡ true → w ≡ 0 → Sofar all end x ended (i + 1) xs wides
+    unfolding ahead gap_before some_printed placed
+    sofar_skip ended z t h =
+        rw t (record { before = omega (arith, z.before); even = omega (arith, z.even); rest = rw (le-ltb 0 w (omega arith)) at (rw t at z.rest) })
+
+    pub sofar_cell : (ended : Bool) → Sofar all end x ended i (y ∷ xs) (w ∷ wides) → ended ≡ false → covers (at y w) x ≡ true → Cell i ≡ all
+    unfolding ahead pointed placed
+    sofar_cell ended z f c = rw c at (rw f at z.rest)
+
+    pub sofar_turn : (ended : Bool) → Sofar all end x ended i (y ∷ xs) (w ∷ wides) → ended ≡ false → covers (at y w) x ≡ false →
+        (b : Bool) → b ≡ closes (at y w) x → Sofar all end x b (i + 1) xs wides
+    unfolding ahead pointed placed
+    sofar_turn ended z f c b e =
+        record { before = omega (arith, z.before); even = omega (arith, z.even); rest = go b (sym e) (rw c at (rw f at z.rest)) }
       where
-        e : i ≡ end
-        e = omega (arith, z.within)
-
-        same : slice i end (placed xs wides) ≡ []
-        same = rw e (slice_empty end (placed xs wides))
-
-        go : (b : Bool) → ahead b i x [] ≡ pointed first x (slice first end (placed xs wides)) →
-            Nothing ≡ pointed first x (slice first end (placed xs wides))
-        go true d = d
-        go false d = d
-
-    module _ (h : i < end) where
-      left : slice i end (placed xs wides) ≡ at (get_or xs i 0) (get_or wides i 0) ∷ slice (i + 1) end (placed xs wides)
-      left = next_entry first end i xs wides r h
-
-      -- a printed entry after one that ended at the column
-      pub sofar_gap : (ended : Bool) → Sofar xs wides first end x ended i → ended ≡ true → 0 < get_or wides i 0 →
-          Gap ≡ pointed first x (slice first end (placed xs wides))
-      unfolding ahead gap_before some_printed
-      sofar_gap ended z t w = rw (lt-ltb 0 (get_or wides i 0) w) at (rw left at (rw t at z.rest))
-
-      -- a missing one
-      pub sofar_skip : (ended : Bool) → Sofar xs wides first end x ended i → ended ≡ true → get_or wides i 0 ≡ 0 →
-          Sofar xs wides first end x ended (i + 1)
-      unfolding ahead gap_before some_printed
-      sofar_skip ended z t w =
-          rw t (record { within = omega arith; rest = rw (le-ltb 0 (get_or wides i 0) (omega arith)) at (rw left at (rw t at z.rest)) })
-
-      pub sofar_cell : (ended : Bool) → Sofar xs wides first end x ended i → ended ≡ false →
-          covers (at (get_or xs i 0) (get_or wides i 0)) x ≡ true → Cell i ≡ pointed first x (slice first end (placed xs wides))
-      unfolding ahead pointed
-      sofar_cell ended z f c = rw c at (rw left at (rw f at z.rest))
-
-      pub sofar_turn : (ended : Bool) → Sofar xs wides first end x ended i → ended ≡ false →
-          covers (at (get_or xs i 0) (get_or wides i 0)) x ≡ false →
-          (b : Bool) → b ≡ closes (at (get_or xs i 0) (get_or wides i 0)) x → Sofar xs wides first end x b (i + 1)
-      unfolding ahead pointed
-      sofar_turn ended z f c b e = record { within = omega arith; rest = go b (sym e) (rw c at (rw left at (rw f at z.rest))) }
-        where
-          go : (b : Bool) → closes (at (get_or xs i 0) (get_or wides i 0)) x ≡ b →
-              cond (closes (at (get_or xs i 0) (get_or wides i 0)) x) (gap_before (slice (i + 1) end (placed xs wides)))
-              (pointed (i + 1) x (slice (i + 1) end (placed xs wides)))
-              ≡ pointed first x (slice first end (placed xs wides)) →
-              ahead b (i + 1) x (slice (i + 1) end (placed xs wides)) ≡ pointed first x (slice first end (placed xs wides))
-          go true q s = rw q at s
-          go false q s = rw q at s
+        go : (b : Bool) → closes (at y w) x ≡ b → cond (closes (at y w) x) (gap_before (placed xs wides)) (pointed (i + 1) x (placed xs wides)) ≡ all →
+            ahead b (i + 1) x (placed xs wides) ≡ all
+        go true d h = rw d at h
+        go false d h = rw d at h

@@ -5,15 +5,15 @@ use mathlib.Core.List.{List, [], ◌∷◌, ◌++◌}
 use Prim.Native.Nat.{ℕ, zero, suc, ◌+◌, ◌≤◌}
 use native.Mathlib.Omega.{arith}
 use lib.ListN.{length, get_or, take, drop, length-append}
-use lib.Seq.{slice, take_at, take-take, take-nil, take-append-add, drop-append-add}
+use lib.Seq.{slice, take_at, take-take, take-append-add, drop-append-add}
 use Rattle.columns.specs.Boxes.{Box, flat}
 use Rattle.answers.specs.declared.Way.{Way}
 use Rattle.answers.specs.declared.Way.TheVariants.{Sideways, Down}
-use Rattle.placing.specs.Place.{Placed, at, place_side, place_down, place_row, place_rows}
+use Rattle.placing.specs.Place.{Placed, place_side, place_down, place_row, place_rows}
 use Rattle.placing.specs.inner.Rows.{Written}
 use Rattle.placing.proofs.Placing.{length_row}
 use Rattle.pointing.specs.Point.{placed}
-use Rattle.pointing.proofs.Parts.{placed_written}
+use Rattle.pointing.proofs.Parts.{placed_take, placed_written}
 
 -- how many entries stand in the first k rows
 abbrev pub before : List (List Box) → ℕ → ℕ
@@ -39,14 +39,6 @@ before_all (r ∷ rows) (suc k) = omega (arith, before_cons r rows k, length-app
 -- a part that lies behind the front of a list
 part_behind : (xs ys : List Placed) (f t : ℕ) → slice (length xs + f) (length xs + t) (xs ++ ys) ≡ slice f t ys
 part_behind xs ys f t = ap (drop (length xs + f)) (take-append-add xs ys t) ∙ drop-append-add xs (take t ys) f
-
--- what stands in the front of two slices
-placed_take : (n : ℕ) (xs wides : List ℕ) → take n (placed xs wides) ≡ placed (take n xs) (take n wides)
-unfolding placed
-placed_take zero xs wides = refl
-placed_take (suc n) [] wides = refl
-placed_take (suc n) (x ∷ xs) [] = ap (λ (l : List Placed). at x 0 ∷ l) (placed_take n xs [] ∙ ap (placed (take n xs)) (take-nil n))
-placed_take (suc n) (x ∷ xs) (w ∷ wides) = ap (λ (l : List Placed). at x w ∷ l) (placed_take n xs wides)
 
 module _ (way : Way) (ws : List ℕ) (width : ℕ) where
   pub row_none : place_row way ws width [] ≡ []

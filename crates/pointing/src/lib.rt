@@ -62,19 +62,19 @@ impl PlacedRow<'_> {
         ensures { result ≡ pointed self.now.first column (slice self.now.first self.now.end (placed self.now.x.now self.now.wide.now)) }
     {
         let mut ended = false;
-        // By place, which is the answer.
-        for i in self.first..self.end {
-            let w = self.wide[i];
+        let x = &self.x[self.first..self.end];
+        let wide = &self.wide[self.first..self.end];
+        // Each with its place, which is the answer.
+        for (i, (x, w)) in (self.first..).zip(x.iter().zip(wide)) {
             if ended {
-                if w != 0 {
+                if *w != 0 {
                     return Under::Gap;
                 }
             } else {
-                let start = self.x[i];
-                if covers_column(start, w, column) {
+                if covers_column(*x, *w, column) {
                     return Under::Cell(i);
                 }
-                ended = closes_at(start, w, column);
+                ended = closes_at(*x, *w, column);
             }
         }
         Under::Nothing
@@ -102,9 +102,11 @@ impl PlacedRow<'_> {
         ensures { Listed self.now.first from to (slice self.now.first self.now.end (placed self.now.x.now self.now.wide.now)) entry.old result entry.new }
     {
         let mut n: usize = 0;
-        // By place, which is the number that is written: the slice is filled from its front beside a count, since a `Vec` needs a heap.
-        for i in self.first..self.end {
-            if lies_inside(self.x[i], self.wide[i], from, to) {
+        let x = &self.x[self.first..self.end];
+        let wide = &self.wide[self.first..self.end];
+        // Each with its place, which is the number that is written: the slice is filled from its front beside a count, since a `Vec` needs a heap.
+        for (i, (x, w)) in (self.first..).zip(x.iter().zip(wide)) {
+            if lies_inside(*x, *w, from, to) {
                 entry[n] = i as u32;
                 n += 1;
             }

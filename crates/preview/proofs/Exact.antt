@@ -14,7 +14,8 @@ use Rattle.lists.specs.Lists.{padded}
 use Rattle.lists.specs.Limits.{max_wrap, max_width, max_entries}
 use Rattle.lists.specs.Refusals.{Check, first_answer, passes}
 use Rattle.sheet.specs.Sheet.{sheet_checks}
-use Rattle.sheet.proofs.First.{neither, both_true, passes_cons, passes_both, passes_append, first_passes, figures_pass, accepted_passes, passes_accepted}
+use Rattle.lists.proofs.Tests.{both}
+use Rattle.sheet.proofs.First.{neither, passes_cons, passes_both, passes_append, first_passes, figures_pass, accepted_passes, passes_accepted}
 use Rattle.widths.specs.Share.{shares}
 use Rattle.answers.specs.declared.Way.{Way}
 use Rattle.answers.specs.declared.Way.TheVariants.{Sideways, Down}
@@ -60,7 +61,7 @@ module _ (s : List ℕ) (line wrap raw width row : ℕ) where
   row_passes : RowIn s line wrap raw width row → passes (row_checks s line wrap raw width row) ≡ true
   unfolding goes_down
   row_passes r =
-      let (p, q) = both_true (passes (sheet_checks s)) (passes (every_table s)) (sym (passes_append (sheet_checks s) (every_table s)) ∙ accepted_passes _ r.table.accepted) in
+      let (p, q) = both (passes (sheet_checks s)) (passes (every_table s)) (sym (passes_append (sheet_checks s) (every_table s)) ∙ accepted_passes _ r.table.accepted) in
       pass_append (sheet_checks s ++ line_check (kept_lines s) line ∷ every_table s) (late_check s line wrap raw width row ∷ [])
       (pass_append (sheet_checks s) (line_check (kept_lines s) line ∷ every_table s) p (pass_cons (line_check (kept_lines s) line) (every_table s) (rw r.table.table) q))
       (pass_cons (late_check s line wrap raw width row) [] (rw (r.sideways, lt-leb (length (rows_at s line)) row r.there)) pass_nil)
@@ -80,8 +81,8 @@ module _ (s : List ℕ) (line wrap raw width row : ℕ) where
       let (a, b) = passes_both (settings_check wrap raw width) (row_checks s line wrap raw width row) e in
       let (c, w) = neither (ltb max_wrap wrap || ltb 1 raw) (ltb max_width width) a in
       let (p, o) = neither (ltb max_wrap wrap) (ltb 1 raw) c in
-      let (d, f) = both_true (passes opened) (passes (late_check s line wrap raw width row ∷ [])) (sym (passes_append opened (late_check s line wrap raw width row ∷ [])) ∙ b) in
-      let (g, h) = both_true (passes (sheet_checks s)) (passes (line_check (kept_lines s) line ∷ every_table s)) (sym (passes_append (sheet_checks s) (line_check (kept_lines s) line ∷ every_table s)) ∙ d) in
+      let (d, f) = both (passes opened) (passes (late_check s line wrap raw width row ∷ [])) (sym (passes_append opened (late_check s line wrap raw width row ∷ [])) ∙ b) in
+      let (g, h) = both (passes (sheet_checks s)) (passes (line_check (kept_lines s) line ∷ every_table s)) (sym (passes_append (sheet_checks s) (line_check (kept_lines s) line ∷ every_table s)) ∙ d) in
       let (t, k) = passes_both (line_check (kept_lines s) line) (every_table s) h in
       let (q, n) = neither (goes_down (way_at s line wrap raw width)) (leb (length (rows_at s line)) row) (passes_both (late_check s line wrap raw width row) [] f).0 in
       record {

@@ -123,8 +123,7 @@ fn counted(spot: Result<Span, Refusal>, n: usize) -> Result<u32, Refusal>
     requires { n ≤ max_entries }
     ensures { result ≡ counted_by n spot }
 {
-    spot?;
-    Ok(n as u32)
+    spot.map(|_| n as u32)
 }
 
 // The printed cells of a row that lie wholly in the stretch from one character column up to another, left to right: each by its number among the

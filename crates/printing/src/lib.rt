@@ -50,7 +50,7 @@ impl Output<'_> {
         self.put(&[end]);
     }
 
-    // Puts a line of two numbers, one space between.
+    // Puts a line of two numbers, one space between. Two functions, for two and for four: one of a slice would have a length in each contract.
     pub fn put_two(&mut self, m: u32, n: u32)
         requires { self.old.at + 22 ≤ length self.old.buffer.now }
         ensures bytes { PutWithin 22 (line (m ∷ n ∷ [])) self.old.at self.old.buffer.now self.new.buffer.now self.new.at }

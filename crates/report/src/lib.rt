@@ -15,7 +15,7 @@ use writing::lines::Listing;
 // Settings take at most 28 bytes, so a full buffer holds a sheet that is too long.
 const INPUT_BYTES: usize = 65565;
 
-// The descriptor of standard input.
+// The descriptor of standard input. replay has its own: the two programs share no crate for it.
 const STANDARD_INPUT: i32 = 0;
 
 // What is printed of a table: its layout, or what explains it. A switch and no type parameter: eight functions would carry it for one `match`.

@@ -21,11 +21,9 @@ pub struct Missed<'a> {
 impl Missed<'_> {
     // The size of the cell in a line, the first of its figures; a filler, whose line is 0, has none of its own.
     fn size_of(&self, cell: u32) -> u32 {
-        if cell == 0 {
-            return 0;
-        }
-        let at = (cell - 1) as usize;
-        self.figures.get(at).map_or(0, |e| e.size)
+        cell.checked_sub(1)
+            .and_then(|at| self.figures.get(at as usize))
+            .map_or(0, |e| e.size)
     }
 
     // With how many of the missing entries something is lost: a cell of a size above 0.

@@ -19,8 +19,8 @@ pub struct Given {
     pub sheet: usize,
 }
 
-// The bytes of the heading and of its line feed.
-const HEADING_BYTES: usize = 15;
+// The heading and its line feed.
+const HEADING: &[u8] = b"wrap raw width\n";
 
 const MAX_RAW: u32 = 1;
 
@@ -28,10 +28,10 @@ const MAX_RAW: u32 = 1;
 fn given_in(bytes: &[u8]) -> Option<Given>
     ensures { ok_or result (refusal Setting 0) ≡ settings_of bytes.now }
 {
-    if !bytes.starts_with(b"wrap raw width\n") {
+    if !bytes.starts_with(HEADING) {
         return None;
     }
-    let wrap = number_at(bytes, HEADING_BYTES, b' ', lists::MAX_WRAP)?;
+    let wrap = number_at(bytes, HEADING.len(), b' ', lists::MAX_WRAP)?;
     let raw = number_at(bytes, wrap.next, b' ', MAX_RAW)?;
     let width = number_at(bytes, raw.next, b'\n', lists::MAX_WIDTH)?;
     Some(Given {

@@ -54,7 +54,8 @@ fn line_of(classes: &Classes, bytes: &[u8], at: usize) -> Result<Scanned<Kept>, 
     Ok(brief(node))
 }
 
-// The line that starts at a place, judged after the lines before it: 2, 3, 13, 14, 4.
+// The line that starts at a place, judged after the lines before it: 2, 3, 13, 14, 4. chain, lines and previous are those of `breaks_nesting`: a struct
+// of the three would be made anew for each line.
 fn judge(
     classes: &Classes,
     bytes: &[u8],
@@ -116,20 +117,19 @@ fn finish(lines: &[Kept], filled: bool) -> Result<usize, Refusal>
     requires none_lacking { filled ≡ true → NoneLacking lines.now (length lines.now) }
     ensures { result ≡ line_end (bare lines.now) }
 {
-    let n = lines.len();
-    if n == 0 {
+    let Some(last) = lines.last() else {
         return Err(Reason::Nesting.at(0));
+    };
+    if filled && !nesting::needs_child(last.kind) {
+        return Ok(lines.len());
     }
-    if filled && !nesting::needs_child(lines[n - 1].kind) {
-        return Ok(n);
-    }
-    // By its place, since the line after it is asked too, and the place goes into the answer.
-    for i in 0..n {
+    // By its place: the line after it is asked too. A `find` over the places would hold the same test in a closure.
+    for i in 0..lines.len() {
         if left_empty_at(lines, i) {
             return Err(Reason::Nesting.at((i + 1) as u32));
         }
     }
-    Ok(n)
+    Ok(lines.len())
 }
 
 // Reads the lines of a sheet that begins as it should.
@@ -141,7 +141,7 @@ fn read_lines(classes: &Classes, bytes: &[u8], lines: &mut [Kept]) -> Result<usi
     // the kind of the last line of each depth, which is all that the nesting of a line asks of those before it, and the last depth
     let mut chain = [Kind::Text; DEPTHS];
     let mut previous: u32 = 0;
-    let mut at: usize = front::HEADING_BYTES;
+    let mut at: usize = front::HEADING.len();
     let mut n: usize = 0;
     let mut filled = true;
     // A while: a turn moves on by the line that it reads.

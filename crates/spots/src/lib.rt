@@ -1,5 +1,6 @@
 // Where a row of a table stands: it is found in a sheet by the table's line and the row's number, and the table is laid out.
-// x and wide are two slices, as placing writes them; `PlacesRoom` is asked in three contracts, and goes on with them (docs/DESIGN-PASS.md).
+// x and wide are two slices, as placing writes them; `PlacesRoom` and `GridRoom` are asked in three contracts, and go on with
+// what is lent (docs/DESIGN-PASS.md).
 // `as` where a line, a row or its end becomes a `usize`, for which there is no `From`.
 #![tactic(auto)]
 

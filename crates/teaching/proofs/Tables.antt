@@ -19,7 +19,8 @@ use Rattle.records.specs.Kept.{no_kept}
 use Rattle.records.specs.declared.Kept.{Kept}
 use Rattle.sheet.specs.Sheet.{sheet_checks, sheet_lines}
 use Rattle.sheet.specs.Reading.{reading_of}
-use Rattle.sheet.proofs.First.{both_true, first_passes, passes_append, accepted_passes}
+use Rattle.lists.proofs.Tests.{both}
+use Rattle.sheet.proofs.First.{first_passes, passes_append, accepted_passes}
 use Rattle.columns.specs.Boxes.{Box, box, flat, TilesAll}
 use Rattle.columns.proofs.Listed.{none}
 use Rattle.cells.specs.Cells.{rows_under}
@@ -57,12 +58,12 @@ table_passes t [] i u e h k p = absurd (not-suc-le-zero h)
 table_passes t (l ∷ ls) zero u e h k p =
     let z : t ≡ u = omega arith in
     let q : passes (table_checks t (rows_under l.depth t ls)) ≡ true =
-    (both_true (passes (table_checks t (rows_under l.depth t ls))) (passes (tables_checks (suc t) ls))
+    (both (passes (table_checks t (rows_under l.depth t ls))) (passes (tables_checks (suc t) ls))
     (sym (passes_append (table_checks t (rows_under l.depth t ls)) (tables_checks (suc t) ls)) ∙ (rw (eq-eqb (kind_number l.kind) table_kind k) at p))).0 in
     rw z at q
 table_passes t (l ∷ ls) (suc i) u e h k p =
     table_passes (suc t) ls i u (omega arith) (le_of_suc-le-suc h) k
-    (both_true (passes own) (passes (tables_checks (suc t) ls)) (sym (passes_append own (tables_checks (suc t) ls)) ∙ p)).1
+    (both (passes own) (passes (tables_checks (suc t) ls)) (sym (passes_append own (tables_checks (suc t) ls)) ∙ p)).1
   where
     own : List Check
     own = cond (eqb (kind_number l.kind) table_kind) (table_checks t (rows_under l.depth t ls)) []
@@ -138,7 +139,7 @@ module _ {s : List ℕ} {line : ℕ} (w : TableIn s line) where
   es = entries_of (rows_at s line)
 
   passed : (passes (sheet_checks s) ≡ true) × (passes (every_table s) ≡ true)
-  passed = both_true (passes (sheet_checks s)) (passes (every_table s)) (sym (passes_append (sheet_checks s) (every_table s)) ∙ accepted_passes _ w.accepted)
+  passed = both (passes (sheet_checks s)) (passes (every_table s)) (sym (passes_append (sheet_checks s) (every_table s)) ∙ accepted_passes _ w.accepted)
 
   reads : reading_of s ≡ Ok (length (sheet_lines s))
   unfolding reading_of

@@ -2,78 +2,61 @@
 -- place: the width of the first entry that shows its line, and what stood there if there is none. Assumes nothing.
 use mathlib.Core.Path.{◌≡◌, refl, sym, ap, ◌∙◌}
 use mathlib.Core.Bool.{Bool, true, false, cond, ◌||◌, true≢false}
-use mathlib.Core.List.{List, [], ◌∷◌, map}
-use Prim.Native.Nat.{ℕ, suc, ◌-◌, ◌≤◌, ◌<◌}
+use mathlib.Core.List.{List, [], ◌∷◌, ◌++◌, map, append-nil, append_assoc}
+use Prim.Native.Nat.{ℕ, suc, ◌-◌, ◌<◌}
 use native.Mathlib.Decide.{ℕ_discrete}
 use native.Mathlib.Omega.{arith}
 use lib.Dec.{eqb}
-use lib.ListN.{length, get_or, drop, set, length-map, length-set, drop_of_length-le, get_or-map}
-use lib.Seq.{drop-cons, get_or-set_same, get_or-set_other}
+use lib.ListN.{length, get_or, take, drop, set, length-append, length-set, take-append-drop}
+use lib.Seq.{length-take-le, get_or-set_same, get_or-set_other}
 use borrow.Author.Tests.{eq-eqb, ne_eqb}
+use Rattle.std.proofs.lemmas.List.{nil_from_length}
 use Rattle.std.specs.Prelude.{Option, None}
+use Rattle.std.specs.List.{push}
 use Rattle.lists.specs.Lists.{mem}
-use Rattle.records.specs.Kept.{no_entry}
+use Rattle.records.specs.Figures.{entry_cell}
 use Rattle.records.specs.declared.Entry.{Entry}
 use Rattle.passing.specs.Walk.{printed, printed_in}
 use Rattle.walking.specs.inner.Steps.{printed_by, CellsFit}
-use Rattle.records.specs.Figures.{entry_cell}
 
 -- ---- the loop
 
-pub record Sofar (es : List Entry) (wide : List ℕ) (ps₀ ps : List (Option ℕ)) (i : ℕ) : Type 0 where
-  pub at : i ≤ length es
-  pub left : ps ≡ printed_by (drop i (map entry_cell es)) (drop i wide) ps₀
+-- the entries are those that are left and those that are passed, and so the widths, of which some may stand behind; what is passed is written
+pub record Sofar (es : List Entry) (wide : List ℕ) (ps₀ ps : List (Option ℕ)) (es₁ : List Entry) (wide₁ : List ℕ) : Type 0 where
+  pub passed : List Entry
+  pub behind : List ℕ
+  pub first : es ≡ es₁ ++ passed
+  pub second : wide ≡ wide₁ ++ behind
+  pub as_many : length wide₁ ≡ length es₁
+  pub written : ps ≡ printed_by (map entry_cell passed) behind ps₀
 
-module _ {es : List Entry} {wide : List ℕ} {ps₀ : List (Option ℕ)} (f : CellsFit es wide ps₀) where
-  abbrev cs : List ℕ
-  cs = map entry_cell es
+pub start : {es : List Entry} {wide : List ℕ} {ps : List (Option ℕ)} → CellsFit es wide ps → Sofar es wide ps ps es (take (length es) wide)
+unfolding printed_by
+start {es} {wide} f = record {
+  passed = [];
+  behind = drop (length es) wide;
+  first = sym (append-nil es);
+  second = sym (take-append-drop (length es) wide);
+  as_many = length-take-le (length es) wide f.wide_in;
+  written = refl;
+}
 
-  cells_count : length cs ≡ length es
-  cells_count = length-map es entry_cell
-
-  pub start : Sofar es wide ps₀ ps₀ (length es)
+module _ {es : List Entry} {wide : List ℕ} {ps₀ ps : List (Option ℕ)} {es₁ : List Entry} {wide₁ : List ℕ} (z : Sofar es wide ps₀ ps es₁ wide₁) where
+  -- the last of both that are left is passed, and written
+  pub pass : (e : Entry) (w : ℕ) {es₂ : List Entry} {wide₂ : List ℕ} → (es₁ ≡ push es₂ e) × (wide₁ ≡ push wide₂ w) → (ps' : List (Option ℕ))
+      → ps' ≡ cond (eqb e.cell 0) ps (set ps (e.cell - 1) (printed w)) → Sofar es wide ps₀ ps' es₂ wide₂
   unfolding printed_by
-  start = record { at = omega arith; left = sym (ap (λ (l : List ℕ). printed_by l (drop (length es) wide) ps₀) (drop_of_length-le cs {i = length es} (omega (arith, cells_count)))) }
+  pass e w {es₂} {wide₂} n ps' r = record {
+    passed = e ∷ z.passed;
+    behind = w ∷ z.behind;
+    first = z.first ∙ ap (λ l. l ++ z.passed) n.0 ∙ append_assoc es₂ (e ∷ []) z.passed;
+    second = z.second ∙ ap (λ l. l ++ z.behind) n.1 ∙ append_assoc wide₂ (w ∷ []) z.behind;
+    as_many = omega (arith, z.as_many, ap length n.0, ap length n.1, length-append es₂ (e ∷ []), length-append wide₂ (w ∷ []));
+    written = r ∙ ap (λ l. cond (eqb e.cell 0) l (set l (e.cell - 1) (printed w))) z.written;
+  }
 
-  module _ {ps : List (Option ℕ)} {i : ℕ} (z : Sofar es wide ps₀ ps i) where
-    pub stop : i ≤ 0 → ps ≡ printed_by (map entry_cell es) wide ps₀
-    stop h = let o : i ≡ 0 = omega arith in rw o at z.left
-
-    module _ (h : 0 < i) (e : Entry) (q : e ≡ get_or es (i - 1) no_entry) where
-      within : i - 1 < length es
-      within = omega (arith, z.at)
-
-      cells_here : drop (i - 1) cs ≡ e.cell ∷ drop i cs
-      cells_here =
-          let s : suc (i - 1) ≡ i = omega arith in
-          let w : i - 1 < length cs = omega (arith, within, cells_count) in
-          let c : get_or cs (i - 1) 0 ≡ e.cell = get_or-map entry_cell es (i - 1) no_entry ∙ ap entry_cell (sym q) in
-          drop-cons cs (i - 1) 0 w ∙ (λ j. c j ∷ drop (s j) cs)
-
-      wides_here : drop (i - 1) wide ≡ get_or wide (i - 1) 0 ∷ drop i wide
-      wides_here =
-          let s : suc (i - 1) ≡ i = omega arith in
-          drop-cons wide (i - 1) 0 (omega (arith, within, f.wide_in)) ∙ (λ j. get_or wide (i - 1) 0 ∷ drop (s j) wide)
-
-      next : printed_by (drop (i - 1) cs) (drop (i - 1) wide) ps₀ ≡ cond (eqb e.cell 0) ps (set ps (e.cell - 1) (printed (get_or wide (i - 1) 0)))
-      unfolding printed_by
-      next =
-          (λ j. printed_by (cells_here j) (wides_here j) ps₀)
-          ∙ sym (ap (λ (l : List (Option ℕ)). cond (eqb e.cell 0) l (set l (e.cell - 1) (printed (get_or wide (i - 1) 0)))) z.left)
-
-      pub turn_cell : (e.cell ≡ 0 → ⊥) → (p : Option ℕ) → p ≡ printed (get_or wide (i - 1) 0) → (ps' : List (Option ℕ)) → ps' ≡ set ps (e.cell - 1) p
-          → Sofar es wide ps₀ ps' (i - 1)
-      turn_cell c p r ps' w = record { at = omega (arith, z.at); left = w ∙ ap (set ps (e.cell - 1)) r ∙ sym (rw (ne_eqb e.cell 0 c) at next) }
-
-      pub turn_filler : e.cell ≡ 0 → Sofar es wide ps₀ ps (i - 1)
-      turn_filler c = record { at = omega (arith, z.at); left = sym (rw (eq-eqb e.cell 0 c) at next) }
-
-      -- a cell has a place
-      pub cell_place : (e.cell ≡ 0 → ⊥) → e.cell - 1 < length ps₀
-      cell_place c = omega (arith, f.room (i - 1) within, ap entry_cell q, some e.cell c)
-        where
-          some : (m : ℕ) → (m ≡ 0 → ⊥) → 0 < m
-          some m c = omega arith
+  pub stop : length es₁ ≡ 0 → ps ≡ printed_by (map entry_cell es) wide ps₀
+  stop n = rw (z.first, z.second, nil_from_length es₁ n, nil_from_length wide₁ (z.as_many ∙ n)) z.written
 
 -- ---- what stands at a place
 

@@ -146,10 +146,6 @@ handed_at e h = rw e h
 
 -- ---- nothing is given
 
-pub handed_other : {ks : List Kept} {t : ℕ} {figures : List Estimate} {raw : ℕ} {w : Option ℕ} {ps : List (Option ℕ)} → (kind_number (get_or ks t no_kept).kind ≡ table_kind → ⊥)
-    → HandedOut ks t figures raw w ps ps
-handed_other n = record { cell = λ wrap f i c. absurd (n c.0); other = λ i c. refl }
-
 pub handed_none : {ks : List Kept} {t : ℕ} {figures : List Estimate} {raw : ℕ} {w : Option ℕ} {ps : List (Option ℕ)} → w ≡ None → HandedOut ks t figures raw w ps ps
 unfolding cell_width
 handed_none {ks} {t} {raw = raw} e = record { cell = λ wrap f i c z. z ∙ sym (ap (λ (x : Option ℕ). (cell_width wrap raw ks t x i)) e); other = λ i c. refl }

@@ -9,16 +9,14 @@ use records::{Entry, Kept};
 use table::MeasuredTable;
 use text::Estimate;
 
-// Writes the width of each entry to the place of its cell's line; a filler has none. By place: two slices are read at it, from the last to the first.
+// Writes the width of each entry to the place of its cell's line; a filler has none. From the last to the first, of as many widths as entries.
 fn print_cells(entries: &[Entry], wide: &[u32], walk: &mut [Option<u32>])
     requires { CellsFit entries.now wide.now walk.old }
     ensures { walk.new ≡ printed_by (map entry_cell entries.now) wide.now walk.old }
 {
-    for k in (0..entries.len()).rev() {
-        let e = entries[k];
-        if e.cell != 0 {
-            let at = (e.cell - 1) as usize;
-            walk[at] = passing::printed(wide[k]);
+    for (e, w) in entries.iter().rev().zip(wide[..entries.len()].iter().rev()) {
+        if let Some(at) = e.cell.checked_sub(1) {
+            walk[at as usize] = passing::printed(*w);
         }
     }
 }

@@ -1,5 +1,5 @@
 // The walk from a sheet's first line down: which width each line gets, or the first line that is too narrow for what it holds.
-// `as` where a line or a depth becomes a `usize`, or a place a number of 32 bits: there is no `From`, and a `TryFrom` would never fail.
+// `as` where a line becomes a `usize`, or a place a number of 32 bits: there is no `From`, and a `TryFrom` would never fail.
 #![tactic(auto)]
 
 mod giving; // what a table gives its cells

@@ -31,7 +31,7 @@ fn own_width(
     if k.kind == Kind::Cell {
         return walk[i];
     }
-    passed[k.depth.saturating_sub(1) as usize]
+    passed[usize::from(k.depth.saturating_sub(1))]
 }
 
 // Line i: its width, which is written to its place, and what it passes on, which is written to the place of its depth.
@@ -50,7 +50,7 @@ fn step(
     let own = own_width(here, i, width, walk, passed);
     let e = m.figures[i];
     walk[i] = own;
-    passed[here.depth as usize] = passing::passed_on(here.kind, e, own);
+    passed[usize::from(here.depth)] = passing::passed_on(here.kind, e, own);
     own
 }
 
@@ -82,7 +82,7 @@ pub fn walk_lines(
 {
     let mut passed = [None; DEPTHS];
     let n = m.lines.len();
-    // By place: a line's place says its number, and its estimate and its width stand there too.
+    // By place: a turn's three functions are asked by it, since a line's number, its estimate and its width go by it; a line itself would be unread.
     for i in 0..n {
         let own = step(m, i, width, walk, &mut passed);
         if ends(m, i, own, overflow) {

@@ -7,7 +7,7 @@ use Rattle.std.proofs.Common.{rules}
 use Rattle.lists.specs.declared.Reason.TheVariants.{OutOfBounds}
 use Rattle.sums.specs.Answers.{answer_by}
 use Rattle.calc.specs.inner.Kept.{place_of, end_at}
-use Rattle.calc.proofs.Handed.{handed}
+use Rattle.lists.proofs.Handed.{handed}
 use Rattle.calc.proofs.ended.Goals as goal
 
 pub returns-then-depth-ne0 : goal.returns-then-depth-ne0

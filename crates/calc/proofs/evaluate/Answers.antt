@@ -4,7 +4,7 @@ use Rattle.std.specs.Prelude.{Err}
 use Rattle.std.specs.Result.{result_ok}
 use Rattle.std.proofs.Common.{rules}
 use Rattle.calc.specs.inner.Kept.{room_of}
-use Rattle.calc.proofs.Handed.{handed}
+use Rattle.lists.proofs.Handed.{handed}
 use Rattle.calc.proofs.Sofar.{begin, no_opening, opening_told, opens, no_end, not_open, closes, moves, ended_as}
 use Rattle.calc.proofs.evaluate.Goals.{then-c-eq40+in_ok-outer, else-c-eq40+then-c-eq41+in_ok-x+else-depth-eq0, else-c-eq40+else-c-eq41}
 use Rattle.calc.proofs.evaluate.Goals as goal

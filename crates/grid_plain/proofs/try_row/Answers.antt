@@ -1,40 +1,70 @@
--- `grid_plain::try_row` meets its contract. The loop's invariant, `RowLoop`: the cells so far are plain, with those of the lines still to come they are the
--- row's, and their entries are written. A line three deeper than the table adds a cell, a deeper one nothing. Assumes nothing.
+-- `grid_plain::try_row` meets its contract. A turn reads the line at the next place: one three deeper than the table adds a cell, a deeper one nothing. At
+-- the end no line is left, for the places do not run out before the lines do. Assumes nothing.
 use mathlib.Core.Path.{◌≡◌, sym, ap, ◌∙◌}
-use Prim.Native.Nat.{◌+◌}
+use mathlib.Core.List.{List, ◌∷◌}
+use native.Mathlib.Nat.{add-zero}
+use Prim.Native.Nat.{ℕ, ◌+◌, ◌≤◌}
 use native.Mathlib.Omega.{arith}
-use lib.ListN.{length, get_or, get_or-eq_default}
+use Rattle.std.proofs.lemmas.List.{take_rest}
+use lib.ListN.{length, get_or, drop, get_or-eq_default, length-drop}
+use lib.Seq.{get_or-drop, drop-drop}
+use Rattle.std.specs.Iterator.Adapters.{zip_first, zip_second}
+use Rattle.std.specs.Slice.Iter.{iter_rest}
 use Rattle.records.specs.Kept.{no_kept}
 use Rattle.records.specs.declared.Kept.{Kept}
 use Rattle.grid_plain.proofs.RowLoop.{both_one, row_start, row_room, row_cell, row_deeper, row_stop}
 use Rattle.grid_plain.proofs.try_row.Goals as goal
-use Rattle.grid_plain.proofs.try_row.Goals.{then-e-d-2+else-not-is_plain, else-e-d-2}
+use Rattle.grid_plain.proofs.try_row.Goals.{After-from-e}
+
+-- what is left from a place on begins with the line there
+first : (ks : List Kept) (i : ℕ) {r s : List Kept} {k : Kept} → r ≡ k ∷ s → r ≡ drop i ks → (k ≡ get_or ks i no_kept) × (s ≡ drop (i + 1) ks)
+first ks i {r} {s} {k} p q =
+    let e : k ∷ s ≡ drop i ks = sym p ∙ q in
+    (rw add-zero at (ap (λ (l : List Kept). get_or l 0 no_kept) e ∙ get_or-drop i ks 0 no_kept), ap (drop 1) e ∙ drop-drop 1 i ks)
+
+-- the place that a turn reads, the line there, its depth, the next place, and what is left from it on
+turn : (c : After-from-e) → (c.in-Some.i ≡ (zip_first c.loop-i.i-iterator).start)
+    × (c.in-Some.line.now ≡ get_or c.args.lines.now (zip_first c.loop-i.i-iterator).start no_kept)
+    × (c.from-e.result ≡ (get_or c.args.lines.now (zip_first c.loop-i.i-iterator).start no_kept).depth)
+    × ((zip_first c.next.new.self).start ≡ (zip_first c.loop-i.i-iterator).start + 1)
+    × (iter_rest (zip_second c.next.new.self) ≡ drop ((zip_first c.loop-i.i-iterator).start + 1) c.args.lines.now)
+turn c =
+    let s = c.in-Some.ensures.steps in
+    let f = first c.args.lines.now _ s.1 c.loop-i.invariant.1 in
+    (s.0.0, f.0, c.from-e.ensures ∙ ap (λ (k : Kept). k.depth) f.0, omega (arith, s.0), f.1)
 
 pub loop-i-init : goal.loop-i-init
-loop-i-init c = row_start _ _ _ _ _ c.requires.within
+loop-i-init c =
+    let walk = c.zip-i-items.ensures in
+    rw (c.into_iter-i-iterator.ensures.into_iter_gives, walk.first, walk.second.0) (row_start _ _ _ _ _ c.requires.within, take_rest c.args.lines.now c.args.from)
 
 pub returns-then-e-d : goal.returns-then-e-d
-returns-then-e-d c = row_stop c.loop-i.invariant (omega (arith, c.from-e.ensures))
+returns-then-e-d c =
+    let t = turn (goal.at.returns-then-e-d c).After-from-e in
+    rw t.0 (row_stop c.loop-i.invariant.0 (omega (arith, t.2, c.if-e-d.true)))
 
 pub bounds-entries-n : goal.bounds-entries-n
 bounds-entries-n c =
-    let cell : (get_or c.args.lines.now c.loop-i.i no_kept).depth ≡ c.args.d + 3 = sym (c.from-e.ensures) ∙ c.if-e-d-2.true in
-    omega (arith, row_room c.loop-i.invariant cell c.requires)
+    let t = turn (goal.at.bounds-entries-n c).After-from-e in
+    omega (arith, row_room c.loop-i.invariant.0 (sym t.2 ∙ c.if-e-d-2.true) c.requires)
+
+pub loop-i-preserved-then-e-d-2 : goal.loop-i-preserved-then-e-d-2
+loop-i-preserved-then-e-d-2 c =
+    let t = turn (goal.at.loop-i-preserved-then-e-d-2 c).After-from-e in
+    let cell = sym t.2 ∙ c.if-e-d-2.true in
+    let plain = both_one c.in-Some.line.now.cols c.in-Some.line.now.rows (sym c.is_plain.ensures ∙ c.if-not-is_plain.false) in
+    rw (t.3, t.0) (row_cell c.loop-i.invariant.0 cell (rw t.1 at plain) (row_room c.loop-i.invariant.0 cell c.requires).0, t.4)
 
 pub loop-i-preserved : goal.loop-i-preserved
 loop-i-preserved c =
-    let z = c.loop-i.invariant in
-    let line : c.from-e.result ≡ (get_or c.args.lines.now c.loop-i.i no_kept).depth = c.from-e.ensures in
-    elim c.if-e-d-2.branch [
-      | then-e-d-2+else-not-is_plain w ↦
-          let cell : (get_or c.args.lines.now c.loop-i.i no_kept).depth ≡ c.args.d + 3 = sym line ∙ w.if-e-d-2.true in
-          let plain = both_one _ _ (sym w.is_plain.ensures ∙ w.if-not-is_plain.false) in
-          rw (w.entries-is, w.k-is) (row_cell z cell plain (row_room z cell c.requires).0)
-      | else-e-d-2 w ↦ rw (w.entries-is, w.k-is) (row_deeper z (omega arith) (λ e. w.if-e-d-2.false (line ∙ e)))
-    ]
+    let t = turn (goal.at.loop-i-preserved c).After-from-e in
+    rw t.3 (row_deeper c.loop-i.invariant.0 (omega (arith, t.2, c.if-e-d.false)) (λ e. c.if-e-d-2.false (t.2 ∙ e)), t.4)
 
 pub returns : goal.returns
 returns c =
-    let e : c.loop-i.i ≡ length c.args.lines.now = omega (arith, c.requires.within) in
-    let none : get_or c.args.lines.now c.loop-i.i no_kept ≡ no_kept = get_or-eq_default c.args.lines.now no_kept {n = c.loop-i.i} (omega arith) in
-    rw (← e) (row_stop c.loop-i.invariant (omega (arith, ap (λ (k : Kept). k.depth) none)))
+    let ks = c.args.lines.now in
+    let i = (zip_first c.loop-i.i-iterator).start in
+    let past : length ks ≤ i = grind (arith, c.in-None.ensures.steps, c.requires.short, ap length c.loop-i.invariant.1, length-drop i ks) in
+    let e : i ≡ length ks = omega (arith, past, c.loop-i.invariant.0.within) in
+    let none = get_or-eq_default ks no_kept {n = i} past in
+    rw (← e) (row_stop c.loop-i.invariant.0 (omega (arith, ap (λ (k : Kept). k.depth) none)))

@@ -1,25 +1,35 @@
 -- `sheet::finish` meets its contract. Where every table and body is seen to be filled the lines are the answer. The loop's invariant: the answer is that of the checks from the place on. A turn passes one line that is
 -- not left empty. Assumes nothing.
 use mathlib.Core.Path.{sym, ap, ◌∙◌}
-use Prim.Native.Nat.{ℕ, ◌<◌}
-use lib.ListN.{length}
+use Prim.Native.Nat.{ℕ, ◌-◌, ◌<◌}
+use lib.ListN.{length, get_or}
 use native.Mathlib.Omega.{arith}
-use Rattle.std.specs.Prelude.{Ok, Err}
+use Rattle.std.specs.Prelude.{◌≡◌, Ok, Err}
+use Rattle.std.proofs.Common.{rules}
+use Rattle.records.specs.Kept.{no_kept}
+use Rattle.records.specs.declared.Kept.{Kept}
+use Rattle.kinds.specs.Kinds.{needs_child}
 use Rattle.sheet.proofs.Ending.{bare_length, bare_empty, ends_none, ends_start, ends_more, ends_at, ends_all}
 use Rattle.sheet.proofs.Filling.{none_empty, filled_ends}
 use Rattle.sheet.proofs.finish.Goals as goal
 
-pub returns-then-n-eq0 : goal.returns-then-n-eq0
-returns-then-n-eq0 c = ap Err c.at.ensures ∙ ends_none _ (bare_length _ ∙ c.if-n-eq0.true)
+pub returns-in_default : goal.returns-in_default
+returns-in_default c =
+    let none : length c.args.lines.now ≡ 0 = search rules in
+    ap Err c.at.ensures ∙ ends_none _ (bare_length _ ∙ none)
 
 pub returns-then-not-needs_child : goal.returns-then-not-needs_child
 returns-then-not-needs_child c =
     let ls = c.args.lines.now in
-    let some : 0 < length ls = omega (arith, c.if-n-eq0.false) in
-    filled_ends ls some (none_empty ls (c.requires.none_lacking c.if-filled.true) some (sym c.needs_child.ensures ∙ c.if-not-needs_child.true))
+    let some : 0 < length ls = search rules in
+    let here : get_or ls (length ls - 1) no_kept ≡ c.in-Some.last.now = search rules in
+    let childless = ap (λ (k : Kept). needs_child k.kind) here ∙ sym c.needs_child.ensures ∙ c.if-not-needs_child.true in
+    filled_ends ls some (none_empty ls (c.requires.none_lacking c.if-filled.true) some childless)
 
 pub loop-i-init : goal.loop-i-init
-loop-i-init c = ends_start _ (omega (arith, bare_length c.args.lines.now))
+loop-i-init c =
+    let some : 0 < length c.args.lines.now = search rules in
+    ends_start _ (omega (arith, bare_length c.args.lines.now))
 
 pub returns-then-left_empty_at : goal.returns-then-left_empty_at
 returns-then-left_empty_at c =

@@ -1,14 +1,13 @@
 -- `text::measure` meets its contract: each return is the first refusal that applies, by the tests passed on the way, or the figures, by
 -- what `scan` tells. A size is at most twice the bytes, so that an img's 2 fit. Assumes nothing.
-use mathlib.Core.Path.{◌≡◌, refl, sym, ap, ◌∙◌}
-use Prim.Native.Nat.{ℕ}
+use mathlib.Core.Path.{◌≡◌, sym, ap, ◌∙◌}
 use native.Mathlib.Omega.{arith}
 use borrow.Author.Tests.{lt-ltb, le-ltb}
-use Rattle.std.specs.Prelude.{Option, None, Some, Result, Err, ok_or}
+use Rattle.std.specs.Prelude.{Err}
 use Rattle.std.specs.Result.{result_ok}
 use Rattle.std.proofs.Common.{rules}
-use Rattle.lists.specs.declared.Refusal.{Refusal}
 use Rattle.lists.specs.Refusals.{first_answer}
+use Rattle.lists.proofs.Handed.{handed}
 use Rattle.text.specs.Text.{measure_of}
 use Rattle.text.proofs.Sizes.{scan_size, scan_unreadable, scan_le}
 use Rattle.text.proofs.measure.Goals as goal
@@ -21,17 +20,12 @@ pub returns-then-text-gt-MAX_BYTES : goal.returns-then-text-gt-MAX_BYTES
 unfolding measure_of first_answer
 returns-then-text-gt-MAX_BYTES c = rw (le-ltb _ _ c.if-wrap-gt-MAX_WRAP.false, lt-ltb _ _ c.if-text-gt-MAX_BYTES.true, c.at-then-text-gt-MAX_BYTES.ensures)
 
--- what is handed up is the refusal that was given
-handed : (o : Option ℕ) (why e : Refusal) (r : Result ℕ Refusal) → r ≡ ok_or o why → r ≡ Err e → (o ≡ None) × (e ≡ why)
-handed None why e r a b = (refl, cc)
-handed (Some x) why e r a b = let z : ◌≡◌ {A = ℕ} 0 1 = cc in absurd (omega arith)
-
 pub returns-in_err-own : goal.returns-in_err-own
 unfolding measure_of first_answer
 returns-in_err-own c =
-    let h = handed _ _ _ _ c.ok_or.ensures.value c.in_err-own.was in
     let q : c.from_residual.result ≡ Err c.in_err-own.field-0.0 = search rules in
-    rw (le-ltb _ _ c.if-wrap-gt-MAX_WRAP.false, le-ltb _ _ c.if-text-gt-MAX_BYTES.false, scan_unreadable _ (sym c.scan.ensures ∙ h.0))
+    let h = handed _ _ _ _ c.ok_or.ensures.value c.in_err-own.was in
+    rw (le-ltb _ _ c.if-wrap-gt-MAX_WRAP.false, le-ltb _ _ c.if-text-gt-MAX_BYTES.false, scan_unreadable _ (sym c.scan.ensures ∙ sym h.0))
     (q ∙ ap Err (h.1 ∙ c.at-2.ensures))
 
 pub with_img-size-requires : goal.with_img-size-requires

@@ -1,22 +1,25 @@
--- `text::skip_spaces` meets its contract. The invariant: from i on stands a front that trims to what the whole front trims to. A space at i
--- leaves that so at i + 1; at the stop, at another byte, or at the end, nothing is left to trim. Assumes nothing.
-use mathlib.Core.Path.{◌∙◌, sym}
+-- `text::skip_spaces` meets its contract: the spaces end where the search says (`skipped`). Assumes nothing.
+use mathlib.Core.Path.{◌≡◌, ap, ◌∙◌}
 use native.Mathlib.Omega.{arith}
-use Rattle.text.proofs.Scanning.{skip_stop, skip_other, skip_turn, skip_end}
+use Prim.Native.Nat.{◌-◌}
+use lib.ListN.{length, take, drop}
+use Rattle.std.specs.Prelude.{position}
+use Rattle.std.specs.Option.{unwrap_or}
+use Rattle.std.proofs.lemmas.List.{take_rest}
+use Rattle.text.specs.Inner.{ends}
+use Rattle.text.proofs.Scanning.{skipped, skipped_in}
 use Rattle.text.proofs.skip_spaces.Goals as goal
-use Rattle.text.proofs.skip_spaces.Goals.{then-text-i-via-then-text-i, then-text-i-via-else-text-i+then-class-ne-SPACE}
 
-pub returns-then-text-i : goal.returns-then-text-i
-returns-then-text-i c =
-    elim c.then-text-i.branch [
-      | then-text-i-via-then-text-i w ↦ skip_stop c.loop-i.invariant (omega arith) w.if-text-i.true
-      | then-text-i-via-else-text-i+then-class-ne-SPACE w ↦
-          skip_other c.loop-i.invariant (omega arith) (λ e. w.if-class-ne-SPACE.true (w.class.ensures.value ∙ e))
-    ]
+spaces : (c : goal.After-unwrap_or) → c.unwrap_or.result
+    ≡ unwrap_or (position (ends c.args.stop) (drop c.args.from c.args.text.now)) (length (drop c.args.from c.args.text.now))
+spaces c =
+    let text = c.args.text.now in
+    let from = c.args.from in
+    c.unwrap_or.ensures ∙ ap (λ o. unwrap_or o (length (take (length text - from) (drop from text)))) c.spaces_end.ensures
+    ∙ ap (λ r. unwrap_or (position (ends c.args.stop) r) (length r)) (take_rest text from)
 
-pub loop-i-preserved : goal.loop-i-preserved
-loop-i-preserved c =
-    skip_turn c.loop-i.invariant (omega arith) c.if-text-i.false (sym c.class.ensures.value ∙ c.if-class-ne-SPACE.false)
+pub overflow_add-result : goal.overflow_add-result
+overflow_add-result c = omega (arith, skipped_in c.args.stop c.args.text.now c.args.from c.requires.from_in_bounds _ (spaces c))
 
 pub returns : goal.returns
-returns c = skip_end c.loop-i.invariant (omega arith)
+returns c = skipped c.args.stop c.args.text.now c.args.from c.requires.from_in_bounds _ (spaces c)

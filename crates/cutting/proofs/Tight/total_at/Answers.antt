@@ -13,8 +13,8 @@ use Rattle.cutting.proofs.Tight.total_at.Goals as goal
 pub sum-requires-clause-can : goal.sum-requires-clause-can
 sum-requires-clause-can c =
     let tight = c.args.self.now in
-    let ask = may_ask c.map.result.iter tight.leasts.now tight.shares.now (cc) (cc) (cc) tight.roomy.above tight.roomy.few in
-    (search rules, record { at = λ xs t q x u so_far folds next. let asked = ask xs t u x so_far next in search (rules, asked) })
+    let ask = may_ask c.map.result.iter tight.leasts.now tight.shares.now (cc) (cc) (cc) tight.roomy.above in
+    (search rules, record { at = λ xs t q x u so_far folds next. let asked = ask xs t u x so_far next in search (rules, asked, tight.roomy.few) })
 
 pub returns : goal.returns
 unfolding sum

@@ -1,42 +1,48 @@
--- `pointing::PlacedRow::at` meets its contract. The loop's invariant, `Sofar`: what lies ahead of entry i, once it is known whether a printed cell has ended
--- at the column, is what the row has there. Assumes nothing.
+-- `pointing::PlacedRow::at` meets its contract. A turn reads the entry at the next place, which does what the invariant, `Sofar`, says. At the end no entry
+-- is left, for the places do not run out before the entries do. Assumes nothing.
 use mathlib.Core.Path.{sym, ◌∙◌}
+use mathlib.Core.List.{◌∷◌}
 use native.Mathlib.Omega.{arith}
-use Rattle.pointing.proofs.PointLoop.{sofar_start, sofar_stop, sofar_gap, sofar_skip, sofar_cell, sofar_turn}
+use lib.Seq.{slice}
+use Rattle.pointing.specs.Point.{placed, pointed}
+use Rattle.pointing.proofs.Parts.{xs_left, wides_left}
+use Rattle.pointing.proofs.PointLoop.{Sofar, sofar_start, sofar_stop, sofar_gap, sofar_skip, sofar_cell, sofar_turn}
 use Rattle.pointing.proofs.PlacedRow.at.Goals as goal
-use Rattle.pointing.proofs.PlacedRow.at.Goals.{then-ended+else-w-ne0, else-ended+else-covers_column}
+use Rattle.pointing.proofs.PlacedRow.at.Goals.{In-Some}
+
+-- the entry that a turn reads is the first of what is left
+read : (c : In-Some) → Sofar (pointed c.args.self.now.first c.args.column (slice c.args.self.now.first c.args.self.now.end (placed c.args.self.now.x.now c.args.self.now.wide.now)))
+    c.args.self.now.end c.args.column c.loop-i.ended c.in-Some.i (c.in-Some.x.now ∷ xs_left c.next.new.self) (c.in-Some.w.now ∷ wides_left c.next.new.self)
+read c =
+    let s = c.in-Some.ensures.steps in
+    rw (s.0.0, ← s.1.0, ← s.1.1) c.loop-i.invariant
 
 pub loop-i-init : goal.loop-i-init
 loop-i-init c =
-    let a = c.args in
-    sofar_start a.self.now.x.now a.self.now.wide.now a.self.now.first a.self.now.end a.column c.args.self.now.in_slices
+    let a = c.args.self.now in
+    let z = c.zip.ensures in
+    rw (c.into_iter-i-iterator.ensures.into_iter_gives, c.zip-i-items.ensures.first, c.zip-i-items.ensures.second, z.first, c.iter.ensures.rest, z.second.0)
+    (sofar_start a.first a.end c.args.column a.x.now a.wide.now a.in_slices)
 
 pub returns-then-w-ne0 : goal.returns-then-w-ne0
 returns-then-w-ne0 c =
-    let a = c.args in
-    let l = c.loop-i in
-    sofar_gap a.self.now.x.now a.self.now.wide.now a.self.now.first a.self.now.end a.column c.args.self.now.in_slices l.i (omega arith) l.ended l.invariant c.if-ended.true (omega arith)
+    sofar_gap _ (read (goal.at.returns-then-w-ne0 c).In-Some) c.if-ended.true (omega (arith, c.if-w-ne0.true))
 
 pub returns-then-covers_column : goal.returns-then-covers_column
 returns-then-covers_column c =
-    let a = c.args in
-    let l = c.loop-i in
-    sofar_cell a.self.now.x.now a.self.now.wide.now a.self.now.first a.self.now.end a.column c.args.self.now.in_slices l.i (omega arith) l.ended l.invariant c.if-ended.false (sym c.covers_column.ensures ∙ c.if-covers_column.true)
+    sofar_cell _ (read (goal.at.returns-then-covers_column c).In-Some) c.if-ended.false (sym c.covers_column.ensures ∙ c.if-covers_column.true)
+
+pub loop-i-preserved-else-w-ne0 : goal.loop-i-preserved-else-w-ne0
+loop-i-preserved-else-w-ne0 c =
+    rw c.in-Some.ensures.steps.0.1
+    (sofar_skip _ (read (goal.at.loop-i-preserved-else-w-ne0 c).In-Some) c.if-ended.true (omega (arith, c.if-w-ne0.false)))
 
 pub loop-i-preserved : goal.loop-i-preserved
 loop-i-preserved c =
-    let a = c.args in
-    let l = c.loop-i in
-    elim c.if-ended.branch [
-      | then-ended+else-w-ne0 w ↦ rw w.ended-is (sofar_skip a.self.now.x.now a.self.now.wide.now a.self.now.first a.self.now.end a.column c.args.self.now.in_slices l.i (omega arith) l.ended l.invariant w.if-ended.true (omega arith))
-      | else-ended+else-covers_column w ↦
-          rw w.ended-is
-          (sofar_turn a.self.now.x.now a.self.now.wide.now a.self.now.first a.self.now.end a.column c.args.self.now.in_slices l.i (omega arith) l.ended l.invariant w.if-ended.false
-          (sym w.covers_column.ensures ∙ w.if-covers_column.false) _ w.closes_at-ended.ensures)
-    ]
+    rw c.in-Some.ensures.steps.0.1
+    (sofar_turn _ (read (goal.at.loop-i-preserved c).In-Some) c.if-ended.false (sym c.covers_column.ensures ∙ c.if-covers_column.false) _ c.closes_at-ended.ensures)
 
 pub returns : goal.returns
 returns c =
-    let a = c.args in
-    let l = c.loop-i in
-    sofar_stop a.self.now.x.now a.self.now.wide.now a.self.now.first a.self.now.end a.column c.args.self.now.in_slices l.i l.ended l.invariant (omega arith)
+    let z = c.loop-i.invariant in
+    sofar_stop _ _ _ z (grind (arith, c.in-None.ensures.steps, c.fits-self, z.before, z.even))

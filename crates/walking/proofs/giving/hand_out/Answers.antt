@@ -4,11 +4,11 @@ use mathlib.Core.Path.{◌≡◌, refl, sym, ◌∙◌}
 use native.Mathlib.Omega.{arith}
 use lib.ListN.{get_or}
 use lib.Seq.{length-take-le}
-use borrow.Author.Tests.{eqb-true, eqb-false, not-true, not-false}
+use borrow.Author.Tests.{eqb-true, not-false}
 use Rattle.kinds.specs.Kinds.{kind_number, table_kind}
 use Rattle.records.specs.Kept.{no_kept}
 use Rattle.walking.proofs.Merely.{walkable}
-use Rattle.walking.proofs.HandOut.{table_known, grid_room, layout_room, small_here, cells_fit, wides_room, handed, handed_at, handed_other, handed_none}
+use Rattle.walking.proofs.HandOut.{table_known, grid_room, layout_room, small_here, cells_fit, wides_room, handed, handed_at, handed_none}
 use Rattle.walking.proofs.giving.hand_out.Goals as goal
 use Rattle.walking.proofs.giving.hand_out.Goals.{Else-ne}
 

@@ -1,15 +1,24 @@
--- `walking::giving::print_cells` meets its contract. The loop's invariant (`Sofar`): what stands in the slice is what the entries from place k on give.
--- Assumes nothing.
+-- `walking::giving::print_cells` meets its contract. The loop's invariant (`Sofar`): what is passed is written. Assumes nothing.
 use mathlib.Core.Path.{refl}
 use native.Mathlib.Omega.{arith}
-use Rattle.walking.proofs.CellLoop.{start, stop, turn_cell, turn_filler, cell_place}
+use borrow.Author.Tests.{eq-eqb, ne_eqb}
+use Rattle.std.proofs.Common.{rules}
+use Rattle.walking.proofs.CellLoop.{start, pass, stop}
 use Rattle.walking.proofs.giving.print_cells.Goals as goal
 
-pub loop-k-init : goal.loop-k-init
-loop-k-init c = start c.requires
+pub loop-e-init : goal.loop-e-init
+loop-e-init c = search (rules, start c.requires)
 
-pub loop-k-preserved-then-e-ne0 : goal.loop-k-preserved-then-e-ne0
-loop-k-preserved-then-e-ne0 c = turn_cell c.requires c.loop-k.invariant c.loop-k-test.true _ refl c.if-e-ne0.true _ c.printed.ensures _ refl
+pub loop-e-preserved-in-Some-checked_sub : goal.loop-e-preserved-in-Some-checked_sub
+loop-e-preserved-in-Some-checked_sub c =
+    let k = c.in-Some-checked_sub.ensures in
+    let e = c.in-Some.e.now in
+    pass c.loop-e.invariant e c.in-Some.w.now c.in-Some.ensures.steps _ (rw (ne_eqb e.cell 0 (λ z. omega (arith, k.0)), k.1, c.printed.ensures) refl)
 
-pub loop-k-preserved : goal.loop-k-preserved
-loop-k-preserved c = turn_filler c.requires c.loop-k.invariant c.loop-k-test.true _ refl c.if-e-ne0.false
+pub loop-e-preserved : goal.loop-e-preserved
+loop-e-preserved c =
+    let e = c.in-Some.e.now in
+    pass c.loop-e.invariant e c.in-Some.w.now c.in-Some.ensures.steps _ (rw (eq-eqb e.cell 0 (omega (arith, c.in_default.ensures))) refl)
+
+pub returns : goal.returns
+returns c = stop c.loop-e.invariant (grind (arith, c.in-None.ensures.steps, c.loop-e.invariant.as_many))

@@ -1,1 +1,0 @@
--- `opening::measuring::enough` meets its contract. Assumes nothing.
