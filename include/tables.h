@@ -34,6 +34,8 @@
 #include <stddef.h>
 #include <stdint.h>
 
+#define TABLES_VERSION "0.8.0"
+
 #define TABLES_MAX_BYTES 65536    /* bytes of a sheet, and of a text that is measured */
 /* lines of a sheet after its heading: least places of a buffer with one for each line or row */
 #define TABLES_MAX_LINES 4096

@@ -2,8 +2,8 @@
 """What must be believed: the definitions that the contracts of the calls reach.
 
 trust.py          writes docs/TRUST.md
-trust.py --check  fails where docs/TRUST.md is not what it would write, and where a call reaches a
-                  definition in specs/inner/
+trust.py --check  fails where docs/TRUST.md is not what it would write, where a call or a statement
+                  reaches a definition in specs/inner/, and where none reaches a file of specs/
 
 Names are followed by their text, through the `use` lines of each file. What std states is left out,
 and so are the files of computed cases.
@@ -22,12 +22,12 @@ CALLS = [
     ("estimates", "call_estimates", "lib.rt"),
     ("grid", "call_grid", "lib.rt"),
     ("layout", "call_layout", "lib.rt"),
-    ("missing", "missing", "lib.rt"),
-    ("at", "preview", "lib.rt"),
-    ("within", "preview", "lib.rt"),
-    ("joining", "preview", "lib.rt"),
-    ("walk", "walks", "lib.rt"),
-    ("nested", "nested", "lib.rt"),
+    ("missing", "call_missing", "lib.rt"),
+    ("at", "call_preview", "lib.rt"),
+    ("within", "call_preview", "lib.rt"),
+    ("joining", "call_preview", "lib.rt"),
+    ("walk", "call_walk", "lib.rt"),
+    ("nested", "call_nested", "lib.rt"),
 ]
 
 USE = re.compile(r"^(?:ghost )?(?:pub )?use Rattle\.(\w+)\.specs\.([\w.]+?)(?:\.\{([^}]*)\})?(?: as (\w+))?;?\s*$", re.M)
@@ -70,25 +70,28 @@ def bring(text, brought, modules):
 
 # what is stated beyond the contracts, and proved: the files of which every definition counts
 STATED = [
-    ("what holds of the resolved rows of every table", "cells/specs/Facts"),
+    ("which texts are expressions, and what they are worth", "expression/specs/Grammar"),
+    ("an expression as a tree, with its value", "expression/specs/Tree"),
+    ("what holds of the resolved rows of every table", "resolved_rows/specs/Facts"),
     ("cutting by one level gives the same widths", "cutting/specs/Level"),
     ("where the grid is the one of before spans ended with their body", "grid/specs/Before"),
-    ("why a column is 0 wide", "placing/specs/Why"),
-    ("which cells can go missing", "teaching/specs/Missing"),
-    ("what holds of every walk", "descent/specs/Descent"),
-    ("pointing, without a search", "pointing/specs/Exact"),
-    ("the calls that point, without a search", "preview/specs/Exact"),
+    ("why a column is 0 wide", "placement/specs/Why"),
+    ("which cells can go missing", "missing_theorems/specs/Missing"),
+    ("what holds of every walk", "walk_theorems/specs/Descent"),
+    ("pointing, without a search", "hit_test/specs/Exact"),
+    ("the calls that point, without a search", "call_preview/specs/Exact"),
     ("the settings of a program's input", "settings/specs/Settings"),
-    ("what C is handed", "crossing/specs/Answers"),
+    ("what C is handed", "c_results/specs/Answers"),
 ]
 
 # computed: they hold of single sheets, and nothing stands on them
 CASES = re.compile(r"/(Cases|Lib|inner)\.antt$|^crates/(cases|fields/specs/Heading|kinds/specs/Names)")
 
 # the crates in the order of document 01, then the calls; what is not named comes last
-ORDER = """lists text kinds fields sums calc line records sheet opening cells columns rows positions edges
-grid estimates cutting widths placing table sheet_figures answers arguments call_estimates call_grid
-call_layout causes missing spots pointing preview passing pacing walks nested settings crossing""".split()
+ORDER = """common text kinds fields expression evaluator line records sheet sheet_load resolved_rows columns
+grid_row grid_positions column_edges grid estimates cutting widths placement table_layout sheet_figures
+answers arguments call_estimates call_grid call_layout causes call_missing row_lookup hit_test
+call_preview available_width sheet_walk call_walk call_nested settings c_results""".split()
 
 files = {}
 
@@ -190,7 +193,7 @@ def row_of(path, names, calls):
     return "| %s | %s | %d | %s |" % (short(path), n, code_lines(path, names), who)
 
 
-def page(calls, stated):
+def page(calls):
     everything = set().union(*calls.values())
     lines = [
         "# What must be believed",
@@ -198,11 +201,12 @@ def page(calls, stated):
         "For those who want to know what is proved without reading a proof: these definitions say it, with",
         "the structs and enums of `src/` that they name. A call's contract stands at its function (`pub fn`),",
         "in the crate that the first table names; what it cites stands in `specs/`. `specs/inner/` holds what",
-        "only code and proofs need: no call reaches it. What the calls cite of Rattle's own library is left",
-        "out.",
+        "only code and proofs need. What the calls cite of Rattle's own library is left out.",
         "",
-        "This page is written by `python3 tools/trust.py`, and the gate fails where it is not what that",
-        "writes. Names are followed by their text; the fields of a record count as definitions.",
+        "This page is written by `python3 tools/trust.py`. The gate fails where it is not what that writes,",
+        "where a call or a statement below reaches `specs/inner/`, and where neither reaches a file of",
+        "`specs/`, computed cases aside. Names are followed by their text; the fields of a record count as",
+        "definitions.",
         "",
         "## The calls",
         "",
@@ -236,10 +240,6 @@ def page(calls, stated):
     ]
     for what, name in STATED:
         lines.append("| %s | %s | %d |" % (what, name, len(load("crates/%s.antt" % name).blocks)))
-    got = {p for p, _ in everything | stated}
-    lines += ["", "No call and no statement reaches these files, which serve code and proofs as those of inner/ do:", ""]
-    for text in fold("- " + ", ".join(short(p) for p in all_specs() if p not in got) + "."):
-        lines.append(text)
     return "\n".join(lines) + "\n"
 
 
@@ -261,11 +261,14 @@ def main():
         path = "crates/%s.antt" % name
         for n in list(load(path).blocks):
             follow(path, n, stated)
-    text = page(calls, stated)
+    text = page(calls)
     if sys.argv[1:] != ["--check"]:
         open(PAGE, "w").write(text)
         return 0
-    bad = ["%s `%s` is reached by a call" % (short(p), n) for p, n in sorted(set().union(*calls.values())) if "/inner/" in p]
+    got = set().union(stated, *calls.values())
+    bad = ["%s `%s` is reached by a call or a statement" % (short(p), n) for p, n in sorted(got) if "/inner/" in p]
+    files_got = {p for p, _ in got}
+    bad += ["%s is reached by no call and no statement" % short(p) for p in all_specs() if p not in files_got]
     if not os.path.exists(PAGE) or open(PAGE).read() != text:
         bad.append("docs/TRUST.md is not what tools/trust.py writes")
     for line in bad:

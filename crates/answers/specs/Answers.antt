@@ -1,4 +1,4 @@
--- The answers by their figures. These are definitions; nothing is assumed.
+-- The answers by their figures.
 use Rattle.std.specs.Prelude.{ℕ}
 use Rattle.answers.specs.declared.Way.{Way}
 use Rattle.answers.specs.declared.Grid.{Grid}

@@ -1,4 +1,4 @@
--- The number of each case of an answer that has several. These are definitions; nothing is assumed.
+-- The number of each case of an answer that has several.
 use Rattle.std.specs.Prelude.{ℕ}
 use Rattle.answers.specs.declared.Way.{Way}
 use Rattle.answers.specs.declared.Way.TheVariants.{Sideways, Down}

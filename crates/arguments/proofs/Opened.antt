@@ -1,10 +1,10 @@
--- What a call finds that opens what it was asked for: the refusal, or what is found with the settings. Assumes nothing.
+-- What a call finds that opens what it was asked for: the refusal, or what is found with the settings.
 use mathlib.Core.Path.{◌≡◌, refl}
 use Prim.Native.Nat.{ℕ}
 use Rattle.std.specs.Prelude.{Result, Ok, Err, MatchResult}
-use Rattle.lists.specs.declared.Refusal.{Refusal}
+use Rattle.common.specs.declared.Refusal.{Refusal}
 use Rattle.arguments.specs.declared.Settings.{Settings}
-use Rattle.arguments.specs.Asked.{verdict_in, Asks}
+use Rattle.arguments.specs.inner.Asked.{verdict_in, Asks}
 
 -- `Found` is what holds of the verdict on the arguments and of the answer, `Laid` what holds of the answer where settings are given
 pub opened : {A : Type 0} (Found : Result (Unit {0}) Refusal → Result A Refusal → Type 0) (Laid : (wrap raw width overflow : ℕ) → Type 0)

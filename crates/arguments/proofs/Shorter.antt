@@ -1,4 +1,4 @@
--- Buffers of which none is shorter than it must be. Assumes nothing.
+-- Buffers of which none is shorter than it must be.
 use mathlib.Core.Path.{◌≡◌, refl, sym, ◌∙◌}
 use mathlib.Core.Bool.{Bool, true, false, ◌||◌}
 use mathlib.Core.List.{[], ◌∷◌}
@@ -6,7 +6,7 @@ use Prim.Native.Nat.{ℕ, ◌≤◌}
 use native.Mathlib.Omega.{arith}
 use lib.Dec.{ltb}
 use borrow.Author.Tests.{ltb-false}
-use Rattle.lists.specs.Limits.{max_lines, max_entries}
+use Rattle.common.specs.Limits.{max_lines, max_entries}
 use Rattle.arguments.specs.Arguments.{any_shorter}
 
 or_false : (b : Bool) → (b || false) ≡ b

@@ -1,8 +1,8 @@
--- What the arguments of a call are refused for, before its sheet is looked at: 9, then 11. These are definitions; nothing is assumed.
-use Rattle.std.specs.Prelude.{Bool, false, ◌||◌, List, [], ◌∷◌, ℕ, ltb}
-use Rattle.lists.specs.Limits.{max_wrap, max_width, max_lines, max_entries}
-use Rattle.lists.specs.declared.Reason.TheVariants.{Setting, ShortBuffer}
-use Rattle.lists.specs.Refusals.{Check, check}
+-- What the arguments of a call are refused for, before its sheet is looked at: 16 of a list of widths, then 9, then 11.
+use Rattle.std.specs.Prelude.{Bool, false, ◌||◌, List, [], ◌∷◌, ℕ, ltb, eqb, length}
+use Rattle.common.specs.Limits.{max_wrap, max_width, max_widths, max_lines, max_entries}
+use Rattle.common.specs.declared.Reason.TheVariants.{Setting, ShortBuffer, WidthList}
+use Rattle.common.specs.Refusals.{Check, check}
 
 -- 9: a setting out of range
 abbrev pub wrap_check : ℕ → Check
@@ -48,3 +48,19 @@ walk_arguments wrap raw width overflow lines = walk_settings wrap raw width over
 abbrev pub nested_arguments : ℕ → ℕ → ℕ → ℕ → List ℕ → List ℕ → List Check
 nested_arguments wrap raw width overflow columns entries =
     walk_settings wrap raw width overflow ∷ check (any_shorter max_lines columns || any_shorter max_entries entries) ShortBuffer 0 ∷ []
+
+-- 16: an empty list of widths, or one of more than 1,024
+abbrev pub list_check : List ℕ → Check
+list_check widths = check (eqb (length widths) 0 || ltb max_widths (length widths)) WidthList 0
+
+unfoldable pub any_above : ℕ → List ℕ → Bool
+any_above n [] = false
+any_above n (w ∷ ws) = ltb n w || any_above n ws
+
+-- a call with a list of widths: 16 comes before 9, and each buffer has a place for each width
+abbrev pub window_arguments : ℕ → ℕ → List ℕ → List ℕ → List Check
+window_arguments wrap raw widths buffers =
+    list_check widths
+    ∷ check (ltb max_wrap wrap || ltb 1 raw || any_above max_width widths) Setting 0
+    ∷ check (any_shorter (length widths) buffers) ShortBuffer 0
+    ∷ []

@@ -1,3 +1,3 @@
 -- What the arguments of a call are refused for, before its sheet is looked at.
 pub mod Arguments
-pub mod Asked
+pub mod inner

@@ -1,5 +1,5 @@
--- What is found in the sheet is what the calls answer and leave. Assumes nothing.
-use Rattle.lists.specs.declared.Refusal.{Refusal}
+-- What is found in the sheet is what the calls answer and leave.
+use Rattle.common.specs.declared.Refusal.{Refusal}
 use Rattle.std.specs.Prelude.{Err, Ok, Result, None}
 use mathlib.Core.Path.{◌≡◌, refl, sym, ◌∙◌}
 use mathlib.Core.Bool.{true, false, false≢true}
@@ -7,16 +7,16 @@ use mathlib.Core.List.{List, [], ◌∷◌}
 use Prim.Native.Nat.{ℕ, ◌≤◌}
 use native.Mathlib.Omega.{arith}
 use lib.ListN.{length, take}
-use Rattle.lists.specs.Lists.{padded}
-use Rattle.lists.specs.Limits.{max_lines}
-use Rattle.lists.specs.Refusals.{Check, first_answer, verdict_of, passes, if_passes}
+use Rattle.common.specs.Lists.{padded}
+use Rattle.common.specs.Limits.{max_lines}
+use Rattle.common.specs.Refusals.{Check, first_answer, verdict_of, passes, if_passes}
 use Rattle.sheet.specs.Sheet.{sheet_lines}
 use Rattle.sheet.proofs.First.{first_told}
-use Rattle.opening.specs.Opening.{after_reading, open_checks, opened_of}
+use Rattle.sheet_load.specs.Opening.{after_reading, open_checks, opened_of}
 use Rattle.sheet_figures.specs.Calls.{check_checks}
 use Rattle.sheet_figures.specs.inner.Early.{early}
 use Rattle.sheet_figures.specs.inner.Opened.{lines_in}
-use Rattle.call_estimates.specs.inner.Found.{LinesRoom, EstimatesFound}
+use Rattle.call_estimates.specs.inner.Found.{LinesCapacity, EstimatesFound}
 use Rattle.arguments.specs.Arguments.{estimates_arguments}
 use Rattle.call_estimates.specs.Estimates.{estimated_of, EstimatesAnswer}
 use Rattle.arguments.proofs.Shorter.{three_fit}
@@ -55,21 +55,21 @@ fit : (wrap : ℕ) (v : Result (Unit {0}) Refusal) (a b c : ℕ) → v ≡ verdi
 fit wrap v a b c judged z = three_fit max_lines a b c (none_nines _ _ (sym judged ∙ z)).1
 
 pub figures_fit : (wrap : ℕ) (v : Result (Unit {0}) Refusal) (size least prefix : List ℕ)
-    → v ≡ verdict_of (estimates_arguments wrap (length size ∷ length least ∷ length prefix ∷ [])) → v ≡ (Ok tt) → LinesRoom size least prefix
+    → v ≡ verdict_of (estimates_arguments wrap (length size ∷ length least ∷ length prefix ∷ [])) → v ≡ (Ok tt) → LinesCapacity size least prefix
 figures_fit wrap v size least prefix judged z =
     let (a, b, c) = fit wrap v (length size) (length least) (length prefix) judged z in
-    record { size_room = a; least_room = b; prefix_room = c }
+    record { size_capacity = a; least_capacity = b; prefix_capacity = c }
 
 module _ {s : List ℕ} {wrap : ℕ} {v : Result (Unit {0}) Refusal} {a b c : ℕ} {r : Result ℕ Refusal} {size least prefix : List ℕ}
     (judged : v ≡ verdict_of (estimates_arguments wrap (a ∷ b ∷ c ∷ [])))
     (found : EstimatesFound (early v ∷ open_checks None s) s wrap r size least prefix) where
   -- and so for the figures
-  pub rooms : (lines_in r ≤ a) × (lines_in r ≤ b) × (lines_in r ≤ c)
+  pub capacities : (lines_in r ≤ a) × (lines_in r ≤ b) × (lines_in r ≤ c)
   unfolding lines_in
-  rooms =
+  capacities =
       let f = fit wrap v a b c judged in
-      let g : (room : ℕ) → (v ≡ (Ok tt) → max_lines ≤ room) → lines_in r ≤ room =
-      λ room h. fits Err _ lines_in (λ why. refl) v (open_checks None s) r max_lines room found.answer found.few h in
+      let g : (capacity : ℕ) → (v ≡ (Ok tt) → max_lines ≤ capacity) → lines_in r ≤ capacity =
+      λ capacity h. fits Err _ lines_in (λ why. refl) v (open_checks None s) r max_lines capacity found.answer found.few h in
       (g a (λ z. (f z).0), g b (λ z. (f z).1), g c (λ z. (f z).2))
 
 module _ {s : List ℕ} {wrap : ℕ} {v : Result (Unit {0}) Refusal} {size₀ least₀ prefix₀ : List ℕ} {r : Result ℕ Refusal} {size least prefix : List ℕ}

@@ -1,14 +1,13 @@
 -- The call `estimates`: its answer, and what stands in the lent buffers afterwards, refused calls included: the figures, then zeros.
--- These are definitions; nothing is assumed.
-use Rattle.lists.specs.declared.Refusal.{Refusal}
+use Rattle.common.specs.declared.Refusal.{Refusal}
 use Rattle.std.specs.Prelude.{◌≡◌, true, List, [], ◌∷◌, ◌++◌, map, ℕ, length, Err, Ok, Result}
-use Rattle.lists.specs.Refusals.{Check, first_answer, passes}
+use Rattle.common.specs.Refusals.{Check, first_answer, passes}
 use Rattle.arguments.specs.Arguments.{estimates_arguments}
 use Rattle.text.specs.declared.Estimate.{Estimate}
 use Rattle.sheet.specs.Sheet.{sheet_lines}
 use Rattle.estimates.specs.Estimates.{estimates}
 use Rattle.estimates.specs.Meets.{AllBounded}
-use Rattle.opening.specs.Opening.{kept_lines}
+use Rattle.sheet_load.specs.Opening.{nodes_of}
 use Rattle.sheet_figures.specs.Figures.{line_size, line_least, line_prefix}
 use Rattle.sheet_figures.specs.Calls.{check_checks, leaves}
 
@@ -32,7 +31,7 @@ pub record EstimatesLeft (cs : List Check) (figures : List Estimate) (size₀ le
 
 abbrev pub EstimatesBuffers : (s : List ℕ) (wrap : ℕ) (size₀ least₀ prefix₀ size least prefix : List ℕ) → Type 0
 EstimatesBuffers s wrap size₀ least₀ prefix₀ size least prefix =
-    EstimatesLeft (estimates_checks s wrap (for_lines size₀ least₀ prefix₀)) (estimates wrap (kept_lines s)) size₀ least₀ prefix₀ size least prefix
+    EstimatesLeft (estimates_checks s wrap (for_lines size₀ least₀ prefix₀)) (estimates wrap (nodes_of s)) size₀ least₀ prefix₀ size least prefix
 
 pub record EstimatesAnswer (s : List ℕ) (wrap : ℕ) (size₀ least₀ prefix₀ : List ℕ) (r : Result ℕ Refusal) (size least prefix : List ℕ) : Type 0 where
   pub answer : r ≡ estimated_of s wrap (for_lines size₀ least₀ prefix₀)

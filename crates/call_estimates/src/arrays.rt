@@ -1,33 +1,33 @@
 // The arrays in which a sheet is read and measured, of four sizes. They are cleared with each call, and for a short sheet short ones do.
 ghost use Rattle.std.specs.Prelude.{◌≡◌, ◌≤◌, None, Result};
-ghost use Rattle.lists.specs.Limits.{max_entries, max_lines};
-ghost use Rattle.sheet.specs.Steps.{room_for};
-ghost use Rattle.opening.specs.Opening.{open_checks, opened_of};
-ghost use Rattle.opening.specs.inner.Measures.{Decided, Tried};
-ghost use Rattle.call_estimates.specs.inner.Found.{LinesRoom, FiguresFit, FiguresWritten, EstimatesFound};
+ghost use Rattle.common.specs.Limits.{max_entries, max_lines};
+ghost use Rattle.sheet.specs.inner.Steps.{line_bound};
+ghost use Rattle.sheet_load.specs.Opening.{open_checks, opened_of};
+ghost use Rattle.sheet_load.specs.inner.Measures.{Decided, Tried};
+ghost use Rattle.call_estimates.specs.inner.Found.{LinesCapacity, WriteFiguresPre, WriteFiguresPost, EstimatesFound};
 
-use lists::{MAX_ENTRIES, MAX_LINES, Refusal};
-use opening::{FEW_LINES, MANY_LINES, SMALL_LINES};
+use common::{MAX_ENTRIES, MAX_LINES, Refusal};
+use sheet_load::{FEW_LINES, MANY_LINES, SMALL_LINES};
 use text::Estimate;
 
 // What reading a sheet and checking its tables answers, in arrays of L lines. It is never taken into its caller's
 // frame: so a small sheet does not pay for the room of a large one.
 #[inline(never)]
 fn check_in<const L: usize>(sheet: &[u8]) -> Result<usize, Refusal>
-    requires room { room_for sheet.now ≤ L }
+    requires capacity { line_bound sheet.now ≤ L }
     requires sizes { L ≤ max_lines }
     ensures { result ≡ opened_of None sheet.now }
 {
-    let mut lines = [records::NO_LINE; L];
+    let mut lines = [records::NO_NODE; L];
     let mut scratch = [0u32; L];
-    opening::open_sheet(sheet, None, &mut lines, &mut scratch)
+    sheet_load::open_sheet(sheet, None, &mut lines, &mut scratch)
 }
 
 // The same in the shortest arrays that do. Not by `estimates_short`: no second length is asked for here.
 pub fn check_within(sheet: &[u8]) -> Result<usize, Refusal>
     ensures { result ≡ opened_of None sheet.now }
 {
-    let lines = opening::most_lines(sheet);
+    let lines = sheet_load::most_lines(sheet);
     if lines <= FEW_LINES {
         check_in::<FEW_LINES>(sheet)
     } else if lines <= SMALL_LINES {
@@ -41,12 +41,12 @@ pub fn check_within(sheet: &[u8]) -> Result<usize, Refusal>
 
 // The three figures of each line, in the front of its buffer.
 fn write_figures(figures: &[Estimate], size: &mut [u32], least: &mut [u32], prefix: &mut [u32])
-    requires { FiguresFit figures.now size.old least.old prefix.old }
-    ensures { FiguresWritten figures.now size.new least.new prefix.new }
+    requires { WriteFiguresPre figures.now size.old least.old prefix.old }
+    ensures { WriteFiguresPost figures.now size.new least.new prefix.new }
 {
-    lists::write_front(figures, |e| e.size, size);
-    lists::write_front(figures, |e| e.least, least);
-    lists::write_front(figures, |e| e.prefix, prefix);
+    common::write_front(figures, |e| e.size, size);
+    common::write_front(figures, |e| e.least, least);
+    common::write_front(figures, |e| e.prefix, prefix);
 }
 
 // The estimates of a sheet, in arrays of L lines, estimates and rows and E entries; none, if they do not suffice for the sheet's
@@ -59,19 +59,19 @@ fn estimates_in<const L: usize, const E: usize>(
     least: &mut [u32],
     prefix: &mut [u32],
 ) -> Result<Option<usize>, Refusal>
-    requires room { room_for sheet.now ≤ L }
+    requires capacity { line_bound sheet.now ≤ L }
     requires sizes { (L ≤ max_lines) × (E ≤ max_entries) }
-    requires lines_room { LinesRoom size.old least.old prefix.old }
+    requires lines_capacity { LinesCapacity size.old least.old prefix.old }
     ensures tried { Tried (λ r. EstimatesFound (open_checks None sheet.now) sheet.now wrap r size.new least.new prefix.new) result }
     ensures any { max_entries ≤ E → max_lines ≤ L → Decided result }
 {
-    let mut lines = [records::NO_LINE; L];
+    let mut lines = [records::NO_NODE; L];
     let mut figures = [estimates::NONE; L];
     let mut entries = [records::NO_ENTRY; E];
     let mut rows = [records::NO_ROW; L];
-    let n = opening::open_sheet(sheet, None, &mut lines, size)?;
+    let n = sheet_load::open_sheet(sheet, None, &mut lines, size)?;
     let lines = &lines[..n];
-    if !opening::measuring::enough(lines, E, L) {
+    if !sheet_load::measuring::enough(lines, E, L) {
         return Ok(None);
     }
     estimates::measure(wrap, lines, &mut figures, size, &mut entries, &mut rows);
@@ -88,10 +88,10 @@ fn estimates_short(
     least: &mut [u32],
     prefix: &mut [u32],
 ) -> Result<Option<usize>, Refusal>
-    requires { LinesRoom size.old least.old prefix.old }
+    requires { LinesCapacity size.old least.old prefix.old }
     ensures { Tried (λ r. EstimatesFound (open_checks None sheet.now) sheet.now wrap r size.new least.new prefix.new) result }
 {
-    let lines = opening::most_lines(sheet);
+    let lines = sheet_load::most_lines(sheet);
     if lines <= FEW_LINES {
         estimates_in::<FEW_LINES, FEW_LINES>(sheet, wrap, size, least, prefix)
     } else if lines <= SMALL_LINES {
@@ -112,7 +112,7 @@ pub fn estimates_within(
     least: &mut [u32],
     prefix: &mut [u32],
 ) -> Result<usize, Refusal>
-    requires { LinesRoom size.old least.old prefix.old }
+    requires { LinesCapacity size.old least.old prefix.old }
     ensures { EstimatesFound (open_checks None sheet.now) sheet.now wrap result size.new least.new prefix.new }
 {
     let tried = estimates_short(sheet, wrap, size, least, prefix)?;

@@ -1,20 +1,20 @@
--- `grid`: what is found in the sheet is what the call answers and leaves. Assumes nothing.
+-- `grid`: what is found in the sheet is what the call answers and leaves.
 use Rattle.answers.specs.Answers.{grid_with}
 use Rattle.answers.specs.declared.Grid.{Grid}
-use Rattle.lists.specs.declared.Refusal.{Refusal}
+use Rattle.common.specs.declared.Refusal.{Refusal}
 use Rattle.std.specs.Prelude.{Err, Ok, Result, Some}
 use mathlib.Core.Path.{◌≡◌, refl, sym, ◌∙◌}
 use mathlib.Core.List.{List, [], ◌∷◌}
 use Prim.Native.Nat.{ℕ, ◌≤◌}
 use native.Mathlib.Omega.{arith}
 use lib.ListN.{length, take}
-use Rattle.lists.specs.Lists.{padded}
-use Rattle.lists.specs.Limits.{max_lines, max_entries}
-use Rattle.lists.specs.Refusals.{Check, first_answer, verdict_of, if_passes}
+use Rattle.common.specs.Lists.{padded}
+use Rattle.common.specs.Limits.{max_lines, max_entries}
+use Rattle.common.specs.Refusals.{Check, first_answer, verdict_of, if_passes}
 use Rattle.grid.specs.Grid.{entries_of}
-use Rattle.opening.specs.Opening.{after_reading, open_checks}
+use Rattle.sheet_load.specs.Opening.{after_reading, open_checks}
 use Rattle.sheet_figures.specs.Figures.{rows_at, columns_at}
-use Rattle.call_grid.specs.inner.Found.{entries_in, rows_in, GridRoom, GridFound}
+use Rattle.call_grid.specs.inner.Found.{entries_in, rows_in, GridCapacity, GridFound}
 use Rattle.arguments.specs.Arguments.{any_shorter, grid_arguments}
 use Rattle.call_grid.specs.Grid.{grid_checks, gridded_of, GridAnswer}
 use Rattle.sheet_figures.specs.inner.Early.{early}
@@ -67,10 +67,10 @@ fit v a b c d e judged z =
 
 pub grid_fit : (v : Result (Unit {0}) Refusal) (cell first' span row end : List ℕ)
     → v ≡ verdict_of (grid_arguments (length cell ∷ length first' ∷ length span ∷ []) (length row ∷ length end ∷ []))
-    → v ≡ (Ok tt) → GridRoom cell first' span row end
+    → v ≡ (Ok tt) → GridCapacity cell first' span row end
 grid_fit v cell first' span row end judged z =
     let (a, b) = fit v (length cell) (length first') (length span) (length row) (length end) judged z in
-    record { cell_room = a.0; first_room = a.1; span_room = a.2; row_room = b.0; end_room = b.1 }
+    record { cell_capacity = a.0; first_capacity = a.1; span_capacity = a.2; row_capacity = b.0; end_capacity = b.1 }
 
 module _ {s : List ℕ} {line : ℕ} {v : Result (Unit {0}) Refusal} {a b c d e : ℕ} {r : Result Grid Refusal} {cell first' span row end : List ℕ}
     (judged : v ≡ verdict_of (grid_arguments (a ∷ b ∷ c ∷ []) (d ∷ e ∷ [])))
@@ -80,10 +80,10 @@ module _ {s : List ℕ} {line : ℕ} {v : Result (Unit {0}) Refusal} {a b c d e 
   unfolding entries_in rows_in
   grid_rooms =
       let h = fit v a b c d e judged in
-      let g : (room : ℕ) → (v ≡ (Ok tt) → max_entries ≤ room) → entries_in r ≤ room =
-      λ room. fits Err _ entries_in (λ why. refl) v (open_checks (Some line) s) r max_entries room found.answer found.few_entries in
-      let f : (room : ℕ) → (v ≡ (Ok tt) → max_lines ≤ room) → rows_in r ≤ room =
-      λ room. fits Err _ rows_in (λ why. refl) v (open_checks (Some line) s) r max_lines room found.answer found.few_rows in
+      let g : (capacity : ℕ) → (v ≡ (Ok tt) → max_entries ≤ capacity) → entries_in r ≤ capacity =
+      λ capacity. fits Err _ entries_in (λ why. refl) v (open_checks (Some line) s) r max_entries capacity found.answer found.few_entries in
+      let f : (capacity : ℕ) → (v ≡ (Ok tt) → max_lines ≤ capacity) → rows_in r ≤ capacity =
+      λ capacity. fits Err _ rows_in (λ why. refl) v (open_checks (Some line) s) r max_lines capacity found.answer found.few_rows in
       ((g a (λ z. (h z).0.0), g b (λ z. (h z).0.1), g c (λ z. (h z).0.2)), (f d (λ z. (h z).1.0), f e (λ z. (h z).1.1)))
 
 module _ {s : List ℕ} {line : ℕ} {v : Result (Unit {0}) Refusal} {cell₀ first₀ span₀ row₀ end₀ : List ℕ} {r : Result Grid Refusal} {cell first' span row end : List ℕ}

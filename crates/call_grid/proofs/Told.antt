@@ -1,21 +1,21 @@
--- The records of a table's grid: there are no more of them than 32 bits hold, and their figures are the grid's. Assumes nothing.
+-- The records of a table's grid: there are no more of them than 32 bits hold, and their figures are the grid's.
 use mathlib.Core.Path.{◌≡◌, refl, ap, ◌∙◌}
 use mathlib.Core.List.{List, [], ◌∷◌, map}
 use Prim.Native.Nat.{ℕ, ◌≤◌}
 use native.Mathlib.Omega.{arith}
 use lib.ListN.{length, length-map}
-use Rattle.lists.specs.Limits.{max_entries, max_lines, max_position}
+use Rattle.common.specs.Limits.{max_entries, max_lines, max_position}
 use Rattle.records.specs.declared.Entry.{Entry}
 use Rattle.records.specs.declared.RowEnd.{RowEnd}
-use Rattle.cells.specs.Cells as cells
+use Rattle.resolved_rows.specs.Cells as cells
 use Rattle.grid.specs.Grid.{shown_line, grid_of, entries_of, row_ends, first_of, span_of, row_line}
 use Rattle.grid.proofs.GridFacts.{grid_rows, grid_entries, grid_columns}
 use Rattle.grid.specs.Judging.{shown}
-use Rattle.gridding.specs.Cut.{GridRecords}
-use Rattle.gridding.proofs.RowRecords.{ended_length, ended_lines, ended_ends}
+use Rattle.grid_build.specs.inner.Cut.{GridRecords}
+use Rattle.grid_build.proofs.RowRecords.{ended_length, ended_lines, ended_ends}
 use Rattle.grid.specs.Facts.{Sound}
-use Rattle.records.specs.Figures as figures
-use Rattle.records.specs.Figures.{entry_cell, entry_first, entry_span, row_end}
+use Rattle.records.specs.inner.Figures as figures
+use Rattle.records.specs.inner.Figures.{entry_cell, entry_first, entry_span, row_end}
 
 map_as : {A B : Type 0} (f : A → ℕ) (g : B → ℕ) (h : B → A) → ((b : B) → f (h b) ≡ g b) → (bs : List B) → map f (map h bs) ≡ map g bs
 map_as f g h e [] = refl

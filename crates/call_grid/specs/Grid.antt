@@ -1,10 +1,9 @@
 -- The call `grid`: its answer, and what stands in the lent buffers afterwards, refused calls included: the figures, then zeros.
--- These are definitions; nothing is assumed.
 use Rattle.answers.specs.Answers.{grid_with}
 use Rattle.answers.specs.declared.Grid.{Grid}
-use Rattle.lists.specs.declared.Refusal.{Refusal}
+use Rattle.common.specs.declared.Refusal.{Refusal}
 use Rattle.std.specs.Prelude.{◌≡◌, List, [], ◌∷◌, ◌++◌, map, ℕ, length, Err, Result, Ok}
-use Rattle.lists.specs.Refusals.{Check, first_answer}
+use Rattle.common.specs.Refusals.{Check, first_answer}
 use Rattle.arguments.specs.Arguments.{grid_arguments}
 use Rattle.grid.specs.Grid.{GridRow, shown_line, entries_of, row_ends, first_of, span_of, row_line}
 use Rattle.sheet_figures.specs.Figures.{rows_at, columns_at}

@@ -1,15 +1,15 @@
 // The arrays in which a sheet is read and a grid made, of four sizes. They are cleared with each call, and for a short sheet short ones do.
 ghost use Rattle.std.specs.Prelude.{◌≤◌, Some, Result};
-ghost use Rattle.lists.specs.Limits.{max_entries, max_lines};
-ghost use Rattle.sheet.specs.Steps.{room_for};
-ghost use Rattle.opening.specs.Opening.{open_checks};
-ghost use Rattle.opening.specs.inner.Measures.{Decided, Tried};
-ghost use Rattle.call_grid.specs.inner.Found.{GridRoom, GridFound};
+ghost use Rattle.common.specs.Limits.{max_entries, max_lines};
+ghost use Rattle.sheet.specs.inner.Steps.{line_bound};
+ghost use Rattle.sheet_load.specs.Opening.{open_checks};
+ghost use Rattle.sheet_load.specs.inner.Measures.{Decided, Tried};
+ghost use Rattle.call_grid.specs.inner.Found.{GridCapacity, GridFound};
 
 use super::made::{answer_of, write_grid};
 use answers::Grid;
-use lists::{MAX_ENTRIES, MAX_LINES, Refusal};
-use opening::{FEW_LINES, MANY_LINES, SMALL_LINES};
+use common::{MAX_ENTRIES, MAX_LINES, Refusal};
+use sheet_load::{FEW_LINES, MANY_LINES, SMALL_LINES};
 
 // The grid of the table in a line of a sheet, in arrays of L lines and rows and E entries; none, if they do not suffice for the sheet's tables. `row` is scratch
 // until it is written. It is never taken into its caller's frame: so a small sheet does not pay for the room of a large one.
@@ -23,19 +23,19 @@ fn grid_in<const L: usize, const E: usize>(
     row: &mut [u32],
     row_end: &mut [u32],
 ) -> Result<Option<Grid>, Refusal>
-    requires lines_room { room_for sheet.now ≤ L }
+    requires lines_capacity { line_bound sheet.now ≤ L }
     requires sizes { (L ≤ max_lines) × (E ≤ max_entries) }
-    requires grid_room { GridRoom cell.old first.old span.old row.old row_end.old }
+    requires grid_capacity { GridCapacity cell.old first.old span.old row.old row_end.old }
     ensures tried { Tried (λ r. GridFound (open_checks (Some line) sheet.now) sheet.now line r
         cell.new first.new span.new row.new row_end.new) result }
     ensures any { max_entries ≤ E → max_lines ≤ L → Decided result }
 {
-    let mut lines = [records::NO_LINE; L];
+    let mut lines = [records::NO_NODE; L];
     let mut entries = [records::NO_ENTRY; E];
     let mut rows = [records::NO_ROW; L];
-    let n = opening::open_sheet(sheet, Some(line), &mut lines, row)?;
+    let n = sheet_load::open_sheet(sheet, Some(line), &mut lines, row)?;
     let lines = &lines[..n];
-    if !opening::measuring::enough(lines, E, L) {
+    if !sheet_load::measuring::enough(lines, E, L) {
         return Ok(None);
     }
     let at = (line - 1) as usize;
@@ -56,11 +56,11 @@ fn grid_short(
     row: &mut [u32],
     row_end: &mut [u32],
 ) -> Result<Option<Grid>, Refusal>
-    requires { GridRoom cell.old first.old span.old row.old row_end.old }
+    requires { GridCapacity cell.old first.old span.old row.old row_end.old }
     ensures { Tried (λ r. GridFound (open_checks (Some line) sheet.now) sheet.now line r
         cell.new first.new span.new row.new row_end.new) result }
 {
-    let lines = opening::most_lines(sheet);
+    let lines = sheet_load::most_lines(sheet);
     if lines <= FEW_LINES {
         grid_in::<FEW_LINES, FEW_LINES>(sheet, line, cell, first, span, row, row_end)
     } else if lines <= SMALL_LINES {
@@ -83,7 +83,7 @@ pub fn grid_within(
     row: &mut [u32],
     row_end: &mut [u32],
 ) -> Result<Grid, Refusal>
-    requires { GridRoom cell.old first.old span.old row.old row_end.old }
+    requires { GridCapacity cell.old first.old span.old row.old row_end.old }
     ensures { GridFound (open_checks (Some line) sheet.now) sheet.now line result
         cell.new first.new span.new row.new row_end.new }
 {

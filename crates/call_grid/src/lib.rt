@@ -1,6 +1,6 @@
 // The call `grid`: the grid of the table in a line of a sheet. It asks its arguments first; then what is found in the sheet stands in the lent buffers, and
 // in the end it clears what is no figure. A refused call clears all.
-// Each buffer is a parameter, as the C interface lends it, down to the function that writes it; `GridRoom` goes on with them (docs/DESIGN-PASS.md).
+// Each buffer is a parameter, as the C interface lends it, down to the function that writes it; `GridCapacity` goes on with them (docs/DESIGN-PASS.md).
 // `as` where a count or a place becomes a `usize`, for which there is no `From`.
 // `(L ≤ max_lines) × (E ≤ max_entries)` is of const parameters, and so no type's.
 #![tactic(auto)]
@@ -9,13 +9,13 @@ mod arrays; // the arrays to work in, by the size of the sheet
 mod made; // the records of a grid as the call answers them
 
 ghost use Rattle.std.specs.Prelude.{◌≡◌, ◌∷◌, Some};
-ghost use Rattle.opening.specs.Opening.{open_checks};
+ghost use Rattle.sheet_load.specs.Opening.{open_checks};
 ghost use Rattle.sheet_figures.specs.inner.Early.{early};
 ghost use Rattle.call_grid.specs.Grid.{GridAnswer};
-ghost use Rattle.call_grid.specs.inner.Found.{GridRoom, GridFound};
+ghost use Rattle.call_grid.specs.inner.Found.{GridCapacity, GridFound};
 
 use answers::Grid;
-use lists::Refusal;
+use common::Refusal;
 
 // What is found in the sheet, unless the arguments are refused. A function and no closure: of what a closure given to `and_then` leaves in the lent
 // buffers nothing is known after it.
@@ -29,7 +29,7 @@ fn find_grid(
     row: &mut [u32],
     row_end: &mut [u32],
 ) -> Result<Grid, Refusal>
-    requires { asked ≡ Ok tt → GridRoom cell.old first.old span.old row.old row_end.old }
+    requires { asked ≡ Ok tt → GridCapacity cell.old first.old span.old row.old row_end.old }
     ensures { GridFound (early asked ∷ open_checks (Some line) sheet.now) sheet.now line result
         cell.new first.new span.new row.new row_end.new }
 {
@@ -61,10 +61,10 @@ pub fn grid(
     let found = find_grid(sheet, line, asked, cell, first, span, row, row_end);
     let n = found.map_or(0, |grid| grid.entries as usize);
     let m = found.map_or(0, |grid| grid.rows as usize);
-    lists::keep_front(cell, n);
-    lists::keep_front(first, n);
-    lists::keep_front(span, n);
-    lists::keep_front(row, m);
-    lists::keep_front(row_end, m);
+    common::zero_rest(cell, n);
+    common::zero_rest(first, n);
+    common::zero_rest(span, n);
+    common::zero_rest(row, m);
+    common::zero_rest(row_end, m);
     found
 }

@@ -1,10 +1,10 @@
 // The records of a grid as the call answers them: how many there are, and each figure of them in its buffer.
 ghost use Rattle.std.specs.Prelude.{◌≡◌, ◌≤◌, length};
-ghost use Rattle.lists.specs.Limits.{max_entries, max_lines, max_position};
-ghost use Rattle.call_grid.specs.inner.Made.{answer_of, GridFits, GridWritten};
+ghost use Rattle.common.specs.Limits.{max_entries, max_lines, max_position};
+ghost use Rattle.call_grid.specs.inner.Made.{answer_of, WriteGridPre, WriteGridPost};
 
 use answers::Grid;
-use gridding::Records;
+use grid_build::Records;
 
 // How many there are. No `From`: it could not ask that the numbers are small.
 pub fn answer_of(grid: Records<'_>) -> Grid
@@ -27,13 +27,13 @@ pub fn write_grid(
     row: &mut [u32],
     row_end: &mut [u32],
 )
-    requires { GridFits grid.entries.now grid.rows.now cell.old first.old span.old row.old row_end.old }
-    ensures { GridWritten grid.entry.entries.now grid.entry.rows.now
+    requires { WriteGridPre grid.entries.now grid.rows.now cell.old first.old span.old row.old row_end.old }
+    ensures { WriteGridPost grid.entry.entries.now grid.entry.rows.now
         cell.new first.new span.new row.new row_end.new }
 {
-    lists::write_front(grid.entries, |e| e.cell, cell);
-    lists::write_front(grid.entries, |e| e.first, first);
-    lists::write_front(grid.entries, |e| e.span, span);
-    lists::write_front(grid.rows, |r| r.line, row);
-    lists::write_front(grid.rows, |r| r.end, row_end);
+    common::write_front(grid.entries, |e| e.cell, cell);
+    common::write_front(grid.entries, |e| e.first, first);
+    common::write_front(grid.entries, |e| e.span, span);
+    common::write_front(grid.rows, |r| r.line, row);
+    common::write_front(grid.rows, |r| r.end, row_end);
 }

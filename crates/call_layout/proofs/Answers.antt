@@ -1,6 +1,6 @@
--- `layout`: what is found in the sheet is what the call answers and leaves, and of it the third demand holds. Assumes nothing.
+-- `layout`: what is found in the sheet is what the call answers and leaves, and of it the third demand holds.
 use Rattle.answers.specs.declared.Layout.{Layout}
-use Rattle.lists.specs.declared.Refusal.{Refusal}
+use Rattle.common.specs.declared.Refusal.{Refusal}
 use Rattle.std.specs.Prelude.{Err, Ok, Result, MatchResult, Some}
 use mathlib.Core.Path.{◌≡◌, refl, sym, ◌∙◌}
 use mathlib.Core.Bool.{true, false, ◌||◌}
@@ -10,18 +10,18 @@ use native.Mathlib.Omega.{arith}
 use lib.Dec.{ltb}
 use lib.ListN.{length, take}
 use borrow.Author.Tests.{ltb-false}
-use Rattle.lists.specs.Lists.{padded}
-use Rattle.lists.specs.Limits.{max_lines, max_entries, max_wrap, max_width}
-use Rattle.lists.specs.Refusals.{Check, first_answer, verdict_of, passes, if_passes}
+use Rattle.common.specs.Lists.{padded}
+use Rattle.common.specs.Limits.{max_lines, max_entries, max_wrap, max_width}
+use Rattle.common.specs.Refusals.{Check, first_answer, verdict_of, passes, if_passes}
 use Rattle.sheet.proofs.First.{neither, passes_both}
-use Rattle.opening.specs.Opening.{after_reading, open_checks}
-use Rattle.table.specs.inner.Asked.{OutRoom}
+use Rattle.sheet_load.specs.Opening.{after_reading, open_checks}
+use Rattle.table_layout.specs.inner.Asked.{OutCapacity}
 use Rattle.call_layout.specs.inner.Found.{columns_in, entries_in, LayoutFound}
 use Rattle.arguments.specs.Arguments.{settings_check, layout_arguments}
 use Rattle.call_layout.specs.Layout.{layout_checks, laid_out_of, LayoutAnswer}
 use Rattle.sheet_figures.specs.inner.Early.{early}
 use Rattle.arguments.specs.declared.Settings.{Settings}
-use Rattle.arguments.specs.Asked.{Asks, verdict_in}
+use Rattle.arguments.specs.inner.Asked.{Asks, verdict_in}
 use Rattle.arguments.proofs.Opened.{opened}
 use Rattle.arguments.proofs.Shorter.{layout_fits}
 use Rattle.sheet_figures.proofs.Early.{early_nines, none_nines, fits, leaving}
@@ -77,18 +77,18 @@ raw_low wrap raw width cs e =
 pub counts_fit : {A : Type 0} (columns entries : Result A Refusal → ℕ) → ((why : Refusal) → columns (Err why) ≡ 0) → ((why : Refusal) → entries (Err why) ≡ 0)
     → (f : Result A Refusal) (v : Result (Unit {0}) Refusal) (ds : List Check) (r : Result A Refusal) {a b c : ℕ} → r ≡ first_answer Err f (early v ∷ ds)
     → columns r ≤ max_lines → entries r ≤ max_entries → (v ≡ (Ok tt) → (max_lines ≤ a) × (max_entries ≤ b) × (max_entries ≤ c)) → (columns r ≤ a) × (entries r ≤ b) × (entries r ≤ c)
-counts_fit columns entries no_columns no_entries f v ds r {a} {b} {c} e p q room = (
-  fits Err f columns no_columns v ds r max_lines a e p (λ z. (room z).0),
-  fits Err f entries no_entries v ds r max_entries b e q (λ z. (room z).1),
-  fits Err f entries no_entries v ds r max_entries c e q (λ z. (room z).2),
+counts_fit columns entries no_columns no_entries f v ds r {a} {b} {c} e p q capacity = (
+  fits Err f columns no_columns v ds r max_lines a e p (λ z. (capacity z).0),
+  fits Err f entries no_entries v ds r max_entries b e q (λ z. (capacity z).1),
+  fits Err f entries no_entries v ds r max_entries c e q (λ z. (capacity z).2),
 )
 
 -- where the arguments are not refused, each lent buffer has room for a layout
 pub layout_fit : (wrap raw width : ℕ) (v : Result (Unit {0}) Refusal) (column x wide : List ℕ)
-    → v ≡ verdict_of (layout_arguments wrap raw width (length column ∷ []) (length x ∷ length wide ∷ [])) → v ≡ (Ok tt) → OutRoom column x wide
+    → v ≡ verdict_of (layout_arguments wrap raw width (length column ∷ []) (length x ∷ length wide ∷ [])) → v ≡ (Ok tt) → OutCapacity column x wide
 layout_fit wrap raw width v column x wide judged z =
     let (a, b, c) = layout_fits (length column) (length x) (length wide) (none_nines _ _ (sym judged ∙ z)).1 in
-    record { column_room = a; x_room = b; wide_room = c }
+    record { column_capacity = a; x_capacity = b; wide_capacity = c }
 
 module _ {s : List ℕ} {line wrap raw width : ℕ} {v : Result (Unit {0}) Refusal} {a b c : ℕ} {r : Result Layout Refusal} {column x wide : List ℕ}
     (judged : v ≡ verdict_of (layout_arguments wrap raw width (a ∷ []) (b ∷ c ∷ [])))

@@ -1,47 +1,47 @@
--- The layout of the table in a line of a sheet that was read is the one asked for. Assumes nothing.
+-- The layout of the table in a line of a sheet that was read is the one asked for.
 use Rattle.answers.specs.Answers.{layout_with}
 use Rattle.answers.specs.declared.Layout.{Layout}
-use Rattle.lists.specs.declared.Refusal.{Refusal}
+use Rattle.common.specs.declared.Refusal.{Refusal}
 use Rattle.std.specs.Prelude.{Err, Ok, Some}
 use mathlib.Core.Path.{◌≡◌, sym, ◌∙◌}
 use mathlib.Core.List.{List}
 use Prim.Native.Nat.{ℕ, ◌+◌, ◌-◌, ◌≤◌}
 use native.Mathlib.Omega.{arith}
 use lib.ListN.{length, take}
-use Rattle.lists.specs.Limits.{max_entries, max_position}
+use Rattle.common.specs.Limits.{max_entries, max_position}
 use Rattle.text.specs.declared.Estimate.{Estimate}
-use Rattle.records.specs.declared.Kept.{Kept}
+use Rattle.records.specs.declared.NodeRecord.{NodeRecord}
 use Rattle.records.specs.declared.Entry.{Entry}
 use Rattle.records.specs.declared.RowEnd.{RowEnd}
 use Rattle.sheet.proofs.First.{first_passes, figures_fail, front_pass}
-use Rattle.cells.specs.Listed.{table_rows}
+use Rattle.resolved_rows.specs.Listed.{table_rows}
 use Rattle.grid.proofs.GridFacts.{grid_entries, grid_columns}
-use Rattle.opening.specs.Opening.{open_checks, opened_of}
-use Rattle.table.specs.Arranging.{ArrangedAt}
-use Rattle.table.specs.declared.Arrangement.{Arrangement}
-use Rattle.table.specs.inner.Asked.{OutRoom}
-use Rattle.table.specs.declared.MeasuredTable.{MeasuredTable}
+use Rattle.sheet_load.specs.Opening.{open_checks, opened_of}
+use Rattle.table_layout.specs.inner.Arranging.{ArrangePost}
+use Rattle.table_layout.specs.declared.Arrangement.{Arrangement}
+use Rattle.table_layout.specs.inner.Asked.{OutCapacity}
+use Rattle.table_layout.specs.declared.MeasuredTable.{MeasuredTable}
 use Rattle.sheet_figures.specs.inner.Opened.{LinesOf}
 use Rattle.sheet_figures.proofs.Openings.{failed, told, opened_passed, opened_apt}
 use Rattle.call_layout.specs.inner.Found.{columns_in, entries_in, LayoutFound}
-use Rattle.call_layout.specs.inner.Made.{LayoutMade, answer_of}
+use Rattle.call_layout.specs.inner.Made.{LayoutOfPost, answer_of}
 
 -- buffers that are as long as they were have the same room
 pub out_still : {column column' x x' wide wide' : List ℕ} → length column' ≡ length column → length x' ≡ length x → length wide' ≡ length wide
-    → OutRoom column x wide → OutRoom column' x' wide'
-out_still a b c o = record { column_room = omega (arith, o.column_room); x_room = omega (arith, o.x_room); wide_room = omega (arith, o.wide_room) }
+    → OutCapacity column x wide → OutCapacity column' x' wide'
+out_still a b c o = record { column_capacity = omega (arith, o.column_capacity); x_capacity = omega (arith, o.x_capacity); wide_capacity = omega (arith, o.wide_capacity) }
 
 -- ---- one table
 
 -- its counts fit 32 bits
 pub table_few : (k : MeasuredTable) {raw width : ℕ} {es : List Entry} {rs : List RowEnd} {column x wide : List ℕ} {a : Arrangement}
-    → ArrangedAt k.lines.now k.at k.figures.now raw width es rs column x wide a.counts a.laid → (a.counts.entries ≤ max_entries) × (a.counts.columns ≤ max_position)
+    → ArrangePost k.lines.now k.at k.figures.now raw width es rs column x wide a.counts a.laid → (a.counts.entries ≤ max_entries) × (a.counts.columns ≤ max_position)
 table_few k m =
     let t = table_rows k.lines.now k.at in
     (omega (arith, m.made.entries_are, grid_entries t k.known.sound), omega (arith, m.made.columns_are, grid_columns t k.known.sound))
 
 pub layout_made : (k : MeasuredTable) {raw width : ℕ} {es : List Entry} {rs : List RowEnd} {column x wide : List ℕ} {a : Arrangement}
-    → ArrangedAt k.lines.now k.at k.figures.now raw width es rs column x wide a.counts a.laid → LayoutMade k.lines.now k.at k.figures.now raw width (answer_of a) column x wide
+    → ArrangePost k.lines.now k.at k.figures.now raw width es rs column x wide a.counts a.laid → LayoutOfPost k.lines.now k.at k.figures.now raw width (answer_of a) column x wide
 layout_made k m = record {
   entries_are = m.made.entries_are;
   columns_are = m.made.columns_are;
@@ -53,8 +53,8 @@ layout_made k m = record {
 -- ---- the layout asked for
 
 module _ {s : List ℕ} {line wrap raw width : ℕ} {column x wide : List ℕ} where
-  pub layout_found : {n : ℕ} {lines : List Kept} {figures : List Estimate} → LinesOf s line wrap n lines figures
-      → {r : Layout} → LayoutMade (take n lines) (line - 1) figures raw width r column x wide → LayoutFound (open_checks (Some line) s) s line wrap raw width (Ok r) column x wide
+  pub layout_found : {n : ℕ} {lines : List NodeRecord} {figures : List Estimate} → LinesOf s line wrap n lines figures
+      → {r : Layout} → LayoutOfPost (take n lines) (line - 1) figures raw width r column x wide → LayoutFound (open_checks (Some line) s) s line wrap raw width (Ok r) column x wide
   unfolding columns_in entries_in
   layout_found w f =
       let p = (opened_passed w.opened).all in

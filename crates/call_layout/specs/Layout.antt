@@ -1,13 +1,12 @@
 -- The call `layout`: its answer, and what stands in the lent buffers afterwards, refused calls included: the figures, then zeros.
--- These are definitions; nothing is assumed.
 use Rattle.answers.specs.Answers.{layout_with}
 use Rattle.answers.specs.declared.Layout.{Layout}
-use Rattle.lists.specs.declared.Refusal.{Refusal}
+use Rattle.common.specs.declared.Refusal.{Refusal}
 use Rattle.std.specs.Prelude.{◌≡◌, true, List, [], ◌∷◌, ◌++◌, map, ℕ, length, Err, Result, Ok}
-use Rattle.lists.specs.Refusals.{Check, first_answer, passes}
+use Rattle.common.specs.Refusals.{Check, first_answer, passes}
 use Rattle.arguments.specs.Arguments.{layout_arguments}
 use Rattle.grid.specs.Grid.{entries_of}
-use Rattle.placing.specs.Promise.{Promised}
+use Rattle.placement.specs.Promise.{Promised}
 use Rattle.sheet_figures.specs.Figures.{x_of, width_of, rows_at, columns_at, boxes_at, way_at, widths_at, width_at, places_at}
 use Rattle.sheet_figures.specs.Calls.{asked_checks, leaves}
 

@@ -1,18 +1,18 @@
 // The arrays in which a sheet is read and its table laid out, of four sizes. They are cleared with each call, and for a short sheet short ones do.
 ghost use Rattle.std.specs.Prelude.{◌≤◌, Some, Result};
-ghost use Rattle.lists.specs.Limits.{max_entries, max_lines};
-ghost use Rattle.sheet.specs.Steps.{room_for};
-ghost use Rattle.opening.specs.Opening.{open_checks};
-ghost use Rattle.table.specs.inner.Asked.{OutRoom};
-ghost use Rattle.opening.specs.inner.Measures.{Decided, Tried};
+ghost use Rattle.common.specs.Limits.{max_entries, max_lines};
+ghost use Rattle.sheet.specs.inner.Steps.{line_bound};
+ghost use Rattle.sheet_load.specs.Opening.{open_checks};
+ghost use Rattle.table_layout.specs.inner.Asked.{OutCapacity};
+ghost use Rattle.sheet_load.specs.inner.Measures.{Decided, Tried};
 ghost use Rattle.call_layout.specs.inner.Found.{LayoutFound};
 
 use super::read::layout_of;
 use answers::Layout;
 use arguments::Settings;
-use lists::{MAX_ENTRIES, MAX_LINES, Refusal};
-use opening::{FEW_LINES, MANY_LINES, SMALL_LINES};
-use table::MeasuredTable;
+use common::{MAX_ENTRIES, MAX_LINES, Refusal};
+use sheet_load::{FEW_LINES, MANY_LINES, SMALL_LINES};
+use table_layout::MeasuredTable;
 
 // The layout of the table in a line of a sheet, in arrays of L lines, estimates and rows and E entries; none, if they do not suffice for the sheet's
 // tables. `column` is scratch until it is written. It is never taken into its caller's frame: so a small sheet does
@@ -26,20 +26,20 @@ fn layout_in<const L: usize, const E: usize>(
     x: &mut [u32],
     wide: &mut [u32],
 ) -> Result<Option<Layout>, Refusal>
-    requires lines_room { room_for sheet.now ≤ L }
+    requires lines_capacity { line_bound sheet.now ≤ L }
     requires sizes { (L ≤ max_lines) × (E ≤ max_entries) }
-    requires out_room { OutRoom column.old x.old wide.old }
+    requires out_capacity { OutCapacity column.old x.old wide.old }
     ensures tried { Tried (λ r. LayoutFound (open_checks (Some line) sheet.now) sheet.now line settings.wrap settings.raw settings.width r
         column.new x.new wide.new) result }
     ensures any { max_entries ≤ E → max_lines ≤ L → Decided result }
 {
-    let mut lines = [records::NO_LINE; L];
+    let mut lines = [records::NO_NODE; L];
     let mut figures = [estimates::NONE; L];
     let mut entries = [records::NO_ENTRY; E];
     let mut rows = [records::NO_ROW; L];
-    let n = opening::open_sheet(sheet, Some(line), &mut lines, column)?;
+    let n = sheet_load::open_sheet(sheet, Some(line), &mut lines, column)?;
     let lines = &lines[..n];
-    if !opening::measuring::enough(lines, E, L) {
+    if !sheet_load::measuring::enough(lines, E, L) {
         return Ok(None);
     }
     let at = (line - 1) as usize;
@@ -80,11 +80,11 @@ fn layout_short(
     x: &mut [u32],
     wide: &mut [u32],
 ) -> Result<Option<Layout>, Refusal>
-    requires { OutRoom column.old x.old wide.old }
+    requires { OutCapacity column.old x.old wide.old }
     ensures { Tried (λ r. LayoutFound (open_checks (Some line) sheet.now) sheet.now line settings.wrap settings.raw settings.width r
         column.new x.new wide.new) result }
 {
-    let lines = opening::most_lines(sheet);
+    let lines = sheet_load::most_lines(sheet);
     if lines <= FEW_LINES {
         layout_in::<FEW_LINES, FEW_LINES>(sheet, line, settings, column, x, wide)
     } else if lines <= SMALL_LINES {
@@ -106,7 +106,7 @@ pub fn layout_within(
     x: &mut [u32],
     wide: &mut [u32],
 ) -> Result<Layout, Refusal>
-    requires { OutRoom column.old x.old wide.old }
+    requires { OutCapacity column.old x.old wide.old }
     ensures { LayoutFound (open_checks (Some line) sheet.now) sheet.now line settings.wrap settings.raw settings.width result
         column.new x.new wide.new }
 {

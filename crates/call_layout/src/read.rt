@@ -2,14 +2,14 @@
 // raw and width are two parameters, as the definitions have them: in nested the width is not that of the settings.
 // entries and rows are two slices, which are lent on as scratch.
 ghost use Rattle.std.specs.Prelude.{◌≡◌, ◌≤◌};
-ghost use Rattle.lists.specs.Limits.{max_entries, max_position, max_size};
-ghost use Rattle.table.specs.inner.Asked.{OutRoom};
-ghost use Rattle.table.specs.inner.Room.{GridRoom};
-ghost use Rattle.call_layout.specs.inner.Made.{answer_of, LayoutMade};
+ghost use Rattle.common.specs.Limits.{max_entries, max_position, max_size};
+ghost use Rattle.table_layout.specs.inner.Asked.{OutCapacity};
+ghost use Rattle.table_layout.specs.inner.Capacity.{GridCapacity};
+ghost use Rattle.call_layout.specs.inner.Made.{answer_of, LayoutOfPost};
 
 use answers::Layout;
 use records::{Entry, RowEnd};
-use table::{Arrangement, MeasuredTable};
+use table_layout::{Arrangement, MeasuredTable};
 
 // An arrangement as the call answers it. No `From`: it could not ask that the numbers are small.
 fn answer_of(a: Arrangement) -> Layout
@@ -36,12 +36,12 @@ pub fn layout_of(
     x: &mut [u32],
     wide: &mut [u32],
 ) -> Layout
-    requires grid_room { GridRoom t.lines.now t.at entries.old rows.old }
+    requires grid_capacity { GridCapacity t.lines.now t.at entries.old rows.old }
     requires width_le_max_size { width ≤ max_size }
-    requires out_room { OutRoom column.old x.old wide.old }
-    ensures { LayoutMade t.entry.lines.now t.entry.at t.entry.figures.now raw width result
+    requires out_capacity { OutCapacity column.old x.old wide.old }
+    ensures { LayoutOfPost t.entry.lines.now t.entry.at t.entry.figures.now raw width result
         column.new x.new wide.new }
 {
-    let a = table::arrange(t, raw, width, entries, rows, column, x, wide);
+    let a = table_layout::arrange(t, raw, width, entries, rows, column, x, wide);
     answer_of(a)
 }

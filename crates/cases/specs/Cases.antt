@@ -1,17 +1,17 @@
--- The table of the cases that are asked to be proved, about the definitions, in the order in which they are asked. Assumes nothing.
+-- The table of the cases that are asked to be proved, about the definitions, in the order in which they are asked.
 use Rattle.std.specs.Prelude.{◌≡◌, refl, true, false, List, [], ◌∷◌, ℕ, Ok}
-use Rattle.lists.specs.Lists.{sum, mem}
-use Rattle.lists.specs.Refusals.{verdict_of, first_answer}
+use Rattle.common.specs.Lists.{sum, mem}
+use Rattle.common.specs.Refusals.{verdict_of, first_answer}
 use Rattle.text.specs.Bytes.{class_of}
 use Rattle.text.specs.Text.{measure_of, text_size, readable, trim_start, trim_end, widths, runs, begins}
 use Rattle.text.specs.Decimal.{digits_in, digits, writing, plain}
 use Rattle.text.specs.Prefix.{last_number, ol_prefix}
 use Rattle.kinds.specs.Names.{word, first_codes}
-use Rattle.edges.specs.Edges.{count_below, ends_from}
-use Rattle.cells.specs.Cells as cells
-use Rattle.cells.specs.Cells.{cell, row_sum, widest, resolve_row, fill_body, cut_row, cut_body, resolve_body, resolved}
-use Rattle.rows.specs.Row.{fillers, later, row_from, hang_of, nexts}
-use Rattle.positions.specs.Positions.{entry_count, originals, ends_past}
+use Rattle.column_edges.specs.Edges.{count_below, ends_from}
+use Rattle.resolved_rows.specs.Cells as cells
+use Rattle.resolved_rows.specs.Cells.{cell, row_sum, widest, resolve_row, fill_body, cut_row, cut_body, resolve_body, resolved}
+use Rattle.grid_row.specs.Row.{fillers, later, row_from, hang_of, nexts}
+use Rattle.grid_positions.specs.Positions.{entry_count, originals, ends_past}
 use Rattle.grid.specs.Grid.{entry, ends_of, entries_from, longest, grid_of, columns_of, table_checks}
 use Rattle.cutting.specs.Cut.{pick, cut_once, cut_by, cut}
 use Rattle.widths.specs.Share.{share, shares_of}

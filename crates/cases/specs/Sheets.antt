@@ -1,18 +1,18 @@
--- Whole sheets from bytes to places, about the definitions, traced by hand. Assumes nothing.
-use Rattle.lists.specs.declared.Reason.TheVariants.{Fields, NoExpression, OutOfBounds}
+-- Whole sheets from bytes to places, about the definitions, traced by hand.
+use Rattle.common.specs.declared.Reason.TheVariants.{Fields, NoExpression, OutOfBounds}
 use Rattle.std.specs.Prelude.{◌≡◌, refl, List, [], ◌∷◌, ◌++◌, ℕ, Err, Ok}
 use Prim.Native.String.{String}
-use Rattle.lists.specs.Lists.{sum, mem}
-use Rattle.lists.specs.Refusals.{verdict_of, first_answer, passes, refusal}
+use Rattle.common.specs.Lists.{sum, mem}
+use Rattle.common.specs.Refusals.{verdict_of, first_answer, passes, refusal}
 use Rattle.text.specs.Bytes.{class_of}
 use Rattle.text.specs.Text.{text_size, readable, trim_start, trim_end, widths, runs, begins}
 use Rattle.text.specs.Decimal.{shifted, writing, digits, digits_in}
 use Rattle.text.specs.Prefix.{last_number, ol_prefix}
-use Rattle.sums.specs.Tree.{result_of, both}
-use Rattle.sums.specs.Grammar.{digit}
-use Rattle.sums.specs.Machine.{total, wanted, operator, inner, opened, closed, step, finish, run}
-use Rattle.sums.specs.Answers.{answer_by, answer_of}
-use Rattle.calc.specs.Measures.{written, measure_by, measure_of}
+use Rattle.expression.specs.Tree.{result_of, both}
+use Rattle.expression.specs.Grammar.{digit}
+use Rattle.expression.specs.Machine.{total, wanted, operator, inner, opened, closed, step, finish, run}
+use Rattle.expression.specs.Answers.{answer_by, answer_of}
+use Rattle.evaluator.specs.Measures.{written, measure_by, measure_of}
 use Rattle.kinds.specs.Kinds.{same, place, kind_of, kind_at, may_hold}
 use Rattle.fields.specs.Lines.{feed, feeds, pieces, headed}
 use Rattle.kinds.specs.Names.{word, first_codes}
@@ -23,19 +23,19 @@ use Rattle.sheet.specs.Nesting.{nearest, depth_fits, place_fits, childless}
 use Rattle.sheet.specs.Sheet.{sheet_checks, lines_checks, lines_of, empty_checks, sheet_lines}
 use Rattle.columns.specs.Boxes.{flat}
 use Rattle.columns.specs.Columns.{up_to, sum_at, largest_at}
-use Rattle.edges.specs.Edges.{count_below, ends_from}
-use Rattle.cells.specs.Cells.{frame, row_sum, widest, resolve_row, fill_body, cut_row, cut_body, resolve_body, resolved}
-use Rattle.cells.specs.Listed.{table_rows}
-use Rattle.rows.specs.Row.{fillers, later, row_from, hang_of, nexts}
-use Rattle.positions.specs.Positions.{entry_count, originals, ends_past}
+use Rattle.column_edges.specs.Edges.{count_below, ends_from}
+use Rattle.resolved_rows.specs.Cells.{frame, row_sum, widest, resolve_row, fill_body, cut_row, cut_body, resolve_body, resolved}
+use Rattle.resolved_rows.specs.Listed.{table_rows}
+use Rattle.grid_row.specs.Row.{fillers, later, row_from, hang_of, nexts}
+use Rattle.grid_positions.specs.Positions.{entry_count, originals, ends_past}
 use Rattle.grid.specs.Grid.{ends_of, entries_from, longest, grid_of, columns_of, table_checks, tables_checks}
 use Rattle.estimates.specs.Estimates.{estimate, estimates, measured, estimate_of, leaf_of, holder_of, gather, prefix_of, box_of, tabled}
 use Rattle.cutting.specs.Cut.{pick, cut_once, cut_by, cut}
 use Rattle.widths.specs.Share.{share, shares_of}
 use Rattle.widths.specs.Widths.{way_of, final_widths, nonzero, table_width}
-use Rattle.placing.specs.Place.{at, place_side, place_down, place_row, place_rows}
+use Rattle.placement.specs.Place.{at, place_side, place_down, place_row, place_rows}
 use Rattle.answers.specs.declared.Way.TheVariants.{Down}
-use Rattle.opening.specs.Opening.{kept_lines}
+use Rattle.sheet_load.specs.Opening.{nodes_of}
 use Rattle.sheet_figures.specs.Figures.{way_at, widths_at, width_at, places_at}
 use Rattle.sheet_figures.specs.Calls.{check_checks}
 
@@ -139,7 +139,7 @@ pub record Traced : Type 0 where
   pub survey_places : places_at survey 1 3 0 23 ≡ at 0 3 ∷ at 4 16 ∷ at 0 3 ∷ at 4 8 ∷ at 13 10 ∷ at 0 12 ∷ []
   -- a sum worth 420: size 3, and at wrap 2 least 2
   pub sum_accepted : verdict_of (check_checks (reckoned "(3+4)*120/2")) ≡ (Ok tt)
-  pub sum_measured : estimates 2 (kept_lines (reckoned "(3+4)*120/2")) ≡ estimate 3 2 0 ∷ []
+  pub sum_measured : estimates 2 (nodes_of (reckoned "(3+4)*120/2")) ≡ estimate 3 2 0 ∷ []
   -- cut off, though a divisor in it is 0
   pub sum_cut_off : verdict_of (check_checks (reckoned "1/0+")) ≡ Err (refusal NoExpression 1)
   -- a divisor of 0

@@ -1,5 +1,4 @@
 -- The room for the columns' figures, and the causes that are written of the figures told: they are the causes of the table's columns.
--- Assumes nothing.
 use mathlib.Core.Path.{◌≡◌, ap, ◌∙◌}
 use mathlib.Core.List.{List}
 use Prim.Native.Nat.{ℕ}
@@ -10,12 +9,12 @@ use Rattle.columns.specs.Columns.{up_to}
 use Rattle.widths.specs.Widths.{final_widths}
 use Rattle.answers.specs.declared.Way.{Way}
 use Rattle.widths.specs.declared.Laid.{Laid}
-use Rattle.sizing.specs.Sizing.{sizes_in, leasts_in}
-use Rattle.causes.specs.inner.Telling.{Told, number_at}
+use Rattle.column_sizes.specs.inner.Sizing.{sizes_in, leasts_in}
+use Rattle.causes.specs.inner.Telling.{TellColumnsPost, number_at}
 use Rattle.causes.specs.inner.Tables.{finals_in, causes_in}
 
 pub causes_told : {es : List Entry} {figures : List Estimate} {c m raw width : ℕ} {sizes leasts shares column cause : List ℕ} {r : Laid}
-    → Told es figures c raw width sizes leasts shares column r → m ≡ c → cause ≡ up_to (length sizes) (number_at width sizes shares column)
+    → TellColumnsPost es figures c raw width sizes leasts shares column r → m ≡ c → cause ≡ up_to (length sizes) (number_at width sizes shares column)
     → cause ≡ causes_in es figures m raw width
 unfolding causes_in
 causes_told {es} {figures} {c} {m} {raw} {width} {column = column} {r = r} t q e = e ∙ rw (t.sizes_are, t.shares_are, column_is, q)

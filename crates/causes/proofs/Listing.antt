@@ -1,5 +1,5 @@
 -- The loop that lists the missing entries: what stands in the first places, with what the rest of the entries gives, is what all give. Each entry of
--- the rest is listed or passed. Assumes nothing.
+-- the rest is listed or passed.
 use mathlib.Core.Path.{◌≡◌, refl, sym, ap, ◌∙◌}
 use mathlib.Core.Bool.{Bool, true, false, cond, not, ◌&&◌}
 use lib.Dec.{eqb}
@@ -9,11 +9,11 @@ use native.Mathlib.Numerals.{add-one}
 use native.Mathlib.Omega.{arith}
 use lib.ListN.{length, get_or, take, drop, set, length-map, length-set, get_or-map, drop_of_length-le}
 use lib.Seq.{drop-cons, take-suc-set, length-take-le}
-use Rattle.records.specs.Kept.{no_entry}
+use Rattle.records.specs.inner.NodeRecord.{no_entry}
 use Rattle.records.specs.declared.Entry.{Entry}
 use Rattle.columns.specs.Boxes.{Box}
-use Rattle.placing.specs.inner.Rows.{bare_box, bare_boxes}
-use Rattle.causes.specs.inner.Hidden.{none_shown, hidden, hidden_from, Listable, Listed}
+use Rattle.placement.specs.inner.Rows.{bare_box, bare_boxes}
+use Rattle.causes.specs.inner.Hidden.{none_shown, hidden, hidden_from, ListMissingPre, ListMissingPost}
 
 -- ---- whether a cause is 0
 
@@ -34,16 +34,16 @@ pub record Sofar (es : List Entry) (cause missing₀ missing : List ℕ) (n i : 
   pub as_long : length missing ≡ length missing₀
   pub rest : take n missing ++ hidden_from i (drop i (bare_boxes es)) cause ≡ hidden_from 0 (bare_boxes es) cause
 
-module _ {es : List Entry} {cause missing₀ : List ℕ} (p : Listable es cause missing₀) where
+module _ {es : List Entry} {cause missing₀ : List ℕ} (p : ListMissingPre es cause missing₀) where
   abbrev bs : List Box
   bs = bare_boxes es
 
   module _ {missing : List ℕ} {n i : ℕ} (z : Sofar es cause missing₀ missing n i) where
-    pub list_stop : length es ≤ i → Listed es cause missing n
+    pub list_stop : length es ≤ i → ListMissingPost es cause missing n
     unfolding hidden_from
     list_stop h =
         let d : drop i bs ≡ [] = drop_of_length-le bs {i = i} (omega (arith, length-map es bare_box)) in
-        record { count = sym (length-take-le n missing (omega (arith, z.at_most, z.fewer, z.as_long, p.room))) ∙ ap length (all d); front = all d }
+        record { count = sym (length-take-le n missing (omega (arith, z.at_most, z.fewer, z.as_long, p.capacity))) ∙ ap length (all d); front = all d }
       where
         all : drop i bs ≡ [] → take n missing ≡ hidden_from 0 bs cause
         all d = sym (append-nil (take n missing)) ∙ ap (λ (xs : List Box). take n missing ++ hidden_from i xs cause) (sym d) ∙ z.rest
@@ -72,11 +72,11 @@ module _ {es : List Entry} {cause missing₀ : List ℕ} (p : Listable es cause 
             rest = listed ∙ z.rest;
           }
         where
-          room : n < length missing
-          room = omega (arith, z.fewer, z.as_long, p.room)
+          capacity : n < length missing
+          capacity = omega (arith, z.fewer, z.as_long, p.capacity)
 
           more : take (n + 1) (set missing n v) ≡ take n missing ++ (v ∷ [])
-          more = rw add-one (take-suc-set missing n v room)
+          more = rw add-one (take-suc-set missing n v capacity)
 
           listed : take (n + 1) (set missing n v) ++ hidden_from (i + 1) (drop (i + 1) bs) cause ≡ take n missing ++ hidden_from i (drop i bs) cause
           listed =

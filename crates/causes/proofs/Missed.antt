@@ -1,5 +1,5 @@
 -- The entries each of whose columns has a cause are those that are missing, if the rows of boxes tile the columns: a column has a cause exactly if it
--- is 0 wide, and an entry is missing exactly if its columns sum to 0, or down the page if the page has width 0. Assumes nothing.
+-- is 0 wide, and an entry is missing exactly if its columns sum to 0, or down the page if the page has width 0.
 use mathlib.Core.Path.{◌≡◌, refl, sym, ap, ap₂, ◌∙◌}
 use mathlib.Core.Bool.{Bool, true, false, cond}
 use mathlib.Core.List.{List, [], ◌∷◌, ◌++◌, map}
@@ -10,11 +10,13 @@ use lib.Dec.{eqb}
 use lib.ListN.{length, get_or, take, drop, replicate, length-drop, get_or-replicate}
 use lib.Seq.{length-take-le, get_or-take, get_or-drop}
 use borrow.Author.Tests.{eq-eqb, ne_eqb, lt-ltb, le-ltb}
-use Rattle.lists.specs.Lists.{sum, Tiles}
-use Rattle.lists.proofs.Tiles.{tiles_start}
+use Rattle.common.specs.Lists.{sum}
+use Rattle.common.specs.inner.Lists.{Tiles}
+use Rattle.common.proofs.Tiles.{tiles_start}
 use Rattle.records.specs.declared.Entry.{Entry}
 use Rattle.text.specs.declared.Estimate.{Estimate}
-use Rattle.columns.specs.Boxes.{Box, box_first, box_span, flat, BoxesTile, TilesAll}
+use Rattle.columns.specs.Boxes.{Box, flat}
+use Rattle.columns.specs.inner.Boxes.{box_first, box_span, BoxesTile, TilesAll}
 use Rattle.columns.specs.Columns.{size_of, least_of, largest_at, largest}
 use Rattle.columns.proofs.Upto.{length_up_to, at_up_to}
 use Rattle.cutting.specs.Cut as cut
@@ -24,12 +26,12 @@ use Rattle.answers.specs.declared.Way.{Way}
 use Rattle.answers.specs.declared.Way.TheVariants.{Sideways, Down}
 use Rattle.widths.proofs.Whole.{way_raw, way_zero}
 use Rattle.widths.proofs.Laying.{final_down, length_final}
-use Rattle.placing.specs.Place.{Placed, across, place_down, place_row, place_rows}
-use Rattle.placing.specs.inner.Rows.{own, next, bare_boxes}
-use Rattle.placing.proofs.Placing.{place_by, side_by, length_row, own_missing, missing_own}
-use Rattle.placing.proofs.Spread.{narrow_spread, spread_floor}
-use Rattle.sizing.specs.Sizing.{entry_box}
-use Rattle.table.specs.Laying.{way_in, widths_in, places_in}
+use Rattle.placement.specs.Place.{Placed, across, place_down, place_row, place_rows}
+use Rattle.placement.specs.inner.Rows.{own, next, bare_boxes}
+use Rattle.placement.proofs.Placing.{place_by, side_by, length_row, own_missing, missing_own}
+use Rattle.placement.proofs.Spread.{narrow_spread, spread_floor}
+use Rattle.column_sizes.specs.inner.Sizing.{entry_box}
+use Rattle.table_layout.specs.Laying.{way_in, widths_in, places_in}
 use Rattle.causes.specs.Causes.{cause_of, cause_number, causes, cause_at, missing_from}
 use Rattle.causes.specs.declared.Cause.TheVariants.{Empty, Little, Cut}
 use Rattle.causes.specs.inner.Hidden.{none_shown, hidden, hidden_from}

@@ -1,9 +1,9 @@
--- Why a column of a table is 0 wide, and which of the table's entries are missing. These are definitions; nothing is assumed.
+-- Why a column of a table is 0 wide, and which of the table's entries are missing.
 use Rattle.std.specs.Prelude.{cond, List, [], ◌∷◌, ℕ, suc, ltb, eqb, length}
 use Rattle.columns.specs.Columns.{up_to}
 use Rattle.cutting.specs.Cut.{at}
 use Rattle.widths.specs.Share.{shares}
-use Rattle.placing.specs.Place.{Placed}
+use Rattle.placement.specs.Place.{Placed}
 use Rattle.causes.specs.declared.Cause.{Cause}
 use Rattle.causes.specs.declared.Cause.TheVariants.{Shown, Empty, Little, Cut, Page}
 

@@ -1,5 +1,4 @@
 -- The causes of the columns of the table in a line of a sheet, and its missing entries, by the sheet's bytes, the line and the settings.
--- These are definitions; nothing is assumed.
 use Rattle.std.specs.Prelude.{List, ℕ}
 use Rattle.sheet_figures.specs.Figures.{sizes_at, leasts_at, widths_at, places_at}
 use Rattle.causes.specs.Causes.{causes, missing_from}

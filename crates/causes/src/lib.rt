@@ -1,6 +1,6 @@
 // Why a column of a table is 0 wide and which entries are missing, for those who teach which cells can go missing. The Rust has no counterpart.
 // raw and width are two parameters, as the definitions have them, and raw a number. Sizes, leasts, shares and widths are a slice each, as there is
-// a list of each. entries and figures are two slices: what is asked of them, `Tellable` and `Entered`, is of the columns too. cause is a slice of
+// a list of each. entries and figures are two slices: what is asked of them, `TellColumnsPre` and `Entered`, is of the columns too. cause is a slice of
 // numbers, as the C interface lends it.
 // `as` where a place becomes a number of 32 bits: there is no `From`, and a `TryFrom` would never fail.
 #![tactic(auto)]
@@ -10,8 +10,8 @@ pub mod tables; // those of one table
 ghost use Rattle.std.specs.Prelude.{◌≡◌, length};
 ghost use Rattle.columns.specs.Columns.{up_to};
 ghost use Rattle.causes.specs.Causes.{cause_of, cause_number};
-ghost use Rattle.causes.specs.inner.Telling.{Tellable, Told, Causable, number_at};
-ghost use Rattle.causes.specs.inner.Hidden.{none_shown, Listable, Listed};
+ghost use Rattle.causes.specs.inner.Telling.{TellColumnsPre, TellColumnsPost, WriteCausesPre, number_at};
+ghost use Rattle.causes.specs.inner.Hidden.{none_shown, ListMissingPre, ListMissingPost};
 
 use records::Entry;
 use text::Estimate;
@@ -68,18 +68,18 @@ pub fn tell_columns(
     shares: &mut [u32],
     column: &mut [u32],
 ) -> Laid
-    requires { Tellable entries.now figures.now sizes.old leasts.old shares.old column.old }
-    ensures { Told entries.now figures.now (length column.old) raw width
+    requires { TellColumnsPre entries.now figures.now sizes.old leasts.old shares.old column.old }
+    ensures { TellColumnsPost entries.now figures.now (length column.old) raw width
         sizes.new leasts.new shares.new column.new result }
 {
-    sizing::raise_columns(entries, figures, sizes, leasts);
+    column_sizes::raise_columns(entries, figures, sizes, leasts);
     widths::write_shares(sizes, leasts, width, shares);
     widths::lay_columns(sizes, leasts, raw, width, column)
 }
 
 // The number of each column's cause. Written by index: of what an adapter of `iter_mut` wrote the language knows nothing.
 pub fn write_causes(width: u32, sizes: &[u32], shares: &[u32], column: &[u32], cause: &mut [u32])
-    requires { Causable sizes.now shares.now column.now cause.old }
+    requires { WriteCausesPre sizes.now shares.now column.now cause.old }
     ensures { cause.new ≡ up_to (length sizes.now) (number_at width sizes.now shares.now column.now) }
 {
     for (i, (size, (share, wide))) in sizes.iter().zip(shares.iter().zip(column)).enumerate() {
@@ -98,8 +98,8 @@ fn none_shown(cause: &[u32]) -> bool
 // The numbers of the entries that are missing, each of whose columns has a cause, in the order of the grid, and how many there are.
 // The slice is filled from its front beside a count: a `Vec` needs a heap.
 pub fn list_missing(entries: &[Entry], cause: &[u32], missing: &mut [u32]) -> usize
-    requires { Listable entries.now cause.now missing.old }
-    ensures { Listed entries.now cause.now missing.new result }
+    requires { ListMissingPre entries.now cause.now missing.old }
+    ensures { ListMissingPost entries.now cause.now missing.new result }
 {
     let mut n = 0;
     for (i, e) in entries.iter().enumerate() {

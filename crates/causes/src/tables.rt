@@ -1,11 +1,11 @@
 // The causes of a table's columns and its missing entries, from the records of its entries and the estimates.
 ghost use Rattle.std.specs.Prelude.{◌≡◌, ◌≤◌, length};
-ghost use Rattle.lists.specs.Limits.{max_position};
-ghost use Rattle.sizing.specs.inner.Room.{Entered};
-ghost use Rattle.causes.specs.inner.Telling.{Tellable};
-ghost use Rattle.causes.specs.inner.Tables.{causes_in, Explainable, Explained};
+ghost use Rattle.common.specs.Limits.{max_position};
+ghost use Rattle.column_sizes.specs.inner.Capacity.{Entered};
+ghost use Rattle.causes.specs.inner.Telling.{TellColumnsPre};
+ghost use Rattle.causes.specs.inner.Tables.{causes_in, ExplainPre, ExplainPost};
 
-use lists::MAX_POSITION;
+use common::MAX_POSITION;
 use records::Entry;
 use text::Estimate;
 
@@ -21,7 +21,7 @@ fn causes_by(
     column: &mut [u32],
     cause: &mut [u32],
 )
-    requires tellable { Tellable entries.now figures.now sizes.old leasts.old shares.old column.old }
+    requires tellable { TellColumnsPre entries.now figures.now sizes.old leasts.old shares.old column.old }
     requires cause_len { length cause.old ≡ length column.old }
     ensures { cause.new ≡ causes_in entries.now figures.now (length cause.old) raw width }
 {
@@ -63,8 +63,8 @@ pub fn explain(
     entry: &mut [u32],
     cause: &mut [u32],
 ) -> usize
-    requires { Explainable entries.now figures.now (length cause.old) entry.old }
-    ensures { Explained entries.now figures.now (length cause.old) raw width result entry.new cause.new }
+    requires { ExplainPre entries.now figures.now (length cause.old) entry.old }
+    ensures { ExplainPost entries.now figures.now (length cause.old) raw width result entry.new cause.new }
 {
     tell_causes(entries, figures, raw, width, cause);
     crate::list_missing(entries, cause, entry)

@@ -1,4 +1,4 @@
--- The columns as a chain goes through them: each with its number, its share and its least. Assumes nothing.
+-- The columns as a chain goes through them: each with its number, its share and its least.
 use mathlib.Core.Path.{◌≡◌, refl, ap, ◌∙◌}
 use mathlib.Core.List.{List, [], ◌∷◌, map}
 use Prim.Native.Nat.{ℕ, suc, ◌≤◌, ◌<◌}

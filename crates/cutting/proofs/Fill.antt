@@ -1,6 +1,6 @@
 -- The widths that the code writes: at a level, with one more for the columns whose place is below a bound. With the bound 0 they are the widths at
 -- the level, with a large one those at the next; from one bound to the next at most one column has one more, since no two have one place. Where
--- they fill the room they are what the cutting leaves. Assumes nothing.
+-- they fill the room they are what the cutting leaves.
 use mathlib.Core.Path.{◌≡◌, refl, sym, ap, ◌∙◌}
 use mathlib.Core.Logic.{◌⊎◌, inl, inr}
 use mathlib.Core.List.{List, [], ◌∷◌, ◌++◌}
@@ -10,13 +10,13 @@ use native.Mathlib.Decide.{ℕ_discrete, dec_lt}
 use lib.ListN.{length, set, take, drop, length-set}
 use lib.Seq.{get_or-set_same, get_or-set_other, get_or-append-add, get_or-drop, length-take-le, ext_get_or}
 use borrow.Author.Tests.{lt-ltb, le-ltb}
-use Rattle.lists.specs.Lists.{sum}
-use Rattle.lists.specs.Limits.{max_lines}
-use Rattle.lists.proofs.Sum.{sum_set}
-use Rattle.lists.proofs.Write.{write_more, write_all}
+use Rattle.common.specs.Lists.{sum}
+use Rattle.common.specs.Limits.{max_lines}
+use Rattle.common.proofs.Sum.{sum_set}
+use Rattle.common.proofs.Write.{write_more, write_all}
 use Rattle.cutting.specs.Cut.{at, excess, gaps, cut, Below}
 use Rattle.cutting.specs.Level.{at_level, level_of}
-use Rattle.cutting.specs.inner.Fill.{Roomy, place, width_at, filled_from, filled}
+use Rattle.cutting.specs.inner.Fill.{HoldsLeasts, place, width_at, filled_from, filled}
 use Rattle.cutting.proofs.Sums.{sum_le, below_in, in_range, at_le_sum}
 use Rattle.cutting.proofs.Cut.{cut_held, cut_fills}
 use Rattle.cutting.proofs.Best.{find_below, unique}
@@ -82,15 +82,15 @@ filled_none ls ss t e =
     filled_later ls ss e t 0 i (omega (arith, length_filled ls ss e t 0)) (omega arith) ∙ sym (at_level_lem ls ss t e i))
 
 -- every place is below the bound, if no least passes the room
-pub filled_all : (ls ss : List ℕ) (t room : ℕ) → length ls ≡ length ss → sum ls ≤ room →
-    filled ls ss t (room * 4096 + 4096) ≡ at_level ls ss (suc t)
-filled_all ls ss t room e f =
+pub filled_all : (ls ss : List ℕ) (t capacity : ℕ) → length ls ≡ length ss → sum ls ≤ capacity →
+    filled ls ss t (capacity * 4096 + 4096) ≡ at_level ls ss (suc t)
+filled_all ls ss t capacity e f =
     ext_get_or 0 (filled ls ss t b) (at_level ls ss (suc t)) (length_filled ls ss e t b ∙ sym (length_level ls ss (suc t) e))
     (λ i h.
     filled_first ls ss e t b i (omega (arith, length_filled ls ss e t b)) (omega (arith, at_le_sum ls i)) ∙ sym (at_level_lem ls ss (suc t) e i))
   where
     b : ℕ
-    b = room * 4096 + 4096
+    b = capacity * 4096 + 4096
 
 -- one bound more
 
@@ -211,11 +211,11 @@ module _ (ls ss : List ℕ) (t b : ℕ) (below : Below ls ss) (few : length ss �
 
 -- where it fills the room it is what the cutting leaves
 
-pub filled_cut : (ls ss : List ℕ) (room t b : ℕ) → Roomy ls ss room → room < sum ss → sum (filled ls ss t b) ≡ room →
-    filled ls ss t b ≡ cut ls ss (room + gaps (length ss))
+pub filled_cut : (ls ss : List ℕ) (capacity t b : ℕ) → HoldsLeasts ls ss capacity → capacity < sum ss → sum (filled ls ss t b) ≡ capacity →
+    filled ls ss t b ≡ cut ls ss (capacity + gaps (length ss))
 unfolding ws
-filled_cut ls ss room t b r over full =
-    let w = room + gaps (length ss) in
+filled_cut ls ss capacity t b r over full =
+    let w = capacity + gaps (length ss) in
     let fits : sum ls + gaps (length ls) ≤ w = omega (arith, r.above.0, r.enough) in
     let c = cut_held ls ss w r.above fits in
     unique ls ss (filled ls ss t b) (cut ls ss w) (given_held ls ss t (filled ls ss t b) (filled_given ls ss t b r.above r.few)) c
@@ -223,9 +223,9 @@ filled_cut ls ss room t b r over full =
 
 -- the search of the level
 
-module _ (ls ss : List ℕ) (room : ℕ) (r : Roomy ls ss room) (over : room < sum ss) where
+module _ (ls ss : List ℕ) (capacity : ℕ) (r : HoldsLeasts ls ss capacity) (over : capacity < sum ss) where
   -- the level 0 leaves the leasts
-  pub level_low : sum (filled ls ss 0 0) ≤ room
+  pub level_low : sum (filled ls ss 0 0) ≤ capacity
   level_low =
       let e = r.above.0 in
       rw (filled_none ls ss 0 e)
@@ -236,34 +236,34 @@ module _ (ls ss : List ℕ) (room : ℕ) (r : Roomy ls ss room) (over : room < s
       ))
 
   -- a level above the room overflows it: at one column, or at all, which have their shares
-  pub level_high : room < sum (filled ls ss (suc room) 0)
-  level_high = go (dec_lt room (sum (filled ls ss (suc room) 0)))
+  pub level_high : capacity < sum (filled ls ss (suc capacity) 0)
+  level_high = go (dec_lt capacity (sum (filled ls ss (suc capacity) 0)))
     where
       e : length ls ≡ length ss
       e = r.above.0
 
-      each : sum (at_level ls ss (suc room)) ≤ room → (i : ℕ) → at ss i ≤ at (at_level ls ss (suc room)) i
-      each h i = omega (arith, at_level_lem ls ss (suc room) e i, at_le_sum (at_level ls ss (suc room)) i, r.above.1 i)
+      each : sum (at_level ls ss (suc capacity)) ≤ capacity → (i : ℕ) → at ss i ≤ at (at_level ls ss (suc capacity)) i
+      each h i = omega (arith, at_level_lem ls ss (suc capacity) e i, at_le_sum (at_level ls ss (suc capacity)) i, r.above.1 i)
 
-      go : Dec (room < sum (filled ls ss (suc room) 0)) → room < sum (filled ls ss (suc room) 0)
+      go : Dec (capacity < sum (filled ls ss (suc capacity) 0)) → capacity < sum (filled ls ss (suc capacity) 0)
       go (yes h) = h
       go (no h) =
-          let s : sum (at_level ls ss (suc room)) ≤ room = omega (arith, ap sum (filled_none ls ss (suc room) e)) in
-          absurd (omega (arith, sum_le ss (at_level ls ss (suc room)) (sym (length_level ls ss (suc room) e), each s)))
+          let s : sum (at_level ls ss (suc capacity)) ≤ capacity = omega (arith, ap sum (filled_none ls ss (suc capacity) e)) in
+          absurd (omega (arith, sum_le ss (at_level ls ss (suc capacity)) (sym (length_level ls ss (suc capacity) e), each s)))
 
   -- the number at which nothing overflows, and at the next something does
-  pub level_found : (u : ℕ) → sum (filled ls ss u 0) ≤ room → room < sum (filled ls ss (suc u) 0) → u ≡ level_of ls ss (room + gaps (length ss))
+  pub level_found : (u : ℕ) → sum (filled ls ss u 0) ≤ capacity → capacity < sum (filled ls ss (suc u) 0) → u ≡ level_of ls ss (capacity + gaps (length ss))
   level_found u h k =
       let e = r.above.0 in
-      level_is ls ss (room + gaps (length ss)) r.above (omega (arith, e, r.enough)) (omega arith) u
+      level_is ls ss (capacity + gaps (length ss)) r.above (omega (arith, e, r.enough)) (omega arith) u
       (omega (arith, ap sum (filled_none ls ss u e)))
       (omega (arith, ap sum (filled_none ls ss (suc u) e)))
 
   -- the search of the bound
 
-  module _ (t : ℕ) (q : t ≡ level_of ls ss (room + gaps (length ss))) where
+  module _ (t : ℕ) (q : t ≡ level_of ls ss (capacity + gaps (length ss))) where
     w : ℕ
-    w = room + gaps (length ss)
+    w = capacity + gaps (length ss)
 
     enough : sum ls + gaps (length ls) ≤ w
     unfolding w
@@ -273,17 +273,17 @@ module _ (ls ss : List ℕ) (room : ℕ) (r : Roomy ls ss room) (over : room < s
     unfolding w
     passes = omega arith
 
-    pub bound_low : sum (filled ls ss t 0) ≤ room
+    pub bound_low : sum (filled ls ss t 0) ≤ capacity
     unfolding w
     bound_low = rw (filled_none ls ss t r.above.0, q) (omega (arith, level_ok ls ss w r.above enough passes))
 
-    pub bound_high : room < sum (filled ls ss t (room * 4096 + 4096))
+    pub bound_high : capacity < sum (filled ls ss t (capacity * 4096 + 4096))
     unfolding w
     bound_high =
-        rw (filled_all ls ss t room r.above.0 r.enough, q) (omega (arith, level_next ls ss w r.above enough passes))
+        rw (filled_all ls ss t capacity r.above.0 r.enough, q) (omega (arith, level_next ls ss w r.above enough passes))
 
   -- the bound at which nothing overflows, and at the next something does
-  pub bound_found : (t b : ℕ) → sum (filled ls ss t b) ≤ room → room < sum (filled ls ss t (suc b)) → sum (filled ls ss t b) ≡ room
+  pub bound_found : (t b : ℕ) → sum (filled ls ss t b) ≤ capacity → capacity < sum (filled ls ss t (suc b)) → sum (filled ls ss t b) ≡ capacity
   bound_found t b h k = omega (arith, filled_step ls ss r.above.0 t b r.few)
 
 -- what the code keeps while it writes the widths over the shares: those up to i are written

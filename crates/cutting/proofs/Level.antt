@@ -1,5 +1,5 @@
 -- The rule of the level gives the widths of the cutting: at the level the widths lie between leasts and shares, each character left over keeps what
--- was cut above what is left, and at the end they fill the width; there is one such list. Assumes nothing.
+-- was cut above what is left, and at the end they fill the width; there is one such list.
 use mathlib.Core.Bool.{Bool, true, false, cond, not, ◌||◌, ◌&&◌, true≢false, false≢true}
 use mathlib.Core.Path.{◌≡◌, refl, sym, ap, ◌∙◌}
 use mathlib.Core.Logic.{◌≢◌}
@@ -12,10 +12,10 @@ use lib.Dec.{ltb, leb}
 use lib.ListN.{length, length-set}
 use lib.Seq.{get_or-set_same, get_or-set_other}
 use borrow.Author.Tests.{ltb-true, ltb-false, leb-true, leb-false}
-use Rattle.lists.specs.Lists.{sum}
-use Rattle.lists.proofs.Sum.{sum_set}
+use Rattle.common.specs.Lists.{sum}
+use Rattle.common.proofs.Sum.{sum_set}
 use Rattle.cutting.specs.Cut.{at, excess, gaps, cut, Below}
-use Rattle.cutting.specs.Level.{at_level, level_to, level_of, waits, heir, give_once, give_by, leveled, by_level}
+use Rattle.cutting.specs.Level.{at_level, level_to, level_of, waits, receiver, give_once, give_by, leveled, by_level}
 use Rattle.cutting.proofs.Sums.{sum_le, below_in, in_range, at_le_sum}
 use Rattle.cutting.proofs.Cut.{Held, cut_held, cut_none, cut_fills}
 use Rattle.cutting.proofs.Best.{unique}
@@ -101,11 +101,11 @@ module _ (ls ss : List ℕ) (t : ℕ) (ws : List ℕ) (n p : ℕ) (ih : (i : ℕ
   heir_step false b c e f g i h (yes q) w = absurd (waits_false ls ss t ws n e (rw q at w))
   heir_step false b c e f g i h (no q) w = ih i (omega arith) w
 
-heir_tops : (ls ss : List ℕ) (t : ℕ) (ws : List ℕ) (n i : ℕ) → i < n → Waits ls ss t ws i → Sooner ls ss t ws (heir ls ss t ws n) i
-unfolding heir
+heir_tops : (ls ss : List ℕ) (t : ℕ) (ws : List ℕ) (n i : ℕ) → i < n → Waits ls ss t ws i → Sooner ls ss t ws (receiver ls ss t ws n) i
+unfolding receiver
 heir_tops ls ss t ws zero i h w = absurd (not-suc-le-zero h)
 heir_tops ls ss t ws (suc n) i h w =
-    heir_step ls ss t ws n (heir ls ss t ws n) (heir_tops ls ss t ws n) _ _ _ refl refl refl i h (ℕ_discrete i n) w
+    heir_step ls ss t ws n (receiver ls ss t ws n) (heir_tops ls ss t ws n) _ _ _ refl refl refl i h (ℕ_discrete i n) w
 
 -- what holds while the characters left over are given
 
@@ -144,11 +144,11 @@ given_held ls ss t ws g =
 
 -- a column waits one as long as the widths are fewer than those of the next level
 heir_waits : (ls ss : List ℕ) (t : ℕ) (ws : List ℕ) → Given ls ss t ws → sum ws < sum (at_level ls ss (suc t)) →
-    Waits ls ss t ws (heir ls ss t ws (length ws))
+    Waits ls ss t ws (receiver ls ss t ws (length ws))
 heir_waits ls ss t ws g h = go (dec_lt t (excess ls ss p)) (dec_le (excess ls ws p) t)
   where
     p : ℕ
-    p = heir ls ss t ws (length ws)
+    p = receiver ls ss t ws (length ws)
 
     e : length ls ≡ length ss
     e = g.least.0 ∙ g.share.0
@@ -181,7 +181,7 @@ length_give_once ls ss t ws = length-set ws _ _
 
 module _ (ls ss : List ℕ) (t : ℕ) (ws : List ℕ) (g : Given ls ss t ws) (h : sum ws < sum (at_level ls ss (suc t))) where
   p : ℕ
-  p = heir ls ss t ws (length ws)
+  p = receiver ls ss t ws (length ws)
 
   p_waits : Waits ls ss t ws p
   unfolding p
@@ -304,17 +304,17 @@ module _ (ls ss : List ℕ) (width : ℕ) (b : Below ls ss) (fits : sum ls + gap
   t : ℕ
   t = level_of ls ss width
 
-  room : sum (at_level ls ss t) + (width - (sum (at_level ls ss t) + gaps (length (at_level ls ss t)))) ≤ sum (at_level ls ss (suc t))
+  capacity : sum (at_level ls ss t) + (width - (sum (at_level ls ss t) + gaps (length (at_level ls ss t)))) ≤ sum (at_level ls ss (suc t))
   unfolding t
-  room = omega (arith, level_ok, level_next, length_level ls ss t b.0)
+  capacity = omega (arith, level_ok, level_next, length_level ls ss t b.0)
 
   leveled_given : Given ls ss t (leveled ls ss width)
   unfolding leveled t
-  leveled_given = given_by _ ls ss t (at_level ls ss t) room (given_level ls ss t b)
+  leveled_given = given_by _ ls ss t (at_level ls ss t) capacity (given_level ls ss t b)
 
   leveled_sum : sum (leveled ls ss width) + gaps (length ss) ≡ width
   unfolding leveled t
-  leveled_sum = omega (arith, level_ok, length_level ls ss t b.0, sum_give_by _ ls ss t (at_level ls ss t) room (given_level ls ss t b))
+  leveled_sum = omega (arith, level_ok, length_level ls ss t b.0, sum_give_by _ ls ss t (at_level ls ss t) capacity (given_level ls ss t b))
 
   pub leveled_cut : leveled ls ss width ≡ cut ls ss width
   leveled_cut =

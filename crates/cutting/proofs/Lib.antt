@@ -4,6 +4,6 @@ pub mod Columns
 pub mod Picked
 pub mod Cut
 pub mod Best
-pub mod Kept
+pub mod LoopFacts
 pub mod Level
 pub mod Fill

@@ -1,4 +1,4 @@
--- Two lists of one length read together from the front: what is left of each, and the figure that a turn reads. Assumes nothing.
+-- Two lists of one length read together from the front: what is left of each, and the figure that a turn reads.
 use mathlib.Core.Path.{◌≡◌, sym, ap, ◌∙◌}
 use mathlib.Core.List.{List, [], ◌∷◌}
 use Prim.Native.Nat.{ℕ, suc, ◌+◌, ◌≤◌, ◌<◌}

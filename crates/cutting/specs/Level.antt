@@ -1,6 +1,6 @@
--- Cutting by one level: the rule by which widths are worked out on paper. ls are the leasts, ss the shares. These are definitions; nothing is assumed.
+-- Cutting by one level: the rule by which widths are worked out on paper. ls are the leasts, ss the shares.
 use Rattle.std.specs.Prelude.{Bool, cond, not, ◌||◌, ◌&&◌, List, [], ◌∷◌, ℕ, zero, suc, ◌+◌, ◌-◌, min, ltb, leb, length, set}
-use Rattle.lists.specs.Lists.{sum}
+use Rattle.common.specs.Lists.{sum}
 use Rattle.cutting.specs.Cut.{at, excess, gaps}
 
 -- the widths at level t: each column's excess over its least is the smaller of its share's excess and t
@@ -29,16 +29,16 @@ abbrev pub waits : List ℕ → List ℕ → ℕ → List ℕ → ℕ → Bool
 waits ls ss t ws i = ltb t (excess ls ss i) && leb (excess ls ws i) t
 
 -- column i has it rather than column b, which stands before it: the smaller least, or the same, since it is the higher column
-abbrev pub sooner : List ℕ → List ℕ → ℕ → List ℕ → ℕ → ℕ → Bool
-sooner ls ss t ws i b = waits ls ss t ws i && (not (waits ls ss t ws b) || leb (at ls i) (at ls b))
+abbrev pub receives_before : List ℕ → List ℕ → ℕ → List ℕ → ℕ → ℕ → Bool
+receives_before ls ss t ws i b = waits ls ss t ws i && (not (waits ls ss t ws b) || leb (at ls i) (at ls b))
 
 -- the column, of the first n, that has the next of them
-unfoldable pub heir : List ℕ → List ℕ → ℕ → List ℕ → ℕ → ℕ
-heir ls ss t ws zero = zero
-heir ls ss t ws (suc n) = cond (sooner ls ss t ws n (heir ls ss t ws n)) n (heir ls ss t ws n)
+unfoldable pub receiver : List ℕ → List ℕ → ℕ → List ℕ → ℕ → ℕ
+receiver ls ss t ws zero = zero
+receiver ls ss t ws (suc n) = cond (receives_before ls ss t ws n (receiver ls ss t ws n)) n (receiver ls ss t ws n)
 
 unfoldable pub give_once : List ℕ → List ℕ → ℕ → List ℕ → List ℕ
-give_once ls ss t ws = set ws (heir ls ss t ws (length ws)) (suc (at ws (heir ls ss t ws (length ws))))
+give_once ls ss t ws = set ws (receiver ls ss t ws (length ws)) (suc (at ws (receiver ls ss t ws (length ws))))
 
 unfoldable pub give_by : ℕ → List ℕ → List ℕ → ℕ → List ℕ → List ℕ
 give_by zero ls ss t ws = ws

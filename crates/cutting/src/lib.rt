@@ -4,11 +4,11 @@
 #![tactic(auto)]
 
 ghost use Rattle.std.specs.Prelude.{◌≡◌, ◌||◌, ◌&&◌, ◌+◌, ◌-◌, ◌≤◌, ◌<◌, ltb, eqb, length};
-ghost use Rattle.lists.specs.Lists.{sum};
-ghost use Rattle.lists.specs.Limits.{max_lines};
+ghost use Rattle.common.specs.Lists.{sum};
+ghost use Rattle.common.specs.Limits.{max_lines};
 ghost use Rattle.cutting.specs.Cut.{pick, cut, gaps, Below};
 ghost use Rattle.cutting.specs.Level.{level_of};
-ghost use Rattle.cutting.specs.inner.Fill.{Summed, Cuttable, Roomy, place, width_at, filled};
+ghost use Rattle.cutting.specs.inner.Fill.{Summed, CutWidthsPre, HoldsLeasts, place, width_at, filled};
 
 use std::cmp::Ordering;
 
@@ -60,12 +60,12 @@ fn pick_column(leasts: &[u32], wide: &[u32]) -> usize
 }
 
 // The loop of `render_table_tree` that takes one character at a time until the widths, whose sum is given, fit the room beside their gaps.
-fn cut_one_by_one(leasts: &[u32], room: u64, all: u64, wide: &mut [u32])
-    requires roomy { Roomy leasts.now wide.old room }
+fn cut_one_by_one(leasts: &[u32], capacity: u64, all: u64, wide: &mut [u32])
+    requires holds_leasts { HoldsLeasts leasts.now wide.old capacity }
     requires summed { Summed wide.old all }
-    ensures { wide.new ≡ cut leasts.now wide.old (room + gaps (length wide.old)) }
+    ensures { wide.new ≡ cut leasts.now wide.old (capacity + gaps (length wide.old)) }
 {
-    for _ in room..all {
+    for _ in capacity..all {
         let p = pick_column(leasts, wide);
         wide[p] -= 1;
     }
@@ -99,9 +99,9 @@ fn width_at(i: usize, least: u32, share: u32, level: u32, bound: u64) -> u32
 struct Tight<'a> {
     leasts: &'a [u32],
     shares: &'a [u32],
-    room: u32,
-    ghost roomy: { Roomy leasts.now shares.now room },
-    ghost over: { room < sum shares.now },
+    capacity: u32,
+    ghost holds_leasts: { HoldsLeasts leasts.now shares.now capacity },
+    ghost over: { capacity < sum shares.now },
 }
 
 impl Tight<'_> {
@@ -119,14 +119,14 @@ impl Tight<'_> {
 
     // The level, by halving: at lo nothing overflows the room, above hi something does. No level above the room fits it.
     fn level(&self) -> u32
-        ensures { result ≡ level_of self.now.leasts.now self.now.shares.now (self.now.room + gaps (length self.now.shares.now)) }
+        ensures { result ≡ level_of self.now.leasts.now self.now.shares.now (self.now.capacity + gaps (length self.now.shares.now)) }
     {
         let mut lo: u32 = 0;
-        let mut hi = self.room;
+        let mut hi = self.capacity;
         // A while: each turn halves what is left between the two, so no range or list gives the turns.
         while lo < hi {
             let mid = hi - (hi - lo) / 2;
-            if self.total_at(mid, 0) <= u64::from(self.room) {
+            if self.total_at(mid, 0) <= u64::from(self.capacity) {
                 lo = mid;
             } else {
                 hi = mid - 1;
@@ -137,10 +137,10 @@ impl Tight<'_> {
 
     // The bound at which the widths fill the room, by halving. From one bound to the next at most one column has one more, so none is skipped.
     fn bound(&self, level: u32) -> u64
-        requires { level ≡ level_of self.now.leasts.now self.now.shares.now (self.now.room + gaps (length self.now.shares.now)) }
-        ensures { sum (filled self.now.leasts.now self.now.shares.now level result) ≡ self.now.room }
+        requires { level ≡ level_of self.now.leasts.now self.now.shares.now (self.now.capacity + gaps (length self.now.shares.now)) }
+        ensures { sum (filled self.now.leasts.now self.now.shares.now level result) ≡ self.now.capacity }
     {
-        let full = u64::from(self.room);
+        let full = u64::from(self.capacity);
         let mut lo: u64 = 0;
         let mut hi = full * 4096 + 4096;
         // A while: it halves too, and it can end where the room is met.
@@ -170,15 +170,15 @@ fn fill_widths(leasts: &[u32], level: u32, bound: u64, wide: &mut [u32])
 }
 
 // The widths by the level, where the shares overflow the room: a number of looks at the columns that does not grow with what is to be cut.
-fn cut_by_level(leasts: &[u32], room: u32, wide: &mut [u32])
-    requires roomy { Roomy leasts.now wide.old room }
-    requires room_bound { room < sum wide.old }
-    ensures { wide.new ≡ cut leasts.now wide.old (room + gaps (length wide.old)) }
+fn cut_by_level(leasts: &[u32], capacity: u32, wide: &mut [u32])
+    requires holds_leasts { HoldsLeasts leasts.now wide.old capacity }
+    requires room_bound { capacity < sum wide.old }
+    ensures { wide.new ≡ cut leasts.now wide.old (capacity + gaps (length wide.old)) }
 {
     let tight = Tight {
         leasts,
         shares: &*wide,
-        room,
+        capacity,
     };
     let level = tight.level();
     let bound = tight.bound(level);
@@ -187,14 +187,14 @@ fn cut_by_level(leasts: &[u32], room: u32, wide: &mut [u32])
 
 // What the loop of `render_table_tree` that takes one character at a time leaves: nothing is cut where the widths fit with their gaps.
 pub fn cut_widths(leasts: &[u32], width: u32, wide: &mut [u32])
-    requires { Cuttable leasts.now wide.old width }
+    requires { CutWidthsPre leasts.now wide.old width }
     ensures { wide.new ≡ cut leasts.now wide.old width }
 {
-    let room = u64::from(width) - gaps_of(wide.len());
+    let capacity = u64::from(width) - gaps_of(wide.len());
     let t = total(wide);
-    if t <= room + FEW {
-        cut_one_by_one(leasts, room, t, wide);
+    if t <= capacity + FEW {
+        cut_one_by_one(leasts, capacity, t, wide);
         return;
     }
-    cut_by_level(leasts, room as u32, wide);
+    cut_by_level(leasts, capacity as u32, wide);
 }

@@ -1,4 +1,4 @@
--- The turns of `cell`, and what `node` makes of a line once all below it is passed. Assumes nothing.
+-- The turns of `cell`, and what `node` makes of a line once all below it is passed.
 use mathlib.Core.Path.{◌≡◌, refl, sym, ap, ◌∙◌}
 use mathlib.Core.Bool.{Bool, true, false, cond, true≢false}
 use mathlib.Core.List.{List}
@@ -7,15 +7,15 @@ use native.Mathlib.Omega.{arith}
 use native.Mathlib.Decide.{dec_lt}
 use lib.Dec.{eqb}
 use lib.ListN.{length, get_or, drop, set}
-use Rattle.lists.specs.Limits.{max_size}
+use Rattle.common.specs.Limits.{max_size}
 use Rattle.text.specs.declared.Estimate.{Estimate}
 use Rattle.kinds.specs.Kinds.{kind_number, table_kind, break_kind, link_kind, has_text, is_leaf}
-use Rattle.records.specs.declared.Kept.{Kept}
+use Rattle.records.specs.declared.NodeRecord.{NodeRecord}
 use Rattle.records.specs.declared.Entry.{Entry}
 use Rattle.records.specs.declared.RowEnd.{RowEnd}
 use Rattle.estimates.specs.Estimates.{estimate, none, Children, gather, leaf_of, prefix_of, holder_of}
-use Rattle.estimates.specs.Sheet.{Sheet, line_at}
-use Rattle.estimates.specs.inner.Cycle.{NodeReady, Ends, Passed, Plain, Holder, Numbered, Fitting, NodeMeets, CellMeets, est_at, done_of, held_at, held_of, weight}
+use Rattle.estimates.specs.inner.Sheet.{Sheet, line_at}
+use Rattle.estimates.specs.inner.Cycle.{NodeReady, Ends, Passed, Plain, Holder, Numbered, Fitting, NodeMeets, CellPost, est_at, done_of, held_at, held_of, weight}
 use Rattle.estimates.specs.declared.Part.{Part}
 use Rattle.estimates.proofs.Laws.{gather_stop, gather_child}
 use Rattle.estimates.proofs.ByKind.{leaf_est, holder_est}
@@ -25,7 +25,7 @@ use Rattle.estimates.proofs.Weighing.{weight_more, fits}
 use Rattle.estimates.proofs.Passing.{step, stored, begin}
 
 -- slices as the walk takes them: each line has a result, and a call for another line finds them so again
-module _ {lines : List Kept} {figures : List Estimate} {leasts : List ℕ} {entries : List Entry} {rows : List RowEnd} {at : ℕ} (r : NodeReady lines figures leasts entries rows at) where
+module _ {lines : List NodeRecord} {figures : List Estimate} {leasts : List ℕ} {entries : List Entry} {rows : List RowEnd} {at : ℕ} (r : NodeReady lines figures leasts entries rows at) where
   pub inside : {i : ℕ} → i < length lines → i < length lines
   inside h = omega arith
 
@@ -40,12 +40,12 @@ module _ {lines : List Kept} {figures : List Estimate} {leasts : List ℕ} {entr
     tables = rw g r.tables;
     figures_fit = rw e r.figures_fit;
     scratch = omega (arith, r.scratch);
-    row_room = rw h r.row_room;
+    row_capacity = rw h r.row_capacity;
     within = k;
   }
 
 -- at line i, the children passed come to `sum`, `most` and `children`
-pub record CellLoop (wrap : ℕ) (ls : List Kept) (b c : List Estimate) (at sum most children i : ℕ) : Type 0 where
+pub record CellLoop (wrap : ℕ) (ls : List NodeRecord) (b c : List Estimate) (at sum most children i : ℕ) : Type 0 where
   pub passed : Passed ls (done_of wrap ls) b c at (at + 1) i
   pub next : Ends ls ((line_at ls at).depth + 1) i
   pub whole : gather (line_at ls at).depth (record { est = estimate sum most 0; count = children }) (drop i (done_of wrap ls)) ≡ held_at wrap ls at
@@ -53,7 +53,7 @@ pub record CellLoop (wrap : ℕ) (ls : List Kept) (b c : List Estimate) (at sum 
   pub small : sum + weight ls (at + 1) ≤ weight ls i
   pub least_size : most ≤ sum
 
-module _ {wrap : ℕ} {ls : List Kept} {b : List Estimate} {at : ℕ} where
+module _ {wrap : ℕ} {ls : List NodeRecord} {b : List Estimate} {at : ℕ} where
   pub cell_start : Sheet ls → Passed ls (done_of wrap ls) b b at (at + 1) (at + 1) → CellLoop wrap ls b b at 0 0 0 (at + 1)
   cell_start w p = record {
     passed = p;
@@ -95,7 +95,7 @@ module _ {wrap : ℕ} {ls : List Kept} {b : List Estimate} {at : ℕ} where
   cell_fits {sum = sum} {i = i} w c = (fits w (at + 1) i sum c.passed.within c.small, omega (arith, c.few, c.passed.within, w.short))
 
   pub cell_end : {c : List Estimate} {sum most children i : ℕ} → CellLoop wrap ls b c at sum most children i → Ends ls (line_at ls at).depth i
-      → CellMeets wrap ls b c at (record { after = i; size = sum; least = most; children = children })
+      → CellPost wrap ls b c at (record { after = i; size = sum; least = most; children = children })
   cell_end {sum = sum} {most = most} {children = children} {i = i} c e = record {
     passed = c.passed;
     ends = e;
@@ -106,7 +106,7 @@ module _ {wrap : ℕ} {ls : List Kept} {b : List Estimate} {at : ℕ} where
   }
 
 -- a line that `node` takes and that is neither leaf nor table
-pub plain_holder : {l read : Kept} → read ≡ l → Plain l → is_leaf read.kind ≡ false → (kind_number read.kind ≡ table_kind → ⊥) → Holder l
+pub plain_holder : {l read : NodeRecord} → read ≡ l → Plain l → is_leaf read.kind ≡ false → (kind_number read.kind ≡ table_kind → ⊥) → Holder l
 plain_holder f p l t = record {
   leaf = rw (← f) l;
   table = rw (← f) t;
@@ -115,7 +115,7 @@ plain_holder f p l t = record {
 }
 
 -- a leaf is sound, and no larger than its weight
-leaf_sound : (wrap : ℕ) (l : Kept) → ((leaf_of wrap l).least ≤ (leaf_of wrap l).size) × ((leaf_of wrap l).size ≤ l.own + 1)
+leaf_sound : (wrap : ℕ) (l : NodeRecord) → ((leaf_of wrap l).least ≤ (leaf_of wrap l).size) × ((leaf_of wrap l).size ≤ l.own + 1)
 unfolding leaf_of
 leaf_sound wrap l = go (has_text l.kind) (eqb (kind_number l.kind) break_kind)
   where
@@ -129,7 +129,7 @@ leaf_sound wrap l = go (has_text l.kind) (eqb (kind_number l.kind) break_kind)
     go false false = omega arith
 
 -- a line over a part adds at most 13 to it
-holder_sound : (l : Kept) (p : Part) → Numbered l p.children → p.least ≤ p.size
+holder_sound : (l : NodeRecord) (p : Part) → Numbered l p.children → p.least ≤ p.size
     → ((holder_of l (held_of p)).least ≤ (holder_of l (held_of p)).size) × ((holder_of l (held_of p)).size ≤ p.size + 13)
 unfolding holder_of
 holder_sound l p n h = go (eqb (kind_number l.kind) link_kind)
@@ -144,7 +144,7 @@ holder_sound l p n h = go (eqb (kind_number l.kind) link_kind)
     go true = omega arith
     go false = omega (arith, prefix_small l p.children n)
 
-module _ {wrap : ℕ} {ls : List Kept} {b : List Estimate} {at : ℕ} (sheet : Sheet ls) (within : at < length ls) where
+module _ {wrap : ℕ} {ls : List NodeRecord} {b : List Estimate} {at : ℕ} (sheet : Sheet ls) (within : at < length ls) where
   -- a line's own store, with an estimate e that its weight bears
   pub meets : {c c' : List Estimate} {e : Estimate} {r : ℕ} → Passed ls (done_of wrap ls) b c at (at + 1) r → Ends ls (line_at ls at).depth r
       → e ≡ est_at (done_of wrap ls) at → e.size + weight ls at ≤ weight ls r → e.least ≤ e.size → c' ≡ set c at e
@@ -157,7 +157,7 @@ module _ {wrap : ℕ} {ls : List Kept} {b : List Estimate} {at : ℕ} (sheet : S
         small = rw (← f) m;
       })
 
-  pub leaf_meets : {c' : List Estimate} {l : Kept} {e : Estimate} → length ls ≤ length b → l ≡ line_at ls at → is_leaf l.kind ≡ true → e ≡ leaf_of wrap l → c' ≡ set b at e
+  pub leaf_meets : {c' : List Estimate} {l : NodeRecord} {e : Estimate} → length ls ≤ length b → l ≡ line_at ls at → is_leaf l.kind ≡ true → e ≡ leaf_of wrap l → c' ≡ set b at e
       → NodeMeets wrap ls b c' at (at + 1)
   leaf_meets {l = l} {e = e} sized t k f s =
       let z = leaf_sound wrap l in
@@ -180,7 +180,7 @@ module _ {wrap : ℕ} {ls : List Kept} {b : List Estimate} {at : ℕ} (sheet : S
           absurd (true≢false (sym a ∙ p.holder))
 
   -- what `holder` takes
-  pub holder_ready : {c : List Estimate} {r : Part} {l : Kept} → l ≡ line_at ls at → CellMeets wrap ls b c at r → Numbered l r.children × Fitting r
+  pub holder_ready : {c : List Estimate} {r : Part} {l : NodeRecord} → l ≡ line_at ls at → CellPost wrap ls b c at r → Numbered l r.children × Fitting r
   holder_ready {r = r} t m = (
     rw t
         (record {
@@ -195,12 +195,12 @@ module _ {wrap : ℕ} {ls : List Kept} {b : List Estimate} {at : ℕ} (sheet : S
     },
   )
 
-  pub holder_meets : {c c' : List Estimate} {r : Part} {l : Kept} {e : Estimate} → l ≡ line_at ls at → Holder (line_at ls at) → CellMeets wrap ls b c at r
+  pub holder_meets : {c c' : List Estimate} {r : Part} {l : NodeRecord} {e : Estimate} → l ≡ line_at ls at → Holder (line_at ls at) → CellPost wrap ls b c at r
       → e ≡ holder_of l (held_of r) → c' ≡ set c at e → NodeMeets wrap ls b c' at r.after
   holder_meets {r = r} {l = l} {e = e} t k m f s =
       let z = holder_sound l r (holder_ready t m).0 m.least_size in
       let x : e.least ≤ e.size = rw f z.0 in
       let g : e.size ≤ r.size + 13 = rw f z.1 in
       let y : e ≡ est_at (done_of wrap ls) at
-      = f ∙ ap (λ (a : Kept). holder_of a (held_of r)) t ∙ ap (λ (h : Children). holder_of (line_at ls at) h) m.held ∙ holder_est wrap ls at within k in
+      = f ∙ ap (λ (a : NodeRecord). holder_of a (held_of r)) t ∙ ap (λ (h : Children). holder_of (line_at ls at) h) m.held ∙ holder_est wrap ls at within k in
       meets m.passed m.ends y (omega (arith, m.small, weight_more ls at)) x s

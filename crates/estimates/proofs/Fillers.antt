@@ -1,5 +1,5 @@
 -- A table's boxes by the records of its entries: a filler is not among them, and gives 0 to every column, so that sums and largest figures
--- stay; and what the cells add is at most their sizes. Assumes nothing.
+-- stay; and what the cells add is at most their sizes.
 use mathlib.Core.Path.{◌≡◌, refl, sym, ◌∙◌}
 use mathlib.Core.Bool.{Bool, true, false, cond}
 use mathlib.Core.List.{List, [], ◌∷◌, map, map-append}
@@ -9,8 +9,8 @@ use native.Mathlib.Omega.{arith}
 use lib.Dec.{eqb}
 use lib.ListN.{get_or}
 use borrow.Author.Tests.{ne_eqb}
-use Rattle.lists.specs.Lists.{sum, All}
-use Rattle.lists.proofs.All.{all_map}
+use Rattle.common.specs.Lists.{sum, All}
+use Rattle.common.proofs.All.{all_map}
 use Rattle.text.specs.declared.Estimate.{Estimate}
 use Rattle.columns.specs.Boxes.{Box, box, covers, flat}
 use Rattle.columns.specs.Columns.{least_of, gives, largest_at}
@@ -20,21 +20,21 @@ use Rattle.grid.specs.Grid.{Entry, GridRow, entries_of}
 use Rattle.grid.specs.Facts.{cell_owners}
 use Rattle.grid.specs.Judging.{shown}
 use Rattle.grid.proofs.GridFacts.{Within}
-use Rattle.estimates.specs.Estimates.{Done, undone, none, box_of, box_rows, tabled}
+use Rattle.estimates.specs.Estimates.{MeasuredNode, unmeasured, none, box_of, box_rows, tabled}
 use Rattle.estimates.specs.inner.Spread.{spread_cells, tabled_by, entry_boxes}
 use Rattle.estimates.proofs.Tabling.{spread_columns}
 
-pub flat_boxes : (t : ℕ) (rest : List Done) (g : List GridRow) → flat (box_rows t rest g) ≡ map (box_of t rest) (entries_of g)
+pub flat_boxes : (t : ℕ) (rest : List MeasuredNode) (g : List GridRow) → flat (box_rows t rest g) ≡ map (box_of t rest) (entries_of g)
 unfolding flat entries_of
 flat_boxes t rest [] = refl
 flat_boxes t rest (r ∷ g) = rw (flat_boxes t rest g) (sym (map-append (box_of t rest) r.entries (entries_of g)))
 
 -- the estimate of an entry's cell stands in es as among the lines after line t
-pub record Estimated (t : ℕ) (rest : List Done) (es : List Estimate) (e : Entry) : Type 0 where
+pub record Estimated (t : ℕ) (rest : List MeasuredNode) (es : List Estimate) (e : Entry) : Type 0 where
   pub owned : e.filler ≡ false → 1 ≤ e.owner
-  pub same : e.filler ≡ false → get_or es (e.owner - 1) none ≡ (get_or rest (e.owner - suc t) undone).est
+  pub same : e.filler ≡ false → get_or es (e.owner - 1) none ≡ (get_or rest (e.owner - suc t) unmeasured).est
 
-module _ (t : ℕ) (rest : List Done) (es : List Estimate) where
+module _ (t : ℕ) (rest : List MeasuredNode) (es : List Estimate) where
   -- a figure of boxes to which an empty box adds nothing
   record Figure (f : List Box → ℕ) : Type 0 where
     pub empty : (first span : ℕ) (bs : List Box) → f (box first span 0 0 ∷ bs) ≡ f bs
@@ -46,10 +46,10 @@ module _ (t : ℕ) (rest : List Done) (es : List Estimate) where
   by_records f z (e ∷ xs) a = go e.filler refl (by_records f z xs a.1)
     where
       size : ℕ
-      size = (get_or rest (e.owner - suc t) undone).est.size
+      size = (get_or rest (e.owner - suc t) unmeasured).est.size
 
       least : ℕ
-      least = (get_or rest (e.owner - suc t) undone).est.least
+      least = (get_or rest (e.owner - suc t) unmeasured).est.least
 
       listed : List Box
       listed = entry_boxes es (map shown xs)

@@ -1,5 +1,5 @@
 -- The turns of `table`: a body, a row or a cell that holds nothing, a cell with all below it, and the end, where its cells are measured and spread
--- over its columns. Assumes nothing.
+-- over its columns.
 use mathlib.Core.Path.{◌≡◌, sym, ap, ◌∙◌}
 use mathlib.Core.Bool.{Bool, false}
 use mathlib.Core.List.{List}
@@ -10,26 +10,27 @@ use lib.ListN.{length, get_or, set, drop, get_or-map}
 use lib.Seq.{get_or-drop}
 use Rattle.records.specs.declared.RowEnd.{RowEnd}
 use Rattle.records.specs.declared.Entry as declared
-use Rattle.lists.specs.Lists.{sum}
-use Rattle.lists.specs.Limits.{max_position}
-use Rattle.lists.proofs.All.{all_weaken}
+use Rattle.common.specs.Lists.{sum}
+use Rattle.common.specs.Limits.{max_position}
+use Rattle.common.proofs.All.{all_weaken}
 use Rattle.text.specs.declared.Estimate.{Estimate}
 use Rattle.kinds.specs.Kinds.{kind_number, table_kind, cell_kind}
-use Rattle.records.specs.declared.Kept.{Kept}
+use Rattle.records.specs.declared.NodeRecord.{NodeRecord}
 use Rattle.columns.specs.Boxes.{Box}
-use Rattle.cells.specs.Listed.{table_rows}
-use Rattle.positions.specs.Positions.{all_rows, entry_count}
+use Rattle.resolved_rows.specs.Listed.{table_rows}
+use Rattle.grid_positions.specs.Positions.{all_rows, entry_count}
 use Rattle.grid.specs.Grid as grid
 use Rattle.grid.specs.Grid.{Entry, grid_of, columns_of}
 use Rattle.grid.specs.Facts.{Sound, CellOf}
 use Rattle.grid.specs.Judging.{Lined}
 use Rattle.grid.proofs.GridFacts.{grid_columns}
 use Rattle.grid.proofs.GridCells.{IsCell, entries_cells, held_owners}
-use Rattle.estimates.specs.Estimates.{estimate, none, undone, est_of, estimates, Children}
-use Rattle.estimates.specs.Sheet.{Sheet, line_at}
-use Rattle.estimates.specs.Meets.{Bounded, CellsMeasured}
-use Rattle.estimates.specs.inner.Spread.{spread_cells, tabled_by, entry_boxes, records_at, FiguresReady, Tabulated}
-use Rattle.estimates.specs.inner.Cycle.{NodeReady, Ends, Passed, FilledAt, Holder, CellsPassed, NodeMeets, CellMeets, est_at, done_of, held_at, weight, size_in, sizes_of, sizes_from}
+use Rattle.estimates.specs.Estimates.{estimate, none, unmeasured, est_of, estimates, Children}
+use Rattle.estimates.specs.inner.Sheet.{Sheet, line_at}
+use Rattle.estimates.specs.Meets.{Bounded}
+use Rattle.estimates.specs.inner.Meets.{CellsMeasured}
+use Rattle.estimates.specs.inner.Spread.{spread_cells, tabled_by, entry_boxes, records_at, TableFiguresPre, Tabulated}
+use Rattle.estimates.specs.inner.Cycle.{NodeReady, Ends, Passed, IsFilledPost, Holder, BelowTablePost, NodeMeets, CellPost, est_at, done_of, held_at, weight, size_in, sizes_of, sizes_from}
 use Rattle.estimates.specs.declared.Part.{Part}
 use Rattle.estimates.proofs.Laws.{cells_stop, cells_skip, cells_cell}
 use Rattle.estimates.proofs.ByKind.{body_est, row_est, table_est, holder_est, cell_plain}
@@ -42,13 +43,13 @@ use Rattle.estimates.proofs.Passing.{step, stored, begin}
 use Rattle.estimates.proofs.Children.{cell_start, cell_end, meets}
 
 -- at line i: the cells passed weigh no more than the lines passed
-pub record TableLoop (wrap : ℕ) (ls : List Kept) (b c : List Estimate) (at i : ℕ) : Type 0 where
+pub record TableLoop (wrap : ℕ) (ls : List NodeRecord) (b c : List Estimate) (at i : ℕ) : Type 0 where
   pub passed : Passed ls (done_of wrap ls) b c at (at + 1) i
   pub next : Ends ls ((line_at ls at).depth + 3) i
   pub frame : (k : ℕ) → at < k → k < i → Framed (line_at ls at).depth (line_at ls k).depth (kind_number (line_at ls k).kind)
   pub small : sizes_from wrap ls (line_at ls at).depth (at + 1) + weight ls (at + 1) ≤ sizes_from wrap ls (line_at ls at).depth i + weight ls i
 
-module _ {wrap : ℕ} {ls : List Kept} {b : List Estimate} {at : ℕ} (w : Sheet ls) where
+module _ {wrap : ℕ} {ls : List NodeRecord} {b : List Estimate} {at : ℕ} (w : Sheet ls) where
   module _ (t : kind_number (line_at ls at).kind ≡ table_kind) {c : List Estimate} {i : ℕ} (l : TableLoop wrap ls b c at i) (h : i < length ls)
       (u : (line_at ls at).depth < (line_at ls i).depth) where
     framed_here : Framed (line_at ls at).depth (line_at ls i).depth (kind_number (line_at ls i).kind)
@@ -89,7 +90,7 @@ module _ {wrap : ℕ} {ls : List Kept} {b : List Estimate} {at : ℕ} (w : Sheet
     pub table_cell : kind_number (line_at ls i).kind ≡ cell_kind → Holder (line_at ls i)
     table_cell e = record { leaf = rw e; table = omega arith; body = omega arith; row = omega arith }
 
-    pub table_again : {c' c'' : List Estimate} {p : Part} → kind_number (line_at ls i).kind ≡ cell_kind → CellMeets wrap ls c c' i p → c'' ≡ set c' i (estimate p.size p.least 0)
+    pub table_again : {c' c'' : List Estimate} {p : Part} → kind_number (line_at ls i).kind ≡ cell_kind → CellPost wrap ls c c' i p → c'' ≡ set c' i (estimate p.size p.least 0)
         → TableLoop wrap ls b c'' at p.after
     unfolding sum
     table_again {p = p} e m s =
@@ -129,7 +130,7 @@ module _ {wrap : ℕ} {ls : List Kept} {b : List Estimate} {at : ℕ} (w : Sheet
     table_bare e z s = table_again e (cell_end (cell_start w (begin (done_of wrap ls) l.passed.sized h)) z) s
 
     -- a line that is passed without a call
-    pub table_unfilled : {r : Bool} {c'' : List Estimate} → FilledAt ls i r → r ≡ false → c'' ≡ set c i none → TableLoop wrap ls b c'' at (i + 1)
+    pub table_unfilled : {r : Bool} {c'' : List Estimate} → IsFilledPost ls i r → r ≡ false → c'' ≡ set c i none → TableLoop wrap ls b c'' at (i + 1)
     table_unfilled {c'' = c''} f e s = go (ℕ_discrete (kind_number (line_at ls i).kind) cell_kind)
       where
         go : Dec (kind_number (line_at ls i).kind ≡ cell_kind) → TableLoop wrap ls b c'' at (i + 1)
@@ -137,13 +138,13 @@ module _ {wrap : ℕ} {ls : List Kept} {b : List Estimate} {at : ℕ} (w : Sheet
         go (no k) = rw s (table_frame k)
 
   -- the end: all below the table is passed
-  pub table_stop : {c : List Estimate} {i : ℕ} → TableLoop wrap ls b c at i → Ends ls (line_at ls at).depth i → CellsPassed wrap ls b c at i
+  pub table_stop : {c : List Estimate} {i : ℕ} → TableLoop wrap ls b c at i → Ends ls (line_at ls at).depth i → BelowTablePost wrap ls b c at i
   unfolding sum
   table_stop {i = i} l ends =
       record { passed = l.passed; ends = ends; small = omega (arith, l.small, ap (sizes_of wrap ls) (cells_stop ls (line_at ls at).depth i ends)) }
 
   -- the table's cells are measured
-  module _ {c : List Estimate} {i : ℕ} (l : CellsPassed wrap ls b c at i) where
+  module _ {c : List Estimate} {i : ℕ} (l : BelowTablePost wrap ls b c at i) where
     before_end : (k : ℕ) → CellOf ls at k → k < i
     before_end k o = go (dec_lt k i) (ℕ_discrete k i)
       where
@@ -160,7 +161,7 @@ module _ {wrap : ℕ} {ls : List Kept} {b : List Estimate} {at : ℕ} (w : Sheet
 
     pub below_end : length c ≡ length b → CellsMeasured wrap ls at b c
     below_end s =
-        let e : (k : ℕ) → get_or (estimates wrap ls) k none ≡ est_at (done_of wrap ls) k = λ k. get_or-map est_of (done_of wrap ls) k undone in
+        let e : (k : ℕ) → get_or (estimates wrap ls) k none ≡ est_at (done_of wrap ls) k = λ k. get_or-map est_of (done_of wrap ls) k unmeasured in
         record { cells = λ k o. cell_done k o ∙ sym (e k); sound = λ k o. rw (e k) (cell_sound k o); sized = s }
 
     -- and weigh no more than its lines
@@ -179,24 +180,24 @@ module _ {wrap : ℕ} {ls : List Kept} {b : List Estimate} {at : ℕ} (w : Sheet
           (λ e o h. ap (λ (x : Estimate). x.size) (cell_done (e.owner - 1) (o h).1)) entries (entries_cells z at a)) in
           omega (arith, s, ap (sizes_of wrap ls) (held_owners z at a), l.small)
 
-      figures_ready : {scratch m n : ℕ} → max_position ≤ scratch → entry_count (all_rows (table_rows ls at)) ≤ m → length ls ≤ n → FiguresReady ls at c scratch m n
+      figures_ready : {scratch m n : ℕ} → max_position ≤ scratch → entry_count (all_rows (table_rows ls at)) ≤ m → length ls ≤ n → TableFiguresPre ls at c scratch m n
       figures_ready p q r = record {
         within = a;
         lined = z;
         sound = g;
         measured = l.passed.sized;
         bounded = λ k o. rw (cell_done k o) (cell_sound k o).least_size;
-        room = omega (arith, fits w (at + 1) i (spread_cells bs) l.passed.within bounded);
-        column_room = p;
-        entry_room = q;
-        row_room = r;
+        capacity = omega (arith, fits w (at + 1) i (spread_cells bs) l.passed.within bounded);
+        column_capacity = p;
+        entry_capacity = q;
+        row_capacity = r;
       }
 
       -- the estimate of a cell among the lines after the table
-      after_table : (k : ℕ) → CellOf ls at k → get_or c k none ≡ (get_or (drop (suc at) (done_of wrap ls)) (k - suc at) undone).est
+      after_table : (k : ℕ) → CellOf ls at k → get_or c k none ≡ (get_or (drop (suc at) (done_of wrap ls)) (k - suc at) unmeasured).est
       after_table k o =
           let e : suc at + (k - suc at) ≡ k = omega (arith, o.before) in
-          cell_done k o ∙ sym (ap est_of (get_or-drop (suc at) (done_of wrap ls) (k - suc at) undone ∙ ap (λ (j : ℕ). get_or (done_of wrap ls) j undone) e))
+          cell_done k o ∙ sym (ap est_of (get_or-drop (suc at) (done_of wrap ls) (k - suc at) unmeasured ∙ ap (λ (j : ℕ). get_or (done_of wrap ls) j unmeasured) e))
 
       pub table_end : {c' : List Estimate} {e : Estimate} → kind_number (line_at ls at).kind ≡ table_kind → Tabulated (columns_of (table_rows ls at)) bs e → c' ≡ set c at e
           → NodeMeets wrap ls b c' at i
@@ -209,13 +210,13 @@ module _ {wrap : ℕ} {ls : List Kept} {b : List Estimate} {at : ℕ} (w : Sheet
           m.least_size s
 
 -- what the table's figures take, in slices
-pub table_ready : {wrap : ℕ} {lines : List Kept} {figures₀ : List Estimate} {leasts₀ : List ℕ} {entries₀ : List declared.Entry} {rows₀ : List RowEnd} {b : List Estimate} {at i scratch : ℕ} (figures : List Estimate) (es : List declared.Entry) (rs : List RowEnd)
-    → NodeReady lines figures₀ leasts₀ entries₀ rows₀ at → kind_number (line_at lines at).kind ≡ table_kind → CellsPassed wrap lines b figures at i
+pub table_ready : {wrap : ℕ} {lines : List NodeRecord} {figures₀ : List Estimate} {leasts₀ : List ℕ} {entries₀ : List declared.Entry} {rows₀ : List RowEnd} {b : List Estimate} {at i scratch : ℕ} (figures : List Estimate) (es : List declared.Entry) (rs : List RowEnd)
+    → NodeReady lines figures₀ leasts₀ entries₀ rows₀ at → kind_number (line_at lines at).kind ≡ table_kind → BelowTablePost wrap lines b figures at i
     → scratch ≡ length leasts₀ → length es ≡ length entries₀ → length rs ≡ length rows₀
-    → FiguresReady lines at figures scratch (length es) (length rs)
+    → TableFiguresPre lines at figures scratch (length es) (length rs)
 table_ready {lines = lines} {entries₀ = entries₀} {rows₀ = rows₀} {at = at} figures es rs r t l f g h =
     let a : at < length lines = omega (arith, r.within) in
     let x : length es ≡ length entries₀ = g in
     let y : length rs ≡ length rows₀ = h in
-    figures_ready r.sheet l r.lined (r.tables.sound at a t) a (omega (arith, r.scratch)) (omega (arith, r.tables.room at a t))
-    (omega (arith, r.row_room))
+    figures_ready r.sheet l r.lined (r.tables.sound at a t) a (omega (arith, r.scratch)) (omega (arith, r.tables.capacity at a t))
+    (omega (arith, r.row_capacity))

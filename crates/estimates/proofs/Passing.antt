@@ -1,4 +1,4 @@
--- The results while lines are passed: a turn over a line and all below it, and the line's own store at the end. Assumes nothing.
+-- The results while lines are passed: a turn over a line and all below it, and the line's own store at the end.
 use mathlib.Core.Path.{◌≡◌, refl, ◌∙◌}
 use mathlib.Core.List.{List}
 use Prim.Native.Nat.{ℕ, ◌+◌, ◌≤◌, ◌<◌}
@@ -7,13 +7,13 @@ use native.Mathlib.Decide.{dec_lt, ℕ_discrete}
 use lib.ListN.{length, get_or, set, length-set}
 use lib.Seq.{get_or-set_same, get_or-set_other}
 use Rattle.text.specs.declared.Estimate.{Estimate}
-use Rattle.records.specs.declared.Kept.{Kept}
-use Rattle.estimates.specs.Estimates.{Done, none}
-use Rattle.estimates.specs.Sheet.{line_at}
+use Rattle.records.specs.declared.NodeRecord.{NodeRecord}
+use Rattle.estimates.specs.Estimates.{MeasuredNode, none}
+use Rattle.estimates.specs.inner.Sheet.{line_at}
 use Rattle.estimates.specs.Meets.{Bounded}
 use Rattle.estimates.specs.inner.Cycle.{Passed, est_at}
 
-module _ {ls : List Kept} {es : List Done} {b c : List Estimate} {at : ℕ} where
+module _ {ls : List NodeRecord} {es : List MeasuredNode} {b c : List Estimate} {at : ℕ} where
   -- a turn: line i stands below `at`, and it was passed with all below it, up to r
   pub step : {c' : List Estimate} {i r : ℕ} → Passed ls es b c at (at + 1) i → (line_at ls at).depth < (line_at ls i).depth → Passed ls es c c' i i r
       → Passed ls es b c' at (at + 1) r
@@ -63,7 +63,7 @@ module _ {ls : List Kept} {es : List Done} {b c : List Estimate} {at : ℕ} wher
       right k p q (no u) = w.sound k (omega arith) q
 
 -- nothing is passed yet
-pub begin : {ls : List Kept} {b : List Estimate} {at : ℕ} (es : List Done) → length ls ≤ length b → at < length ls → Passed ls es b b at (at + 1) (at + 1)
+pub begin : {ls : List NodeRecord} {b : List Estimate} {at : ℕ} (es : List MeasuredNode) → length ls ≤ length b → at < length ls → Passed ls es b b at (at + 1) (at + 1)
 begin es z h = record {
   sized = z;
   after = omega arith;

@@ -1,5 +1,5 @@
 -- The loop of `spread_entries` on plain lists: what is passed, with the entries that are left, comes to the whole, in the sum and in
--- each column. Assumes nothing.
+-- each column.
 use mathlib.Core.Path.{◌≡◌, ap, ◌∙◌}
 use mathlib.Core.List.{List, ◌∷◌, ◌++◌, map}
 use Prim.Native.Nat.{ℕ, ◌+◌, ◌-◌, ◌*◌, ◌/◌, ◌≤◌, ◌<◌, ◌^◌, max}
@@ -9,9 +9,9 @@ use native.Mathlib.Omega.{arith}
 use lib.ListN.{length, get_or, take, drop, drop_of_length-le}
 use lib.Seq.{drop-cons}
 use borrow.Author.Tests.{eq-eqb, ne_eqb}
-use Rattle.lists.specs.Limits.{max_position}
+use Rattle.common.specs.Limits.{max_position}
 use Rattle.text.specs.declared.Estimate.{Estimate}
-use Rattle.records.specs.Kept.{no_entry}
+use Rattle.records.specs.inner.NodeRecord.{no_entry}
 use Rattle.records.specs.declared.Entry.{Entry}
 use Rattle.columns.specs.Boxes.{Box}
 use Rattle.columns.specs.Columns.{least_of, gives, largest_at}
@@ -19,7 +19,7 @@ use Rattle.columns.proofs.Upto.{is_up_to}
 use Rattle.columns.proofs.Mapped.{in_part, length_in_part, part_before, part_in, part_after}
 use Rattle.columns.proofs.Largest.{gives_before, gives_in, gives_after}
 use Rattle.estimates.specs.Estimates.{none}
-use Rattle.estimates.specs.inner.Spread.{spread_cells, Spreads, entry_box, entry_boxes, EntryFits}
+use Rattle.estimates.specs.inner.Spread.{spread_cells, SpreadEntriesPost, entry_box, entry_boxes, EntryFits}
 
 -- raising the columns of a box to its quotient
 module _ (b : Box) (xs : List ℕ) (fits : b.first + b.span ≤ length xs) where
@@ -42,7 +42,7 @@ pub record SpreadLoop (es : List Estimate) (xs : List Entry) (n all i : ℕ) (co
   pub most : (j : ℕ) → max (get_or columns j 0) (largest_at least_of (entry_boxes es (drop i xs)) j) ≡ largest_at least_of (entry_boxes es xs) j
 
 module _ {es : List Estimate} {xs : List Entry} {n all i : ℕ} {columns : List ℕ} (z : SpreadLoop es xs n all i columns) where
-  pub spread_stop : length xs ≤ i → Spreads (entry_boxes es xs) n all columns
+  pub spread_stop : length xs ≤ i → SpreadEntriesPost (entry_boxes es xs) n all columns
   unfolding spread_cells largest_at entry_boxes
   spread_stop h =
       let p = drop_of_length-le xs {i = i} h in

@@ -1,5 +1,5 @@
 -- A table's columns together: their largest least widths come to no more than what the cells give to all columns, because in each column the
--- largest is at most the sum. So a table's least width never passes its size. Assumes nothing.
+-- largest is at most the sum. So a table's least width never passes its size.
 use mathlib.Core.Path.{◌≡◌, refl, sym, ◌∙◌}
 use mathlib.Core.Bool.{Bool, true, false, cond}
 use mathlib.Core.List.{List, [], ◌∷◌, map}
@@ -8,18 +8,19 @@ use native.Mathlib.Omega.{arith}
 use lib.Dec.{eqb}
 use lib.ListN.{length, get_or}
 use borrow.Author.Tests.{eq-eqb, ne_eqb, eqb-false}
-use Rattle.lists.specs.Lists.{sum, All}
+use Rattle.common.specs.Lists.{sum, All}
 use Rattle.text.specs.declared.Estimate.{Estimate}
-use Rattle.columns.specs.Boxes.{Box, Measures}
+use Rattle.columns.specs.Boxes.{Box}
+use Rattle.columns.specs.inner.Boxes.{Measures}
 use Rattle.columns.specs.Columns.{size_of, least_of, largest_at, sum_at, largest, sums}
 use Rattle.columns.proofs.Upto.{length_up_to, below_up_to}
 use Rattle.columns.proofs.Listed.{Within}
 use Rattle.columns.proofs.Largest.{largest_least_size}
 use Rattle.columns.proofs.Summed.{sum_of_columns}
 use Rattle.estimates.specs.Estimates.{estimate, none}
-use Rattle.records.specs.Kept.{no_entry}
+use Rattle.records.specs.inner.NodeRecord.{no_entry}
 use Rattle.records.specs.declared.Entry.{Entry}
-use Rattle.estimates.specs.inner.Spread.{spread_cells, tabled_by, Spreads, Tabulated, entry_box, entry_boxes, EntryFits, SpreadReady}
+use Rattle.estimates.specs.inner.Spread.{spread_cells, tabled_by, SpreadEntriesPost, Tabulated, entry_box, entry_boxes, EntryFits, SpreadEntriesPre}
 
 sum_le : (xs ys : List ℕ) → length xs ≡ length ys → ((j : ℕ) → get_or xs j 0 ≤ get_or ys j 0) → sum xs ≤ sum ys
 unfolding sum
@@ -93,7 +94,7 @@ tabled_small columns bs = go (eqb columns 0)
 pub table_none : {columns wide : ℕ} (bs : List Box) → wide ≡ columns → wide ≡ 0 → Tabulated columns bs none
 table_none {columns} bs q e = record { est = sym (tabled_none columns bs (sym q ∙ e)); least_size = omega arith }
 
-module _ {bs : List Box} {n all : ℕ} {columns : List ℕ} (s : Spreads bs n all columns) where
+module _ {bs : List Box} {n all : ℕ} {columns : List ℕ} (s : SpreadEntriesPost bs n all columns) where
   pub table_some : {count wide least : ℕ} → wide ≡ count → n ≡ count → least ≡ sum columns → sum columns ≤ all → (wide ≡ 0 → ⊥)
       → Tabulated count bs (estimate (all + (wide - 1)) (least + (wide - 1)) 0)
   table_some {count} {wide} {least} q r l f e =
@@ -102,8 +103,8 @@ module _ {bs : List Box} {n all : ℕ} {columns : List ℕ} (s : Spreads bs n al
       record { est = rw (t, l, q, s.all, s.leasts, r); least_size = omega arith }
 
 -- what is added up in the scratch is at most the sum of the cells
-pub leasts_fit : {entries : List Entry} {figures : List Estimate} {n all : ℕ} {columns : List ℕ} → SpreadReady entries figures n
-    → Spreads (entry_boxes figures entries) n all columns → sum columns ≤ all
+pub leasts_fit : {entries : List Entry} {figures : List Estimate} {n all : ℕ} {columns : List ℕ} → SpreadEntriesPre entries figures n
+    → SpreadEntriesPost (entry_boxes figures entries) n all columns → sum columns ≤ all
 leasts_fit {entries} {figures} {n} r s =
     let b = boxes_fit figures n entries r.fit in
     rw (s.leasts, s.all) (leasts_le (entry_boxes figures entries) n b.0 b.1)

@@ -1,4 +1,4 @@
--- The walk from the first line goes over the whole sheet, so that every result is written. Assumes nothing.
+-- The walk from the first line goes over the whole sheet, so that every result is written.
 use mathlib.Core.Path.{◌≡◌, sym, ap, ◌∙◌}
 use mathlib.Core.List.{List, ◌++◌}
 use Prim.Native.Nat.{ℕ, ◌+◌, ◌-◌, ◌<◌}
@@ -7,14 +7,14 @@ use native.Mathlib.Decide.{dec_lt}
 use lib.ListN.{length, get_or, drop, length-map, length-append, length-drop, get_or-map, get_or-append}
 use lib.Seq.{ext_get_or, get_or-append-add, get_or-drop}
 use Rattle.text.specs.declared.Estimate.{Estimate}
-use Rattle.records.specs.declared.Kept.{Kept}
-use Rattle.estimates.specs.Estimates.{none, undone, est_of, estimates}
-use Rattle.estimates.specs.Sheet.{Sheet}
-use Rattle.estimates.specs.Meets.{Measured}
+use Rattle.records.specs.declared.NodeRecord.{NodeRecord}
+use Rattle.estimates.specs.Estimates.{none, unmeasured, est_of, estimates}
+use Rattle.estimates.specs.inner.Sheet.{Sheet}
+use Rattle.estimates.specs.inner.Meets.{Measured}
 use Rattle.estimates.specs.inner.Cycle.{NodeMeets, est_at, done_of}
 use Rattle.estimates.proofs.Laws.{length_all}
 
-module _ {wrap : ℕ} {ls : List Kept} {b c : List Estimate} {r : ℕ} (w : Sheet ls) (m : NodeMeets wrap ls b c 0 r) where
+module _ {wrap : ℕ} {ls : List NodeRecord} {b c : List Estimate} {r : ℕ} (w : Sheet ls) (m : NodeMeets wrap ls b c 0 r) where
   to_the_end : r ≡ length ls
   to_the_end = go (dec_lt r (length ls))
     where
@@ -23,7 +23,7 @@ module _ {wrap : ℕ} {ls : List Kept} {b c : List Estimate} {r : ℕ} (w : Shee
       go (no h) = omega (arith, m.passed.within)
 
   est_in : (k : ℕ) → get_or (estimates wrap ls) k none ≡ est_at (done_of wrap ls) k
-  est_in k = get_or-map est_of (done_of wrap ls) k undone
+  est_in k = get_or-map est_of (done_of wrap ls) k unmeasured
 
   many : length (estimates wrap ls) ≡ length ls
   many = length-map (done_of wrap ls) est_of ∙ length_all wrap ls

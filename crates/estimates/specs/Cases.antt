@@ -1,21 +1,21 @@
--- Whole sheets and their estimates, about the definitions. Assumes nothing.
+-- Whole sheets and their estimates, about the definitions.
 use Rattle.std.specs.Prelude.{◌≡◌, refl, [], ◌∷◌, ℕ}
-use Rattle.lists.specs.Lists.{sum, mem}
+use Rattle.common.specs.Lists.{sum, mem}
 use Rattle.text.specs.Decimal.{writing, digits, digits_in}
 use Rattle.text.specs.Prefix.{last_number, ol_prefix}
-use Rattle.records.specs.declared.Kept.{Kept}
+use Rattle.records.specs.declared.NodeRecord.{NodeRecord}
 use Rattle.kinds.specs.declared.Kind.{Kind}
 use Rattle.kinds.specs.declared.Kind.TheVariants.{Text, Link, Head, Div, Ul, Break, Table, Body, Row, Cell, Item}
 use Rattle.columns.specs.Boxes.{flat}
 use Rattle.columns.specs.Columns.{up_to, sum_at, largest_at}
-use Rattle.edges.specs.Edges.{count_below, ends_from}
-use Rattle.cells.specs.Cells.{frame, row_sum, widest, resolve_row, fill_body, cut_row, cut_body, resolve_body, resolved}
-use Rattle.rows.specs.Row.{fillers, later, row_from, hang_of, nexts}
-use Rattle.positions.specs.Positions.{originals}
+use Rattle.column_edges.specs.Edges.{count_below, ends_from}
+use Rattle.resolved_rows.specs.Cells.{frame, row_sum, widest, resolve_row, fill_body, cut_row, cut_body, resolve_body, resolved}
+use Rattle.grid_row.specs.Row.{fillers, later, row_from, hang_of, nexts}
+use Rattle.grid_positions.specs.Positions.{originals}
 use Rattle.grid.specs.Grid.{ends_of, entries_from, longest, grid_of, columns_of}
 use Rattle.estimates.specs.Estimates.{estimate, estimates, measured, estimate_of, leaf_of, holder_of, gather, prefix_of, box_of, tabled}
 
-abbrev ln : (depth : ℕ) (kind : Kind) (number cols rows own : ℕ) → Kept
+abbrev ln : (depth : ℕ) (kind : Kind) (number cols rows own : ℕ) → NodeRecord
 ln depth kind number cols rows own = record { depth = depth; kind = kind; cols = cols; rows = rows; number = number; own = own }
 
 -- lines with their estimates

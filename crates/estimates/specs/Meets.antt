@@ -1,15 +1,8 @@
--- What measuring a sheet takes and promises. These are definitions; nothing is assumed.
-use Rattle.std.specs.Prelude.{◌≡◌, List, ◌++◌, ℕ, ◌≤◌, ◌<◌, length, get_or, drop}
-use Rattle.lists.specs.Limits.{max_position, max_size}
+-- What measuring a sheet takes and promises.
+use Rattle.std.specs.Prelude.{List, ℕ, ◌≤◌, ◌<◌, length, get_or}
+use Rattle.common.specs.Limits.{max_size}
 use Rattle.text.specs.declared.Estimate.{Estimate}
-use Rattle.records.specs.declared.Kept.{Kept}
-use Rattle.records.specs.declared.Entry.{Entry}
-use Rattle.records.specs.declared.RowEnd.{RowEnd}
-use Rattle.grid.specs.Facts.{CellOf}
-use Rattle.grid.specs.Judging.{Lined}
-use Rattle.estimates.specs.Estimates.{none, estimates}
-use Rattle.estimates.specs.Tables.{TablesFit}
-use Rattle.estimates.specs.Sheet.{Sheet}
+use Rattle.estimates.specs.Estimates.{none}
 
 -- no size passes 33,554,432; least never passes size
 pub record Bounded (e : Estimate) : Type 0 where
@@ -19,23 +12,3 @@ pub record Bounded (e : Estimate) : Type 0 where
 -- and that of all
 abbrev pub AllBounded : List Estimate → Type 0
 AllBounded es = (k : ℕ) → k < length es → Bounded (get_or es k none)
-
--- a sheet whose tables are sound, results with a place for each line, and scratch for the columns, entries and rows of a table
-pub record Lent (ls : List Kept) (b : List Estimate) (leasts : List ℕ) (es : List Entry) (rs : List RowEnd) : Type 0 where
-  pub sheet : Sheet ls
-  pub lined : Lined ls
-  pub tables : TablesFit ls (length es)
-  pub results : length ls ≤ length b
-  pub scratch : max_position ≤ length leasts
-  pub row_room : length ls ≤ length rs
-
--- the estimates stand in the front of the results c, and what else was there stays
-pub record Measured (wrap : ℕ) (ls : List Kept) (b c : List Estimate) : Type 0 where
-  pub results : c ≡ estimates wrap ls ++ drop (length ls) b
-  pub sound : (k : ℕ) → k < length ls → Bounded (get_or (estimates wrap ls) k none)
-
--- the cells of the table at a place are measured, and the results keep their length
-pub record CellsMeasured (wrap : ℕ) (ls : List Kept) (at : ℕ) (b c : List Estimate) : Type 0 where
-  pub cells : (k : ℕ) → CellOf ls at k → get_or c k none ≡ get_or (estimates wrap ls) k none
-  pub sound : (k : ℕ) → CellOf ls at k → Bounded (get_or (estimates wrap ls) k none)
-  pub sized : length c ≡ length b

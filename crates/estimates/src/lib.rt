@@ -10,14 +10,14 @@ pub mod spread;
 
 ghost use Rattle.std.specs.Prelude.{◌≡◌, ◌<◌, length, get_or};
 ghost use Rattle.kinds.specs.Kinds.{kind_number, table_kind};
-ghost use Rattle.records.specs.Kept.{no_kept};
+ghost use Rattle.records.specs.NodeRecord.{no_node};
 ghost use Rattle.estimates.specs.Estimates.{estimate};
-ghost use Rattle.estimates.specs.Sheet.{line_at};
-ghost use Rattle.estimates.specs.Meets.{Lent, Measured, CellsMeasured};
-ghost use Rattle.estimates.specs.inner.Cycle.{NodeReady, Plain, Holder, FilledAt, CellsPassed, NodeMeets, CellMeets};
+ghost use Rattle.estimates.specs.inner.Sheet.{line_at};
+ghost use Rattle.estimates.specs.inner.Meets.{Lent, Measured, CellsMeasured};
+ghost use Rattle.estimates.specs.inner.Cycle.{NodeReady, Plain, Holder, IsFilledPost, BelowTablePost, NodeMeets, CellPost};
 
 use kinds::Kind;
-use records::{Entry, Kept, RowEnd};
+use records::{Entry, NodeRecord, RowEnd};
 use text::Estimate;
 
 // What the lines below a line come to: the line after them, size and least width, and how many children there are.
@@ -53,7 +53,7 @@ pub const NONE: text::Estimate = text::Estimate {
 // Measures the line at `at` and all below it, and returns the line after those. Ports `RenderNode::calc_size_estimate`.
 #[cycle(cell_node_table)]
 fn node(
-    lines: &[Kept],
+    lines: &[NodeRecord],
     figures: &mut [Estimate],
     leasts: &mut [u32],
     entries: &mut [Entry],
@@ -81,9 +81,9 @@ fn node(
 }
 
 // Whether the line at `i` is a cell that holds anything: the line after it is deeper.
-fn is_filled(lines: &[Kept], i: usize) -> bool
+fn is_filled(lines: &[NodeRecord], i: usize) -> bool
     requires { i < length lines.now }
-    ensures { FilledAt lines.now i result }
+    ensures { IsFilledPost lines.now i result }
 {
     let line = lines[i];
     line.kind == Kind::Cell && lines.get(i + 1).is_some_and(|next| line.depth < next.depth)
@@ -92,7 +92,7 @@ fn is_filled(lines: &[Kept], i: usize) -> bool
 // Measures all below the table at `at`, and returns the line after those.
 #[cycle(cell_node_table)]
 fn below_table(
-    lines: &[Kept],
+    lines: &[NodeRecord],
     figures: &mut [Estimate],
     leasts: &mut [u32],
     entries: &mut [Entry],
@@ -102,7 +102,7 @@ fn below_table(
 ) -> usize
     requires node_ready { NodeReady lines.now figures.old leasts.old entries.old rows.old at }
     requires at_table { kind_number (line_at lines.now at).kind ≡ table_kind }
-    ensures { CellsPassed wrap lines.now figures.old figures.new at result }
+    ensures { BelowTablePost wrap lines.now figures.old figures.new at result }
 {
     let top = lines[at];
     let n = lines.len();
@@ -130,7 +130,7 @@ fn below_table(
 // it over others. Ports `RenderTable::calc_size_estimate`.
 #[cycle(cell_node_table)]
 fn table(
-    lines: &[Kept],
+    lines: &[NodeRecord],
     figures: &mut [Estimate],
     leasts: &mut [u32],
     entries: &mut [Entry],
@@ -151,7 +151,7 @@ fn table(
 // children of `RenderNode::calc_size_estimate`.
 #[cycle(cell_node_table)]
 fn cell(
-    lines: &[Kept],
+    lines: &[NodeRecord],
     figures: &mut [Estimate],
     leasts: &mut [u32],
     entries: &mut [Entry],
@@ -161,7 +161,7 @@ fn cell(
 ) -> Part
     requires node_ready { NodeReady lines.now figures.old leasts.old entries.old rows.old at }
     requires holder { Holder (line_at lines.now at) }
-    ensures { CellMeets wrap lines.now figures.old figures.new at result }
+    ensures { CellPost wrap lines.now figures.old figures.new at result }
 {
     let top = lines[at];
     let n = lines.len();
@@ -200,7 +200,7 @@ fn cell(
 // them each function would promise that its slices stay as long as they were, which of slices is known.
 pub fn measure(
     wrap: u32,
-    lines: &[Kept],
+    lines: &[NodeRecord],
     figures: &mut [Estimate],
     leasts: &mut [u32],
     entries: &mut [Entry],
@@ -215,7 +215,7 @@ pub fn measure(
 // Measures what lies below the table at `at`, and not the table itself: all that its layout needs. No grid of this table is made.
 pub fn measure_below(
     wrap: u32,
-    lines: &[Kept],
+    lines: &[NodeRecord],
     at: usize,
     figures: &mut [Estimate],
     leasts: &mut [u32],
@@ -224,7 +224,7 @@ pub fn measure_below(
 )
     requires lent { Lent lines.now figures.old leasts.old entries.old rows.old }
     requires at_in_bounds { at < length lines.now }
-    requires at_table { kind_number (get_or lines.now at no_kept).kind ≡ table_kind }
+    requires at_table { kind_number (get_or lines.now at no_node).kind ≡ table_kind }
     ensures { CellsMeasured wrap lines.now at figures.old figures.new }
 {
     below_table(lines, figures, leasts, entries, rows, wrap, at);

@@ -1,5 +1,4 @@
 -- Number fields: the turns of the loop over digits, what its answer tells of the field, and the numbers with a sign.
--- Assumes nothing.
 use mathlib.Core.Path.{◌≡◌, refl, sym, ap, ◌∙◌}
 use mathlib.Core.Bool.{Bool, true, false, not, cond, ◌&&◌}
 use mathlib.Core.List.{List, [], ◌∷◌}
@@ -14,7 +13,7 @@ use Rattle.std.proofs.lemmas.List.{take_rest}
 use Rattle.text.specs.Decimal.{plain, minus}
 use Rattle.fields.specs.Numbers.{numeral, unwritten, is_digit, value_from, is_natural, natural_of, negative_of, number_of, up_to, magnitude}
 use Rattle.fields.specs.Blanks.{until_blank, blank}
-use Rattle.fields.specs.Reading.{FieldRead, sound, on_field, on_numeral, number_read}
+use Rattle.fields.specs.inner.Reading.{FieldRead, sound, on_field, on_numeral, number_read}
 use Rattle.fields.proofs.OnField.{on_same, and_0, and_1}
 
 pub digit_from : (b : ℕ) → is_digit b ≡ true → 48 ≤ b

@@ -1,5 +1,5 @@
 -- The bytes before a stop: what is made of the field at the front of bytes is made of those before the first space, and a number from 0 on is
--- what they write. Assumes nothing.
+-- what they write.
 use mathlib.Core.Path.{◌≡◌, refl, sym, ap, ◌∙◌}
 use mathlib.Core.Bool.{Bool, true, false, not, cond}
 use mathlib.Core.List.{List, [], ◌∷◌}
@@ -16,7 +16,7 @@ use Rattle.std.specs.Option.{option_map, option_and_then}
 use Rattle.kinds.specs.Kinds.{kind_at, kind_of, kind_count}
 use Rattle.fields.specs.Numbers.{Numeral, numeral, unwritten, number_of, up_to, magnitude}
 use Rattle.fields.specs.Blanks.{field, longer, until_blank, front_to, blank}
-use Rattle.fields.specs.Reading.{sound, on_field, on_numeral, number_read, kind_read, kind_named, written_in, written_at, ended_at}
+use Rattle.fields.specs.inner.Reading.{sound, on_field, on_numeral, number_read, kind_read, kind_named, written_in, written_at, ended_at}
 use Rattle.fields.proofs.OnField.{on_longer, on_same}
 
 -- what is made of the bytes cut before a place, where there is such a place

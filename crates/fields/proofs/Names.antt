@@ -1,5 +1,4 @@
 -- Names of kinds, by their bytes: a name whose length and bytes are a kind's is that kind's, and one that differs from each is no kind's.
--- Assumes nothing.
 use mathlib.Core.Path.{◌≡◌, refl, sym, ap, ◌∙◌}
 use mathlib.Core.Bool.{Bool, true, false, false≢true}
 use mathlib.Core.List.{List, [], ◌∷◌}
@@ -15,7 +14,7 @@ use Rattle.std.proofs.lemmas.Slice.Eq.{HasBytesAt, text_from_reads}
 use Rattle.kinds.specs.declared.Kind.{Kind}
 use Rattle.kinds.specs.declared.Kind.TheVariants.{Text, Img, Svg, Container, Link, Em, Strong, Strike, Code, Block, Head, Div, Quote, Ul, Ol, Dl, Dt, Dd, Break, Table, Body, Row, Cell, Frag, Item, Sup, Calc}
 use Rattle.kinds.specs.Kinds.{kind_number, kind_at, same, place, kind_of, kind_names}
-use Rattle.fields.specs.Reading.{kind_named}
+use Rattle.fields.specs.inner.Reading.{kind_named}
 use Rattle.fields.proofs.OnField.{and_0, and_1}
 
 -- the bytes from a place on are these

@@ -1,5 +1,5 @@
 -- What is made of the field at the front of bytes: with one byte more before it, where nothing is made of it, and where the same is.
--- Each by cases on the field. Assumes nothing.
+-- Each by cases on the field.
 use mathlib.Core.Path.{◌≡◌, refl, sym}
 use mathlib.Core.Bool.{Bool, true, false, ◌&&◌}
 use mathlib.Core.List.{List, ◌∷◌}
@@ -8,7 +8,7 @@ use Rattle.std.specs.Prelude.{Option, None}
 use Rattle.text.specs.Decimal.{Number}
 use Rattle.fields.specs.Blanks.{Field, field, endless, longer}
 use Rattle.fields.specs.Numbers.{Numeral, numeral, unwritten}
-use Rattle.fields.specs.Reading.{FieldRead, on_field, on_numeral}
+use Rattle.fields.specs.inner.Reading.{FieldRead, on_field, on_numeral}
 
 pub on_longer : {A : Type 0} (b : ℕ) (x : Field) (g : List ℕ → Option A) → on_field (longer b x) g ≡ on_field x (λ f. g (b ∷ f))
 on_longer b (field f r) g = refl

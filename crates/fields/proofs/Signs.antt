@@ -1,4 +1,4 @@
--- Numbers kept shifted up: one from a least to a most, one with a sign. Assumes nothing.
+-- Numbers kept shifted up: one from a least to a most, one with a sign.
 use mathlib.Core.Path.{◌≡◌, refl, sym, ap, subst, ◌∙◌}
 use mathlib.Core.Bool.{Bool, true, false, not, cond, ◌&&◌, and-true}
 use mathlib.Core.List.{List, [], ◌∷◌}
@@ -13,7 +13,7 @@ use Rattle.std.specs.Prelude.{Some, None}
 use Rattle.text.specs.Decimal.{Number, plain, minus, shift, shifted}
 use Rattle.fields.specs.Numbers.{numeral, unwritten, is_natural, value_from, natural_of, negative_of, number_of, up_to, within, magnitude}
 use Rattle.fields.specs.Blanks.{Field, field, endless, longer, until_blank, blank}
-use Rattle.fields.specs.Reading.{FieldRead, sound, on_field, on_numeral, from_to, number_read}
+use Rattle.fields.specs.inner.Reading.{FieldRead, sound, on_field, on_numeral, from_to, number_read}
 use Rattle.fields.specs.declared.Scanned.{Scanned}
 use Rattle.fields.proofs.OnField.{on_longer, on_same, on_map, on_number}
 use Rattle.fields.proofs.Digits.{natural_in, natural_field}

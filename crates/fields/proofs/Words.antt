@@ -1,4 +1,4 @@
--- Whether bytes begin with a word: as the comparison by pairs says it, and as the definition does. Assumes nothing.
+-- Whether bytes begin with a word: as the comparison by pairs says it, and as the definition does.
 use mathlib.Core.Path.{◌≡◌, refl, sym, ◌∙◌}
 use mathlib.Core.Bool.{Bool, true, false}
 use mathlib.Core.List.{List, [], ◌∷◌}

@@ -1,4 +1,4 @@
--- A whole field as a number: the turns of the loop over digits, and what its answer, or a 0 at the front, says of the field. Assumes nothing.
+-- A whole field as a number: the turns of the loop over digits, and what its answer, or a 0 at the front, says of the field.
 use mathlib.Core.Path.{◌≡◌, refl, sym, ap, ◌∙◌}
 use mathlib.Core.Bool.{Bool, true, false, not, cond, ◌&&◌, and-true}
 use mathlib.Core.List.{List, [], ◌∷◌}
@@ -14,7 +14,7 @@ use Rattle.text.specs.Decimal.{plain, minus}
 use Rattle.fields.specs.Numbers.{numeral, unwritten, is_digit, all_digits, value_from, is_natural, natural_of, negative_of, number_of}
 use Rattle.fields.proofs.OnField.{and_fails}
 use Rattle.fields.proofs.Digits.{value_grows, natural_first}
-use Rattle.fields.specs.Reading.{digits_in, written_in}
+use Rattle.fields.specs.inner.Reading.{digits_in, written_in}
 
 -- the turns of `digits_in`
 

@@ -1,4 +1,4 @@
--- Cutting a line at its spaces: a field is the bytes up to one. These are definitions; nothing is assumed.
+-- Cutting a line at its spaces: a field is the bytes up to one.
 use Rattle.std.specs.Prelude.{cond, List, [], ◌∷◌, ℕ, eqb, take, position, Option}
 use Rattle.std.specs.Option.{option_map}
 

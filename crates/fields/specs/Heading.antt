@@ -1,5 +1,4 @@
 -- The heading is the bytes of its words: computed.
--- Assumes nothing.
 use Rattle.std.specs.Prelude.{◌≡◌, refl, [], ◌∷◌, ◌++◌, length}
 use Rattle.kinds.specs.Names.{word, first_codes}
 use Rattle.fields.specs.Lines.{heading, heading_bytes, feed}

@@ -2,4 +2,4 @@ pub mod Lines
 pub mod Heading
 pub mod Blanks
 pub mod Numbers
-pub mod Reading
+pub mod inner

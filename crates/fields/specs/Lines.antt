@@ -1,4 +1,4 @@
--- Cutting a sheet into lines. These are definitions; nothing is assumed.
+-- Cutting a sheet into lines.
 use Rattle.std.specs.Prelude.{Bool, true, false, cond, List, [], ◌∷◌, ℕ, ◌+◌, eqb, take, drop}
 use Rattle.kinds.specs.Kinds.{same}
 

@@ -1,4 +1,4 @@
--- Numbers as a sheet and the settings write them. These are definitions; nothing is assumed.
+-- Numbers as a sheet and the settings write them.
 use Rattle.std.specs.Prelude.{Bool, true, false, not, cond, ◌&&◌, List, [], ◌∷◌, ℕ, ◌+◌, ◌-◌, ◌*◌, leb, eqb}
 use Rattle.text.specs.Decimal.{Number, plain, minus}
 

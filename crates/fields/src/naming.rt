@@ -1,7 +1,7 @@
 // The field that names a kind.
 ghost use Rattle.std.specs.Prelude.{◌≡◌, drop};
 ghost use Rattle.kinds.specs.Kinds.{kind_of};
-ghost use Rattle.fields.specs.Reading.{kind_named, kind_read};
+ghost use Rattle.fields.specs.inner.Reading.{kind_named, kind_read};
 
 use super::Scanned;
 use super::places::field_at;

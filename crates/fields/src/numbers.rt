@@ -3,7 +3,7 @@
 ghost use Rattle.std.specs.Prelude.{◌≡◌, ◌+◌, ◌-◌, ◌*◌, ◌≤◌, drop};
 ghost use Rattle.text.specs.Decimal.{shift, shifted};
 ghost use Rattle.fields.specs.Numbers.{number_of, up_to, within, magnitude};
-ghost use Rattle.fields.specs.Reading.{digits_in, written_in, written_at, from_to, number_read};
+ghost use Rattle.fields.specs.inner.Reading.{digits_in, written_in, written_at, from_to, number_read};
 
 use super::Scanned;
 use super::places::field_at;

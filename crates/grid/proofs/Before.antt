@@ -1,25 +1,25 @@
 -- No span leaves its body, so extra rows never arise; and where no cell has rows 0 and no span left its body before, the grid, its columns and the
--- refusals of every table are those of before. Assumes nothing.
+-- refusals of every table are those of before.
 use mathlib.Core.Path.{◌≡◌, refl, sym, ap, ap₂, ◌∙◌}
 use mathlib.Core.Bool.{Bool, true, false, not, cond}
 use mathlib.Core.List.{List, [], ◌∷◌, ◌++◌, map, append-nil}
 use Prim.Native.Nat.{ℕ, suc}
 use lib.Dec.{eqb, ltb}
 use borrow.Author.Tests.{eqb-true}
-use Rattle.lists.specs.Limits.{max_entries}
-use Rattle.lists.specs.Refusals.{Check, check, first_answer, verdict_of}
-use Rattle.lists.specs.declared.Reason.TheVariants.{RowEnd, TooManyEntries, ColumnEdge}
+use Rattle.common.specs.Limits.{max_entries}
+use Rattle.common.specs.Refusals.{Check, check, first_answer, verdict_of}
+use Rattle.common.specs.declared.Reason.TheVariants.{RowEnd, TooManyEntries, ColumnEdge}
 use Rattle.std.specs.Prelude.{Ok, Err}
-use Rattle.lists.specs.Lists.{All}
+use Rattle.common.specs.Lists.{All}
 use Rattle.kinds.specs.Kinds.{kind_number, table_kind}
-use Rattle.records.specs.declared.Kept.{Kept}
-use Rattle.edges.specs.Edges.{all_at}
-use Rattle.cells.specs.Cells.{bodies_of, fill_body, resolved}
-use Rattle.cells.specs.Cells as cells
-use Rattle.cells.specs.Facts.{Ending}
-use Rattle.cells.proofs.Facts.{filled_rows}
-use Rattle.positions.specs.Positions.{Row, hang_below, all_rows, ends_past, entry_count}
-use Rattle.positions.proofs.Bodies.{table_none, rows_same}
+use Rattle.records.specs.declared.NodeRecord.{NodeRecord}
+use Rattle.column_edges.specs.Edges.{all_at}
+use Rattle.resolved_rows.specs.Cells.{bodies_of, fill_body, resolved}
+use Rattle.resolved_rows.specs.Cells as cells
+use Rattle.resolved_rows.specs.Facts.{Ending}
+use Rattle.resolved_rows.proofs.Facts.{filled_rows}
+use Rattle.grid_positions.specs.Positions.{Row, hang_below, all_rows, ends_past, entry_count}
+use Rattle.grid_positions.proofs.Bodies.{table_none, rows_same}
 use Rattle.grid.specs.Grid.{is_column_edge, ends_of, grid_row, longest, grid_of, columns_of, table_checks, tables_checks}
 use Rattle.grid.specs.Before.{resolved_before, extras_in, extras, extra_rows, grid_before, columns_before, checks_before, tables_before, AllEnding}
 
@@ -69,7 +69,7 @@ unfolding verdict_of first_answer
 then_rest [] xs ys e = e
 then_rest (c ∷ cs) xs ys e = ap (cond c.applies (Err c.refusal)) (then_rest cs xs ys e)
 
-pub tables_same : (t : ℕ) (ls : List Kept) → AllEnding t ls → verdict_of (tables_before t ls) ≡ verdict_of (tables_checks t ls)
+pub tables_same : (t : ℕ) (ls : List NodeRecord) → AllEnding t ls → verdict_of (tables_before t ls) ≡ verdict_of (tables_checks t ls)
 unfolding tables_before tables_checks
 tables_same t [] a = refl
 tables_same t (l ∷ ls) a = go (tables_same (suc t) ls a.1) (eqb (kind_number l.kind) table_kind) refl

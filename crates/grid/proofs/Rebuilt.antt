@@ -1,5 +1,5 @@
 -- The table that the listed slices hold: rebuilt from them it is the table that was listed, its rows' ends rise, and it has no more rows and
--- cells than there are lines from the table's on. Assumes nothing.
+-- cells than there are lines from the table's on.
 use mathlib.Core.Path.{◌≡◌, refl, sym, ap, ap₂, ◌∙◌, subst}
 use mathlib.Core.Bool.{Bool, ◌||◌}
 use mathlib.Core.List.{List, [], ◌∷◌, ◌++◌, map, map-append}
@@ -7,24 +7,25 @@ use Prim.Native.Nat.{ℕ, ◌+◌, ◌-◌, ◌≤◌, ◌<◌}
 use native.Mathlib.Omega.{arith}
 use lib.Dec.{ltb}
 use lib.ListN.{length, get_or, take, drop, length-map, length-drop}
-use Rattle.lists.specs.Lists.{over}
-use Rattle.lists.specs.Limits.{max_lines, max_position}
-use Rattle.lists.proofs.Over.{over_front}
+use Rattle.common.specs.inner.Lists.{over}
+use Rattle.common.specs.Limits.{max_lines, max_position}
+use Rattle.common.proofs.Over.{over_front}
 use lib.Seq.{length-take-le}
 use Rattle.std.proofs.lemmas.List.{drop-map}
-use Rattle.records.specs.Kept.{no_kept}
-use Rattle.records.specs.declared.Kept.{Kept}
-use Rattle.cells.specs.Cells.{Row}
-use Rattle.cells.specs.Listed.{cell_line, cell_cols, cell_rows, all_cells, cell_ends, table_rows, ListingReady, TableListed}
-use Rattle.cells.proofs.Rows.{length_ends}
-use Rattle.cells.proofs.Facts.{rows_few}
-use Rattle.cells.specs.Spans.{part}
-use Rattle.rows.specs.Row.{Item, item_of, items_end, row_from, nexts}
-use Rattle.positions.specs.Positions.{originals, all_rows, ends_past, entry_count}
-use Rattle.positions.specs.inner.Slices.{cells_in, table_of, Rising, RowsWithin, Ready}
+use Rattle.records.specs.NodeRecord.{no_node}
+use Rattle.records.specs.declared.NodeRecord.{NodeRecord}
+use Rattle.resolved_rows.specs.Cells.{Row}
+use Rattle.resolved_rows.specs.Listed.{table_rows}
+use Rattle.resolved_rows.specs.inner.Listed.{cell_line, cell_cols, cell_rows, all_cells, cell_ends, ListRowsPre, ListRowsPost}
+use Rattle.resolved_rows.proofs.Rows.{length_ends}
+use Rattle.resolved_rows.proofs.Facts.{rows_few}
+use Rattle.resolved_rows.specs.inner.Spans.{part}
+use Rattle.grid_row.specs.Row.{Item, item_of, items_end, row_from, nexts}
+use Rattle.grid_positions.specs.Positions.{originals, all_rows, ends_past, entry_count}
+use Rattle.grid_positions.specs.inner.Slices.{cells_in, table_of, Rising, RowsWithin, PositionRowsPre}
 use Rattle.grid.specs.Judging.{Lined}
 use Rattle.grid.specs.Facts.{Sound}
-use Rattle.positions.proofs.TableSlices.{table_listed, listed_rises}
+use Rattle.grid_positions.proofs.TableSlices.{table_listed, listed_rises}
 
 -- where rows end and how many entries they have does not depend on their lines
 module _ (lines spans rows : List ℕ) where
@@ -53,7 +54,7 @@ pub map_front : {A : Type 0} (f : A → ℕ) (m : ℕ) (xs ys : List A) → map 
 map_front f m xs ys = map-append f ys (drop m xs) ∙ ap (λ (l : List ℕ). map f ys ++ l) (sym (drop-map f m xs))
 
 module _ {rs : List Row} {line₀ span₀ rows₀ row₀ end₀ line span rows row end : List ℕ} {cells count : ℕ}
-    (w : TableListed rs line₀ span₀ rows₀ row₀ end₀ line span rows row end cells count) where
+    (w : ListRowsPost rs line₀ span₀ rows₀ row₀ end₀ line span rows row end cells count) where
   front_lines : take cells line ≡ map cell_line (all_cells rs)
   front_lines = front (map cell_line (all_cells rs)) line₀ line cells (w.cells_are ∙ sym (length-map (all_cells rs) cell_line)) w.written.lines
 
@@ -87,15 +88,15 @@ module _ {rs : List Row} {line₀ span₀ rows₀ row₀ end₀ line span rows r
             past_lines (take cells line) (take cells span) (take cells rows) rl row [] 0 (take count end)
             ∙ ap (λ (t : List Row). ends_past (all_rows t)) rebuilt ∙ z.within;
         few = λ rl. omega (arith, same rl, z.few);
-        line_room = λ rl. omega (arith, same rl, a);
-        span_room = λ rl. omega (arith, same rl, b);
+        line_capacity = λ rl. omega (arith, same rl, a);
+        span_capacity = λ rl. omega (arith, same rl, b);
       }
 
   pub listed_ready : {m : ℕ} → length rs + length (all_cells rs) ≤ m → m ≤ max_lines
       → cells ≤ length line → cells ≤ length span → cells ≤ length rows → count ≤ length end
       → Sound rs → {l s left at wide nl na nw : List ℕ} → entry_count (all_rows rs) ≤ length l → entry_count (all_rows rs) ≤ length s
       → m ≤ length left → m ≤ length at → m ≤ length wide → m ≤ length nl → m ≤ length na → m ≤ length nw
-      → Ready (take cells line) (take cells span) (take cells rows) (take count end) l s (take count end) left at wide nl na nw
+      → PositionRowsPre (take cells line) (take cells span) (take cells rows) (take count end) l s (take count end) left at wide nl na nw
   listed_ready few short a b d f z g h l₁ l₂ l₃ l₄ l₅ l₆ =
       let u = length-take-le count end f in
       let v = length-take-le cells line a in
@@ -107,34 +108,34 @@ module _ {rs : List Row} {line₀ span₀ rows₀ row₀ end₀ line span rows r
         rows_length = length-take-le cells rows d ∙ sym v;
         few = omega arith;
         within = listed_within z g h;
-        row_end_room = omega arith;
-        left_room = omega arith;
-        at_room = omega arith;
-        wide_room = omega arith;
-        next_left_room = omega arith;
-        next_at_room = omega arith;
-        next_wide_room = omega arith;
+        row_end_capacity = omega arith;
+        left_capacity = omega arith;
+        at_capacity = omega arith;
+        wide_capacity = omega arith;
+        next_left_capacity = omega arith;
+        next_at_capacity = omega arith;
+        next_wide_capacity = omega arith;
       }
 
 -- ---- how many
 
-pub held_few : (ks : List Kept) (at : ℕ) → length (table_rows ks at) + length (all_cells (table_rows ks at)) ≤ length ks - at
+pub held_few : (ks : List NodeRecord) (at : ℕ) → length (table_rows ks at) + length (all_cells (table_rows ks at)) ≤ length ks - at
 unfolding table_rows
-held_few ks at = omega (arith, rows_few (get_or ks at no_kept).depth (at + 1) (drop (at + 1) ks), length-drop (at + 1) ks)
+held_few ks at = omega (arith, rows_few (get_or ks at no_node).depth (at + 1) (drop (at + 1) ks), length-drop (at + 1) ks)
 
 -- the table at a place can be listed
-pub lined_ready : {ks : List Kept} → Lined ks → {at : ℕ} → at < length ks → {line span rows row end : List ℕ}
+pub lined_ready : {ks : List NodeRecord} → Lined ks → {at : ℕ} → at < length ks → {line span rows row end : List ℕ}
     → length ks - at ≤ length line → length ks - at ≤ length span → length ks - at ≤ length rows → length ks - at ≤ length row → length ks - at ≤ length end
-    → ListingReady ks at line span rows row end
+    → ListRowsPre ks at line span rows row end
 lined_ready l {at} h a b c d e = record {
   within = h;
   short = l.short;
   shallow = l.shallow at;
   step = l.step;
   narrow = l.narrow;
-  line_room = omega arith;
-  span_room = omega arith;
-  rows_room = omega arith;
-  row_room = omega arith;
-  end_room = omega arith;
+  line_capacity = omega arith;
+  span_capacity = omega arith;
+  rows_capacity = omega arith;
+  row_capacity = omega arith;
+  end_capacity = omega arith;
 }

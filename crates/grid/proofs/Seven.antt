@@ -1,21 +1,22 @@
 -- Refusal 7 is impossible: every entry of rows ends at an edge of these rows, in the definitions and where they are numbered, and the answers of every
--- table are 5 or 6. Assumes nothing.
+-- table are 5 or 6.
 use mathlib.Core.Path.{◌≡◌, sym, ap, ◌∙◌}
 use mathlib.Core.Bool.{Bool, true, cond}
 use mathlib.Core.List.{List}
 use Prim.Native.Nat.{ℕ}
 use lib.Dec.{eqb}
-use Rattle.lists.specs.Lists.{mem}
+use Rattle.common.specs.Lists.{mem}
 use Rattle.records.specs.declared.Entry.{Entry}
-use Rattle.edges.specs.Edges.{all_at, rows_ends}
+use Rattle.column_edges.specs.Edges.{all_at}
+use Rattle.column_edges.specs.inner.Edges.{rows_ends}
 use Rattle.std.specs.Prelude.{Option, Some, None}
-use Rattle.edges.proofs.Columns.{all_mem}
-use Rattle.cells.specs.Cells as cells
-use Rattle.positions.specs.Positions.{Row, all_rows}
+use Rattle.column_edges.proofs.Columns.{all_mem}
+use Rattle.resolved_rows.specs.Cells as cells
+use Rattle.grid_positions.specs.Positions.{Row, all_rows}
 use Rattle.grid.specs.Grid.{is_column_edge, ends_of}
 use Rattle.grid.specs.inner.Numbering.{most_columns, numbered_rows, RowsNumbered}
 use Rattle.grid.specs.inner.Placing.{edge_of_rows}
-use Rattle.lists.proofs.Tests.{or_right}
+use Rattle.common.proofs.Tests.{or_right}
 
 -- the entries of rows end at their own edges
 own_edges : (rs : List Row) → all_at (is_column_edge rs) (ends_of rs) ≡ true

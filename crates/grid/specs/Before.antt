@@ -1,18 +1,18 @@
 -- The grid as it was while a span could leave its body: rows 0 counted as 1, what hung ran on over all bodies, and extra rows below the last row held
--- what hung on. It says where the grid stayed the same (proofs/Before), and nothing else uses it. These are definitions; nothing is assumed.
+-- what hung on. It says where the grid stayed the same (proofs/Before), and nothing else uses it.
 use Rattle.std.specs.Prelude.{◌≡◌, not, cond, List, [], ◌∷◌, ◌++◌, map, ℕ, zero, suc, ◌-◌, min, ltb, eqb, length}
-use Rattle.lists.specs.Limits.{max_entries}
-use Rattle.lists.specs.Refusals.{Check, check}
-use Rattle.lists.specs.declared.Reason.TheVariants.{RowEnd, TooManyEntries, ColumnEdge}
-use Rattle.lists.specs.Lists.{All}
+use Rattle.common.specs.Limits.{max_entries}
+use Rattle.common.specs.Refusals.{Check, check}
+use Rattle.common.specs.declared.Reason.TheVariants.{RowEnd, TooManyEntries, ColumnEdge}
+use Rattle.common.specs.Lists.{All}
 use Rattle.kinds.specs.Kinds.{kind_number, table_kind}
-use Rattle.records.specs.declared.Kept.{Kept}
-use Rattle.edges.specs.Edges.{all_at}
-use Rattle.cells.specs.Cells.{bodies_of, fill_body}
-use Rattle.cells.specs.Cells as cells
-use Rattle.cells.specs.Facts.{Ending}
-use Rattle.rows.specs.Row.{Item, item, nexts}
-use Rattle.positions.specs.Positions.{Row, row, originals, hang_below, ends_past, entry_count}
+use Rattle.records.specs.declared.NodeRecord.{NodeRecord}
+use Rattle.column_edges.specs.Edges.{all_at}
+use Rattle.resolved_rows.specs.Cells.{bodies_of, fill_body}
+use Rattle.resolved_rows.specs.Cells as cells
+use Rattle.resolved_rows.specs.Facts.{Ending}
+use Rattle.grid_row.specs.Row.{Item, item, nexts}
+use Rattle.grid_positions.specs.Positions.{Row, row, originals, hang_below, ends_past, entry_count}
 use Rattle.grid.specs.Grid.{GridRow, is_column_edge, ends_of, grid_row, longest}
 
 -- all bodies' rows in order, their cols alone resolved
@@ -63,12 +63,12 @@ checks_before t table =
     ∷ []
 
 -- each table in turn, from line t on
-unfoldable pub tables_before : ℕ → List Kept → List Check
+unfoldable pub tables_before : ℕ → List NodeRecord → List Check
 tables_before t [] = []
 tables_before t (l ∷ ls) =
     cond (eqb (kind_number l.kind) table_kind) (checks_before t (resolved_before (bodies_of l.depth t ls))) [] ++ tables_before (suc t) ls
 
 -- no table has a cell with rows 0 or a span that leaves its body
-abbrev pub AllEnding : ℕ → List Kept → Type 0
+abbrev pub AllEnding : ℕ → List NodeRecord → Type 0
 AllEnding t [] = Unit {0}
 AllEnding t (l ∷ ls) = (kind_number l.kind ≡ table_kind → All Ending (bodies_of l.depth t ls)) × AllEnding (suc t) ls

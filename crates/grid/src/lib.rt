@@ -6,19 +6,19 @@
 #![tactic(auto)]
 
 ghost use Rattle.std.specs.Prelude.{◌≡◌, true, ◌-◌, ◌<◌, length};
-ghost use Rattle.edges.specs.Edges.{is_edge, rows_from, RowsFit};
-ghost use Rattle.records.specs.Figures.{row_lines_of, row_ends_of, entry_cells_of, entry_spans_of};
-ghost use Rattle.cells.specs.Listed.{table_rows};
-ghost use Rattle.positions.specs.Positions.{all_rows, entry_count};
+ghost use Rattle.column_edges.specs.inner.Edges.{is_edge, rows_from, RowsFit};
+ghost use Rattle.records.specs.inner.Figures.{row_lines_of, row_ends_of, entry_cells_of, entry_spans_of};
+ghost use Rattle.resolved_rows.specs.Listed.{table_rows};
+ghost use Rattle.grid_positions.specs.Positions.{all_rows, entry_count};
 ghost use Rattle.grid.specs.inner.Numbering.{RowsNumbered};
 ghost use Rattle.grid.specs.Judging.{Lined};
 ghost use Rattle.grid.specs.Facts.{Sound};
-ghost use Rattle.grid.specs.inner.Placing.{edge_of_rows, RowsReady, PlacedNumbered, TablePlaced, Room};
+ghost use Rattle.grid.specs.inner.Placing.{edge_of_rows, PlacedGridPre, PlacedGridPost, PlaceTablePost, PlaceTablePre};
 
-use edges::Numbers;
-use positions::Positions;
-use records::{Entry, Kept, RowEnd};
-use rows::Overhang;
+use column_edges::Numbers;
+use grid_positions::Positions;
+use grid_row::Overhang;
+use records::{Entry, NodeRecord, RowEnd};
 
 // All rows' entries in columns, in the place of the same entries in positions; a row's record says how many entries there are up to and including
 // it. The columns of the longest row, or that an entry ends at no edge.
@@ -43,9 +43,9 @@ fn number_table(rows: &[RowEnd], entries: &mut [Entry]) -> Option<usize>
     requires { RowsFit 0 (row_ends_of rows.now) (entry_spans_of entries.old) }
     ensures { RowsNumbered (edge_of_rows (rows_from 0 (row_ends_of rows.now) (entry_spans_of entries.old))) (rows_from 0 (row_ends_of rows.now) (entry_spans_of entries.old)) (entry_cells_of entries.old) result entries.new }
 {
-    let mut start = edges::Edges::new();
+    let mut start = column_edges::Edges::new();
     start.insert(0);
-    let numbers = edges::mark_rows(start, entries, rows);
+    let numbers = column_edges::mark_rows(start, entries, rows);
     number_rows(&numbers, rows, entries)
 }
 
@@ -53,8 +53,8 @@ fn number_table(rows: &[RowEnd], entries: &mut [Entry]) -> Option<usize>
 // the edges are those of all rows.
 #[tactic(auto, using(crate::proofs::GridLists::rows_long, crate::proofs::GridLists::spans_long))]
 pub fn placed_grid(placed: Positions, rows: &[RowEnd], entries: &mut [Entry]) -> usize
-    requires { RowsReady placed.rows placed.entries (entry_spans_of entries.old) (row_ends_of rows.now) }
-    ensures { PlacedNumbered placed.rows placed.entries (entry_spans_of entries.old) (entry_cells_of entries.old) (row_ends_of rows.now) result entries.new }
+    requires { PlacedGridPre placed.rows placed.entries (entry_spans_of entries.old) (row_ends_of rows.now) }
+    ensures { PlacedGridPost placed.rows placed.entries (entry_spans_of entries.old) (entry_cells_of entries.old) (row_ends_of rows.now) result entries.new }
 {
     number_table(&rows[..placed.rows], &mut entries[..placed.entries]).unwrap_or(0)
 }
@@ -62,7 +62,7 @@ pub fn placed_grid(placed: Positions, rows: &[RowEnd], entries: &mut [Entry]) ->
 // The rows of the table at the place `at` by positions: a record for each entry, with its line and its span, and one for each row, with its line
 // and its end. The slices from cells to next are scratch. The table is sound, and there is a place for each of its entries.
 pub fn place_table(
-    lines: &[Kept],
+    lines: &[NodeRecord],
     at: usize,
     cells: &mut [u32],
     overhang: &mut [u32],
@@ -73,12 +73,12 @@ pub fn place_table(
     requires at_in_bounds { at < length lines.now }
     requires lined { Lined lines.now }
     requires sound { Sound (table_rows lines.now at) }
-    requires room { Room (length lines.now - at) (entry_count (all_rows (table_rows lines.now at))) cells.old overhang.old next.old entries.old rows.old }
-    ensures { TablePlaced (table_rows lines.now at) result (entry_spans_of entries.new) (entry_cells_of entries.new) (row_lines_of rows.new) (row_ends_of rows.new) }
+    requires capacity { PlaceTablePre (length lines.now - at) (entry_count (all_rows (table_rows lines.now at))) cells.old overhang.old next.old entries.old rows.old }
+    ensures { PlaceTablePost (table_rows lines.now at) result (entry_spans_of entries.new) (entry_cells_of entries.new) (row_lines_of rows.new) (row_ends_of rows.new) }
 {
-    let listed = cells::list_rows(lines, at, cells, rows);
+    let listed = resolved_rows::list_rows(lines, at, cells, rows);
     let n = 3 * listed.cells;
-    positions::position_rows(
+    grid_positions::position_rows(
         &cells[..n],
         &mut rows[..listed.rows],
         entries,

@@ -1,5 +1,5 @@
 -- The loop of `fits` on plain lists: if what the lines still to come hold is within the bound, from what hangs, the row's end and the entries on, then so is
--- the table. Assumes nothing.
+-- the table.
 use mathlib.Core.Path.{◌≡◌, sym, ap, subst, ◌∙◌}
 use mathlib.Core.Bool.{cond}
 use mathlib.Core.List.{List, [], ◌∷◌}
@@ -10,15 +10,16 @@ use native.Mathlib.Omega.{arith}
 use lib.Dec.{eqb}
 use lib.ListN.{length, get_or, drop}
 use borrow.Author.Tests.{ne_eqb}
-use Rattle.lists.specs.Lists.{sum}
-use Rattle.lists.specs.Limits.{max_position, max_entries}
-use Rattle.records.specs.Kept.{no_kept}
-use Rattle.records.specs.declared.Kept.{Kept}
-use Rattle.cells.specs.Cells.{Row, Frame, cell, frame, no_frame, open_body, open_row, open_cell}
-use Rattle.cells.specs.Listed.{all_cells, table_rows}
-use Rattle.cells.proofs.Lines.{framed, after, frame_stop, frame_body, frame_row, frame_cell, frame_deeper, inside}
+use Rattle.common.specs.Lists.{sum}
+use Rattle.common.specs.Limits.{max_position, max_entries}
+use Rattle.records.specs.NodeRecord.{no_node}
+use Rattle.records.specs.declared.NodeRecord.{NodeRecord}
+use Rattle.resolved_rows.specs.Cells.{Row, Frame, cell, frame, no_frame, open_body, open_row, open_cell}
+use Rattle.resolved_rows.specs.Listed.{table_rows}
+use Rattle.resolved_rows.specs.inner.Listed.{all_cells}
+use Rattle.resolved_rows.proofs.Lines.{framed, after, frame_stop, frame_body, frame_row, frame_cell, frame_deeper, inside}
 use Rattle.grid.specs.Facts.{Sound}
-use Rattle.grid_bounds.specs.Bound.{wide_of, hung_of, rows_of, wide, hung, rows_asked, RowsBound, BodiesBound, bodies_asked, Room, HungBy}
+use Rattle.grid_bounds.specs.inner.Bound.{wide_of, hung_of, rows_of, wide, hung, rows_asked, RowsBound, BodiesBound, bodies_asked, Room, HungByPost}
 use Rattle.grid_bounds.proofs.Bounds.{asked_append, bound_fits}
 
 -- h hang into the row after the open one, the open row ends at w, and there are e entries: all that comes is within the bound
@@ -51,7 +52,7 @@ module _ (h w e : ℕ) (f : Frame) where
     few = omega (arith, z.few, asked_append f.cells (all_cells f.rows));
   }
 
-  rest_cell : (k : ℕ) (l : Kept) (g : ℕ) → g ≡ cond (eqb l.rows 1) 0 l.cols → Room l.cols l.rows w e max_entries
+  rest_cell : (k : ℕ) (l : NodeRecord) (g : ℕ) → g ≡ cond (eqb l.rows 1) 0 l.cols → Room l.cols l.rows w e max_entries
       → Rest (h + g) (w + l.cols) (e + l.rows) f → Rest h w e (open_cell k l f)
   unfolding sum
   rest_cell k l g q r z =
@@ -72,18 +73,18 @@ rest_none h w e u v = record { row_fits = omega arith; rows_fit = tt; bodies_fit
 
 -- ---- the loop
 
-pub record Bounding (ks : List Kept) (at h w e i : ℕ) : Type 0 where
-  pub whole : Rest h w e (framed ks (get_or ks at no_kept).depth i) → Rest 0 0 0 (framed ks (get_or ks at no_kept).depth (at + 1))
+pub record Bounding (ks : List NodeRecord) (at h w e i : ℕ) : Type 0 where
+  pub whole : Rest h w e (framed ks (get_or ks at no_node).depth i) → Rest 0 0 0 (framed ks (get_or ks at no_node).depth (at + 1))
   pub order : h ≤ w
   pub within : w ≤ max_position
   pub few : e ≤ max_entries
   pub place : i ≤ length ks
 
-module _ {ks : List Kept} {at h w e i : ℕ} (z : Bounding ks at h w e i) where
+module _ {ks : List NodeRecord} {at h w e i : ℕ} (z : Bounding ks at h w e i) where
   abbrev d : ℕ
-  d = (get_or ks at no_kept).depth
+  d = (get_or ks at no_node).depth
 
-  pub bound_stop : (get_or ks i no_kept).depth ≤ d → Sound (table_rows ks at)
+  pub bound_stop : (get_or ks i no_node).depth ≤ d → Sound (table_rows ks at)
   unfolding table_rows
   bound_stop s =
       let r = z.whole (subst (Rest h w e) (sym (frame_stop ks d i s)) (rest_none h w e z.within z.few)) in
@@ -91,8 +92,8 @@ module _ {ks : List Kept} {at h w e i : ℕ} (z : Bounding ks at h w e i) where
       bound_fits (frame d (suc (at + 1)) (drop (at + 1) ks)).bodies t.bodies_fit (omega (arith, t.few))
 
   -- the line of a turn
-  abbrev l : Kept
-  l = get_or ks i no_kept
+  abbrev l : NodeRecord
+  l = get_or ks i no_node
 
   module _ (deep : d < l.depth) where
     pub more : i < length ks
@@ -116,7 +117,7 @@ module _ {ks : List Kept} {at h w e i : ℕ} (z : Bounding ks at h w e i) where
       place = omega (arith, more);
     }
 
-    pub bound_cell : l.depth - d ≡ 3 → (cols rows g : ℕ) → cols ≡ l.cols → rows ≡ l.rows → HungBy cols rows g → Room cols rows w e max_entries
+    pub bound_cell : l.depth - d ≡ 3 → (cols rows g : ℕ) → cols ≡ l.cols → rows ≡ l.rows → HungByPost cols rows g → Room cols rows w e max_entries
         → Bounding ks at (h + g) (w + cols) (e + rows) (i + 1)
     bound_cell b cols rows g u v =
         rw (u, v) (λ p r.

@@ -1,5 +1,5 @@
 -- The bound holds: where it says that the rows of each body end within 4,096 and that few rows are asked for, neither 5 nor 6 applies. By induction on the
--- rows, with what hangs no wider than what was ever hung. Assumes nothing.
+-- rows, with what hangs no wider than what was ever hung.
 use mathlib.Core.Path.{◌≡◌, refl, ap, ap₂, ◌∙◌}
 use mathlib.Core.Bool.{Bool, false, cond, ◌||◌}
 use mathlib.Core.List.{List, [], ◌∷◌, ◌++◌, map, map-map, map-append}
@@ -9,17 +9,17 @@ use native.Mathlib.Omega.{arith}
 use lib.Dec.{eqb}
 use lib.ListN.{length}
 use borrow.Author.Tests.{eq-eqb, ne_eqb, le-ltb}
-use Rattle.lists.specs.Lists.{sum}
-use Rattle.lists.specs.Limits.{max_position, max_entries}
-use Rattle.lists.proofs.Sum.{sum_append}
-use Rattle.cells.specs.Cells.{Cell, cell, row, widest, resolve_cell, resolve_row, fill_body, taken, cut_cell, cut_row, cut_body, resolve_body, resolved}
-use Rattle.cells.specs.Cells as cells
-use Rattle.cells.specs.Listed.{cell_cols, all_cells}
-use Rattle.rows.specs.Row.{Item, items_end, item_of, nexts}
-use Rattle.positions.specs.Positions.{originals, all_rows, ends_past, entry_count}
-use Rattle.positions.proofs.TableFacts.{entries}
+use Rattle.common.specs.Lists.{sum}
+use Rattle.common.specs.Limits.{max_position, max_entries}
+use Rattle.common.proofs.Sum.{sum_append}
+use Rattle.resolved_rows.specs.Cells.{Cell, cell, row, widest, resolve_cell, resolve_row, fill_body, taken, cut_cell, cut_row, cut_body, resolve_body, resolved}
+use Rattle.resolved_rows.specs.Cells as cells
+use Rattle.resolved_rows.specs.inner.Listed.{cell_cols, all_cells}
+use Rattle.grid_row.specs.Row.{Item, items_end, item_of, nexts}
+use Rattle.grid_positions.specs.Positions.{originals, all_rows, ends_past, entry_count}
+use Rattle.grid_positions.proofs.TableFacts.{entries}
 use Rattle.grid.specs.Facts.{Sound}
-use Rattle.grid_bounds.specs.Bound.{wide_of, hung_of, rows_of, wide, hung, rows_asked, RowsBound, BodiesBound, bodies_asked}
+use Rattle.grid_bounds.specs.inner.Bound.{wide_of, hung_of, rows_of, wide, hung, rows_asked, RowsBound, BodiesBound, bodies_asked}
 use Rattle.grid_bounds.proofs.Ends.{wide_at, wides, at_same, entries_end, entries_wides, nexts_end}
 use Rattle.grid_bounds.proofs.Entries.{taken_of, takens, takens_append, body_entries}
 use Rattle.grid_bounds.proofs.Tables.{past_bodies, count_bodies, past_none, count_none}

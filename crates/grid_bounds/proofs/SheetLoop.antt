@@ -1,4 +1,4 @@
--- The loop of `sheet_fits` on plain lists: what is summed, with the lines from place i on, is the sum of all. Assumes nothing.
+-- The loop of `sheet_fits` on plain lists: what is summed, with the lines from place i on, is the sum of all.
 use mathlib.Core.Bool.{true, false}
 use mathlib.Core.Path.{◌≡◌}
 use mathlib.Core.List.{List, ◌∷◌, map}
@@ -9,34 +9,34 @@ use lib.Dec.{eqb}
 use lib.ListN.{length, get_or, drop, drop_of_length-le}
 use lib.Seq.{drop-cons}
 use borrow.Author.Tests.{ne_eqb}
-use Rattle.lists.specs.Lists.{sum}
-use Rattle.lists.specs.Limits.{max_position}
+use Rattle.common.specs.Lists.{sum}
+use Rattle.common.specs.Limits.{max_position}
 use Rattle.kinds.specs.Kinds.{kind_number, cell_kind}
-use Rattle.records.specs.Kept.{no_kept}
-use Rattle.records.specs.declared.Kept.{Kept}
-use Rattle.grid_bounds.specs.Bound.{Room}
-use Rattle.grid_bounds.specs.Sheets.{cols_by, rows_by, SheetBound}
+use Rattle.records.specs.NodeRecord.{no_node}
+use Rattle.records.specs.declared.NodeRecord.{NodeRecord}
+use Rattle.grid_bounds.specs.inner.Bound.{Room}
+use Rattle.grid_bounds.specs.inner.Sheets.{cols_by, rows_by, SheetBound}
 
-pub record SheetLoop (ks : List Kept) (most end entries i : ℕ) : Type 0 where
+pub record SheetLoop (ks : List NodeRecord) (most end entries i : ℕ) : Type 0 where
   pub place : i ≤ length ks
   pub cols : end + sum (map cols_by (drop i ks)) ≡ sum (map cols_by ks)
   pub rows : entries + sum (map rows_by (drop i ks)) ≡ sum (map rows_by ks)
   pub within : end ≤ max_position
   pub few : entries ≤ most
 
-module _ {ks : List Kept} {most end entries i : ℕ} (z : SheetLoop ks most end entries i) where
+module _ {ks : List NodeRecord} {most end entries i : ℕ} (z : SheetLoop ks most end entries i) where
   pub sheet_stop : length ks ≤ i → SheetBound most ks
   unfolding sum
   sheet_stop h =
       let e = drop_of_length-le ks {i = i} h in
       record { cols = let v = rw e at z.cols in omega (arith, z.within); rows = let v = rw e at z.rows in omega (arith, z.few) }
 
-  abbrev l : Kept
-  l = get_or ks i no_kept
+  abbrev l : NodeRecord
+  l = get_or ks i no_node
 
   module _ (h : i < length ks) where
     rests : drop i ks ≡ l ∷ drop (i + 1) ks
-    rests = rw (add-one, drop-cons ks i no_kept)
+    rests = rw (add-one, drop-cons ks i no_node)
 
     pub sheet_other : eqb (kind_number l.kind) cell_kind ≡ false → SheetLoop ks most end entries (i + 1)
     unfolding sum

@@ -1,4 +1,4 @@
--- Within the bound on a sheet every table is sound and has few entries: its cells are some of the sheet's. By induction on the lines. Assumes nothing.
+-- Within the bound on a sheet every table is sound and has few entries: its cells are some of the sheet's. By induction on the lines.
 use mathlib.Core.Path.{◌≡◌, refl, sym, ap, subst, ◌∙◌}
 use mathlib.Core.Bool.{Bool, true, false, cond}
 use mathlib.Core.List.{List, [], ◌∷◌, ◌++◌, map, map-append}
@@ -11,26 +11,27 @@ use lib.Dec.{leb, eqb}
 use lib.ListN.{length, get_or, drop, drop_of_length-le}
 use lib.Seq.{drop-cons}
 use borrow.Author.Tests.{eq-eqb, eqb-true, leb-false}
-use Rattle.lists.specs.Lists.{sum}
-use Rattle.lists.specs.Limits.{max_position, max_entries}
-use Rattle.lists.proofs.Sum.{sum_append}
+use Rattle.common.specs.Lists.{sum}
+use Rattle.common.specs.Limits.{max_position, max_entries}
+use Rattle.common.proofs.Sum.{sum_append}
 use Rattle.kinds.specs.Kinds.{kind_number, table_kind, cell_kind}
-use Rattle.records.specs.Kept.{no_kept}
-use Rattle.records.specs.declared.Kept.{Kept}
-use Rattle.cells.specs.Cells.{Cell, Row, Frame, cell, frame}
-use Rattle.cells.specs.Listed.{all_cells, table_rows}
-use Rattle.positions.specs.Positions.{all_rows, entry_count}
+use Rattle.records.specs.NodeRecord.{no_node}
+use Rattle.records.specs.declared.NodeRecord.{NodeRecord}
+use Rattle.resolved_rows.specs.Cells.{Cell, Row, Frame, cell, frame}
+use Rattle.resolved_rows.specs.Listed.{table_rows}
+use Rattle.resolved_rows.specs.inner.Listed.{all_cells}
+use Rattle.grid_positions.specs.Positions.{all_rows, entry_count}
 use Rattle.grid.specs.Facts.{CellOf}
 use Rattle.grid.specs.Facts.{Sound}
-use Rattle.grid_bounds.specs.Bound.{wide_of, rows_of, wide, hung, RowsBound, BodiesBound, bodies_asked}
+use Rattle.grid_bounds.specs.inner.Bound.{wide_of, rows_of, wide, hung, RowsBound, BodiesBound, bodies_asked}
 use Rattle.grid_bounds.proofs.Bounds.{bodies_few, bound_fits}
-use Rattle.grid_bounds.specs.Sheets.{SheetBound, Suffice, Nests, AllSound}
+use Rattle.grid_bounds.specs.inner.Sheets.{SheetBound, Suffice, Nests, AllSound}
 use Rattle.grid_bounds.proofs.CellKinds.{cell_kind_lem}
 
 -- ---- the cells of a table, by a figure of each, are no more than the lines'
 
 -- a property of the lines that are cells of a table of depth d, of the lines that follow it: those three deeper, up to the first that is no deeper
-abbrev AtCells : (Kept → Type 0) → ℕ → List Kept → Type 0
+abbrev AtCells : (NodeRecord → Type 0) → ℕ → List NodeRecord → Type 0
 AtCells P d [] = Unit {0}
 AtCells P d (l ∷ ls) = d < l.depth → (l.depth ≡ d + 3 → P l) × AtCells P d ls
 
@@ -52,8 +53,8 @@ module _ (m : Cell → ℕ) where
   by_cases true f g n p q = p refl
   by_cases false f g n p q = q refl
 
-  module _ (weight : Kept → ℕ) (d : ℕ) where
-    frame_total_lem : (k : ℕ) (ls : List Kept) → AtCells (λ l. (k : ℕ) → m (cell k l.cols l.rows) ≤ weight l) d ls → frame_total (frame d k ls) ≤ sum (map weight ls)
+  module _ (weight : NodeRecord → ℕ) (d : ℕ) where
+    frame_total_lem : (k : ℕ) (ls : List NodeRecord) → AtCells (λ l. (k : ℕ) → m (cell k l.cols l.rows) ≤ weight l) d ls → frame_total (frame d k ls) ≤ sum (map weight ls)
     unfolding frame all_cells sum
     frame_total_lem k [] a = omega arith
     frame_total_lem k (l ∷ ls) a =
@@ -94,13 +95,13 @@ bodies_asked_lem (b ∷ bs) = omega (arith, bodies_asked_lem bs)
 
 -- ---- the lines of a table
 
-rests : (ks : List Kept) (i : ℕ) → i < length ks → drop i ks ≡ get_or ks i no_kept ∷ drop (i + 1) ks
-rests ks i h = rw (add-one, drop-cons ks i no_kept)
+rests : (ks : List NodeRecord) (i : ℕ) → i < length ks → drop i ks ≡ get_or ks i no_node ∷ drop (i + 1) ks
+rests ks i h = rw (add-one, drop-cons ks i no_node)
 
 -- what holds of a table's cells holds of the lines that are its cells
-module _ (ks : List Kept) (t : ℕ) (P : Kept → Type 0) (f : (i : ℕ) → CellOf ks t i → P (get_or ks i no_kept)) where
+module _ (ks : List NodeRecord) (t : ℕ) (P : NodeRecord → Type 0) (f : (i : ℕ) → CellOf ks t i → P (get_or ks i no_node)) where
   abbrev depth_of : ℕ → ℕ
-  depth_of k = (get_or ks k no_kept).depth
+  depth_of k = (get_or ks k no_node).depth
 
   from_cells : (n i : ℕ) → i + n ≡ length ks → t < i → ((k : ℕ) → t < k → k < i → depth_of t < depth_of k) → AtCells P (depth_of t) (drop i ks)
   from_cells zero i e h b = subst (AtCells P (depth_of t)) (sym (drop_of_length-le ks {i = i} (omega arith))) tt
@@ -112,49 +113,49 @@ module _ (ks : List Kept) (t : ℕ) (P : Kept → Type 0) (f : (i : ℕ) → Cel
       more d k u (yes q) v = omega (arith, ap depth_of q)
       more d k u (no q) v = b k u (omega arith)
 
-sum_rest : (weight : Kept → ℕ) (n : ℕ) (ls : List Kept) → sum (map weight (drop n ls)) ≤ sum (map weight ls)
+sum_rest : (weight : NodeRecord → ℕ) (n : ℕ) (ls : List NodeRecord) → sum (map weight (drop n ls)) ≤ sum (map weight ls)
 unfolding sum
 sum_rest weight zero ls = omega arith
 sum_rest weight (suc n) [] = omega arith
 sum_rest weight (suc n) (l ∷ ls) = omega (arith, sum_rest weight n ls)
 
-abbrev by_kind : (Cell → ℕ) → Kept → ℕ
+abbrev by_kind : (Cell → ℕ) → NodeRecord → ℕ
 by_kind m l = cond (eqb (kind_number l.kind) cell_kind) (m (cell 0 l.cols l.rows)) 0
 
-cell_weighs : (m : Cell → ℕ) (l : Kept) → kind_number l.kind ≡ cell_kind → m (cell 0 l.cols l.rows) ≤ by_kind m l
+cell_weighs : (m : Cell → ℕ) (l : NodeRecord) → kind_number l.kind ≡ cell_kind → m (cell 0 l.cols l.rows) ≤ by_kind m l
 cell_weighs m l e = rw (eq-eqb (kind_number l.kind) cell_kind e) (omega arith)
 
-module _ {ks : List Kept} (step : (k : ℕ) → k + 1 < length ks → (get_or ks (k + 1) no_kept).depth ≤ (get_or ks k no_kept).depth + 1) (nests : Nests ks) (t : ℕ) (h : t < length ks) (e : kind_number (get_or ks t no_kept).kind ≡ table_kind) where
+module _ {ks : List NodeRecord} (step : (k : ℕ) → k + 1 < length ks → (get_or ks (k + 1) no_node).depth ≤ (get_or ks k no_node).depth + 1) (nests : Nests ks) (t : ℕ) (h : t < length ks) (e : kind_number (get_or ks t no_node).kind ≡ table_kind) where
   table_total : (m : Cell → ℕ) → ((k : ℕ) (c : Cell) → m (cell k c.cols c.rows) ≡ m (cell 0 c.cols c.rows))
-      → totals m (frame (get_or ks t no_kept).depth (suc (t + 1)) (drop (t + 1) ks)).bodies ≤ sum (map (by_kind m) ks)
+      → totals m (frame (get_or ks t no_node).depth (suc (t + 1)) (drop (t + 1) ks)).bodies ≤ sum (map (by_kind m) ks)
   table_total m any =
       let a = from_cells ks t (λ l. (k : ℕ) → m (cell k l.cols l.rows) ≤ by_kind m l)
-      (λ i c k. let l = get_or ks i no_kept in omega (arith, any k (cell 0 l.cols l.rows), cell_weighs m l (cell_kind_lem ks step nests t i c e)))
+      (λ i c k. let l = get_or ks i no_node in omega (arith, any k (cell 0 l.cols l.rows), cell_weighs m l (cell_kind_lem ks step nests t i c e)))
       (length ks - (t + 1)) (t + 1) (omega arith) (omega arith) (λ k u v. absurd (omega arith)) in
-      omega (arith, frame_total_lem m (by_kind m) (get_or ks t no_kept).depth (suc (t + 1)) (drop (t + 1) ks) a, sum_rest (by_kind m) (t + 1) ks)
+      omega (arith, frame_total_lem m (by_kind m) (get_or ks t no_node).depth (suc (t + 1)) (drop (t + 1) ks) a, sum_rest (by_kind m) (t + 1) ks)
 
   table_sound : SheetBound max_entries ks → Sound (table_rows ks t)
   unfolding table_rows
   table_sound z =
-      let bs = (frame (get_or ks t no_kept).depth (suc (t + 1)) (drop (t + 1) ks)).bodies in
+      let bs = (frame (get_or ks t no_node).depth (suc (t + 1)) (drop (t + 1) ks)).bodies in
       bound_fits bs (bodies_bound bs (omega (arith, table_total wide_of (λ k c. refl), z.cols)))
       (omega (arith, bodies_asked_lem bs, table_total rows_of (λ k c. refl), z.rows))
 
 -- no table has more entries than the bound
-pub sheet_entries : {ks : List Kept} {most : ℕ} → ((k : ℕ) → k + 1 < length ks → (get_or ks (k + 1) no_kept).depth ≤ (get_or ks k no_kept).depth + 1) → Nests ks → most ≤ max_entries → SheetBound most ks
-    → (t : ℕ) → t < length ks → kind_number (get_or ks t no_kept).kind ≡ table_kind → entry_count (all_rows (table_rows ks t)) ≤ most
+pub sheet_entries : {ks : List NodeRecord} {most : ℕ} → ((k : ℕ) → k + 1 < length ks → (get_or ks (k + 1) no_node).depth ≤ (get_or ks k no_node).depth + 1) → Nests ks → most ≤ max_entries → SheetBound most ks
+    → (t : ℕ) → t < length ks → kind_number (get_or ks t no_node).kind ≡ table_kind → entry_count (all_rows (table_rows ks t)) ≤ most
 unfolding table_rows
 sheet_entries {ks} step nests m z t h e =
-    let bs = (frame (get_or ks t no_kept).depth (suc (t + 1)) (drop (t + 1) ks)).bodies in
+    let bs = (frame (get_or ks t no_node).depth (suc (t + 1)) (drop (t + 1) ks)).bodies in
     let q = bodies_asked_lem bs in
     let r = table_total step nests t h e rows_of (λ k c. refl) in
     omega (arith, bodies_few bs (bodies_bound bs (omega (arith, table_total step nests t h e wide_of (λ k c. refl), z.cols))) (omega (arith, z.rows)), z.rows)
 
 -- no table is refused
-pub sheet_sound : {ks : List Kept} → ((k : ℕ) → k + 1 < length ks → (get_or ks (k + 1) no_kept).depth ≤ (get_or ks k no_kept).depth + 1) → Nests ks → SheetBound max_entries ks → AllSound ks
+pub sheet_sound : {ks : List NodeRecord} → ((k : ℕ) → k + 1 < length ks → (get_or ks (k + 1) no_node).depth ≤ (get_or ks k no_node).depth + 1) → Nests ks → SheetBound max_entries ks → AllSound ks
 sheet_sound step nests z = record { at = λ t h e. table_sound step nests t h e z }
 
 -- where so many records suffice, no table has more entries
-pub suffice_entries : {ks : List Kept} {entries rows : ℕ} → ((k : ℕ) → k + 1 < length ks → (get_or ks (k + 1) no_kept).depth ≤ (get_or ks k no_kept).depth + 1) → Nests ks → Suffice entries rows ks
-    → (t : ℕ) → t < length ks → kind_number (get_or ks t no_kept).kind ≡ table_kind → entry_count (all_rows (table_rows ks t)) ≤ entries
+pub suffice_entries : {ks : List NodeRecord} {entries rows : ℕ} → ((k : ℕ) → k + 1 < length ks → (get_or ks (k + 1) no_node).depth ≤ (get_or ks k no_node).depth + 1) → Nests ks → Suffice entries rows ks
+    → (t : ℕ) → t < length ks → kind_number (get_or ks t no_node).kind ≡ table_kind → entry_count (all_rows (table_rows ks t)) ≤ entries
 suffice_entries step nests z t h e = omega (arith, sheet_entries step nests z.small z.bound t h e, z.within)

@@ -1,2 +1,1 @@
-pub mod Bound
-pub mod Sheets
+pub mod inner

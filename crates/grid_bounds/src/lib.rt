@@ -6,20 +6,20 @@
 pub mod whole; // whole.rt: all tables of a sheet at once
 
 ghost use Rattle.std.specs.Prelude.{◌≡◌, true, ◌≤◌, ◌<◌, length};
-ghost use Rattle.lists.specs.Limits.{max_lines, max_position};
-ghost use Rattle.cells.specs.Listed.{table_rows};
+ghost use Rattle.common.specs.Limits.{max_lines, max_position};
+ghost use Rattle.resolved_rows.specs.Listed.{table_rows};
 ghost use Rattle.grid.specs.Facts.{Sound};
-ghost use Rattle.grid_bounds.specs.Bound.{Room, HungBy};
+ghost use Rattle.grid_bounds.specs.inner.Bound.{Room, HungByPost};
 
-use lists::{MAX_ENTRIES, MAX_POSITION};
-use records::Kept;
+use common::{MAX_ENTRIES, MAX_POSITION};
+use records::NodeRecord;
 
 // The entries that a table may have.
 pub const MOST_ENTRIES: u32 = MAX_ENTRIES as u32;
 
 // Whether a cell fits into its row, which ends at `end` before it, and into its table, which has so many entries before it and may have `most`. A cols 0 or
 // a rows 0 does not.
-pub fn has_room(cols: u32, rows: u32, end: u32, entries: u32, most: u32) -> bool
+pub fn within_bounds(cols: u32, rows: u32, end: u32, entries: u32, most: u32) -> bool
     requires { (end ≤ max_position) × (entries ≤ most) }
     ensures { result ≡ true → Room cols rows end entries most }
 {
@@ -28,14 +28,14 @@ pub fn has_room(cols: u32, rows: u32, end: u32, entries: u32, most: u32) -> bool
 
 // How wide a cell hangs into the rows after its own.
 fn hung_by(cols: u32, rows: u32) -> u32
-    ensures { HungBy cols rows result }
+    ensures { HungByPost cols rows result }
 {
     if rows == 1 { 0 } else { cols }
 }
 
 // Whether the table at the place `at` is within the bound: what hangs is taken to hang to its body's end, and each cell to take all rows that it asks for.
 // `hung` hang into the row after the open one, which ends at `end`, and there are so many entries.
-pub fn table_fits(lines: &[Kept], at: usize) -> bool
+pub fn table_fits(lines: &[NodeRecord], at: usize) -> bool
     requires { (at < length lines.now) × (length lines.now ≤ max_lines) }
     ensures { result ≡ true → Sound (table_rows lines.now at) }
 {
@@ -53,7 +53,7 @@ pub fn table_fits(lines: &[Kept], at: usize) -> bool
         if e == 3 {
             let cols = u32::from(line.cols);
             let rows = u32::from(line.rows);
-            if !has_room(cols, rows, end, entries, MOST_ENTRIES) {
+            if !within_bounds(cols, rows, end, entries, MOST_ENTRIES) {
                 return false;
             }
             hung += hung_by(cols, rows);

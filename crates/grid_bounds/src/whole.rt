@@ -1,15 +1,15 @@
 // Whether no table of a sheet can be refused, by one bound on all cells of the sheet: one pass, however deep tables stand in tables.
 ghost use Rattle.std.specs.Prelude.{◌≡◌, true, ◌≤◌};
-ghost use Rattle.lists.specs.Limits.{max_entries};
-ghost use Rattle.grid_bounds.specs.Sheets.{SheetBound, Suffice};
+ghost use Rattle.common.specs.Limits.{max_entries};
+ghost use Rattle.grid_bounds.specs.inner.Sheets.{SheetBound, Suffice};
 
+use common::MAX_ENTRIES;
 use kinds::Kind;
-use lists::MAX_ENTRIES;
-use records::Kept;
+use records::NodeRecord;
 
 // Whether all cells of the sheet together span no more columns than a row may, and ask for at most `most` rows, so that no table has more entries; none
 // has cols 0 or rows 0. Its turn is like one of `table_fits`, which adds up what hangs too: as one function both would take and give three numbers.
-pub fn sheet_fits(lines: &[Kept], most: u32) -> bool
+pub fn sheet_fits(lines: &[NodeRecord], most: u32) -> bool
     requires { most ≤ max_entries }
     ensures { result ≡ true → SheetBound most lines.now }
 {
@@ -19,7 +19,7 @@ pub fn sheet_fits(lines: &[Kept], most: u32) -> bool
         if line.kind == Kind::Cell {
             let cols = u32::from(line.cols);
             let rows = u32::from(line.rows);
-            if !super::has_room(cols, rows, end, entries, most) {
+            if !super::within_bounds(cols, rows, end, entries, most) {
                 return false;
             }
             end += cols;
@@ -37,7 +37,7 @@ fn most_of(entries: usize) -> u32
 }
 
 // Whether so many records of entries and of rows suffice for the grid of any table of the sheet.
-pub fn suffice(lines: &[Kept], entries: usize, rows: usize) -> bool
+pub fn suffice(lines: &[NodeRecord], entries: usize, rows: usize) -> bool
     ensures { result ≡ true → Suffice entries rows lines.now }
 {
     lines.len() <= rows && sheet_fits(lines, most_of(entries))

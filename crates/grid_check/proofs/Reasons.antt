@@ -1,4 +1,4 @@
--- What a table's refusal says, and the verdict of its checks. Assumes nothing.
+-- What a table's refusal says, and the verdict of its checks.
 use mathlib.Core.Path.{◌≡◌, refl, sym, ap₂}
 use mathlib.Core.Bool.{Bool, true, false, cond}
 use mathlib.Core.List.{List, ◌∷◌, ◌++◌}
@@ -6,17 +6,17 @@ use Prim.Native.Nat.{ℕ}
 use lib.Dec.{ltb}
 use borrow.Author.Tests.{ltb-false, le-ltb}
 use Rattle.std.specs.Prelude.{Result, Ok, Err}
-use Rattle.lists.specs.Limits.{max_entries}
-use Rattle.lists.specs.Refusals.{Check, refusal, check, first_answer, verdict_of}
-use Rattle.lists.specs.declared.Reason.{Reason}
-use Rattle.lists.specs.declared.Reason.TheVariants.{RowEnd, TooManyEntries}
-use Rattle.lists.specs.declared.Refusal.{Refusal}
-use Rattle.cells.specs.Cells as cells
-use Rattle.positions.specs.Positions.{all_rows, ends_past, entry_count}
+use Rattle.common.specs.Limits.{max_entries}
+use Rattle.common.specs.Refusals.{Check, refusal, check, first_answer, verdict_of}
+use Rattle.common.specs.declared.Reason.{Reason}
+use Rattle.common.specs.declared.Reason.TheVariants.{RowEnd, TooManyEntries}
+use Rattle.common.specs.declared.Refusal.{Refusal}
+use Rattle.resolved_rows.specs.Cells as cells
+use Rattle.grid_positions.specs.Positions.{all_rows, ends_past, entry_count}
 use Rattle.grid.specs.Grid.{table_checks}
 use Rattle.grid.specs.Facts.{Sound}
-use Rattle.grid_counts.specs.Count.{count_of}
-use Rattle.grid_check.specs.Checking.{refusal_of}
+use Rattle.grid_counts.specs.inner.Count.{count_of}
+use Rattle.grid_check.specs.inner.Checking.{refusal_of}
 
 -- the refusal of a line, or what follows
 abbrev pub or_rest : Result (Unit {0}) Reason → ℕ → Result (Unit {0}) Refusal → Result (Unit {0}) Refusal

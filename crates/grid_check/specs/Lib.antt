@@ -1,1 +1,1 @@
-pub mod Checking
+pub mod inner

@@ -6,18 +6,18 @@
 #![tactic(auto)]
 
 ghost use Rattle.std.specs.Prelude.{◌≡◌, true, ◌≤◌, ◌<◌, length};
-ghost use Rattle.lists.specs.Limits.{max_entries};
-ghost use Rattle.cells.specs.Listed.{table_rows};
+ghost use Rattle.common.specs.Limits.{max_entries};
+ghost use Rattle.resolved_rows.specs.Listed.{table_rows};
 ghost use Rattle.grid.specs.Judging.{Lined};
-ghost use Rattle.grid_bounds.specs.Sheets.{Nests, SheetBound};
-ghost use Rattle.grid_check.specs.Checking.{refusal_of, TablesChecked};
+ghost use Rattle.grid_bounds.specs.inner.Sheets.{Nests, SheetBound};
+ghost use Rattle.grid_check.specs.inner.Checking.{refusal_of, TablesChecked};
 
+use common::{Reason, Refusal};
 use kinds::Kind;
-use lists::{Reason, Refusal};
-use records::Kept;
+use records::NodeRecord;
 
 // Which refusal applies to the table at the place `at`: by the bound, which decides nearly every table, and where it does not, by counting.
-pub fn check_table(lines: &[Kept], at: usize, ends: &mut [u32]) -> Result<(), Reason>
+pub fn check_table(lines: &[NodeRecord], at: usize, ends: &mut [u32]) -> Result<(), Reason>
     requires at_in_bounds { at < length lines.now }
     requires lined { Lined lines.now }
     requires lines_in_bounds { length lines.now ≤ length ends.old }
@@ -30,7 +30,7 @@ pub fn check_table(lines: &[Kept], at: usize, ends: &mut [u32]) -> Result<(), Re
 }
 
 // Checks each table of a sheet by itself, in the order of lines.
-fn check_each(lines: &[Kept], ends: &mut [u32]) -> Result<(), Refusal>
+fn check_each(lines: &[NodeRecord], ends: &mut [u32]) -> Result<(), Refusal>
     requires lined { Lined lines.now }
     requires lines_in_bounds { length lines.now ≤ length ends.old }
     ensures { TablesChecked lines.now result }
@@ -45,7 +45,7 @@ fn check_each(lines: &[Kept], ends: &mut [u32]) -> Result<(), Refusal>
 
 // Checks each table of a sheet, in the order of lines: the first refusal that applies, on the table's line. The bound on all cells of the sheet together
 // decides nearly every sheet in one pass.
-pub fn check_tables(lines: &[Kept], ends: &mut [u32]) -> Result<(), Refusal>
+pub fn check_tables(lines: &[NodeRecord], ends: &mut [u32]) -> Result<(), Refusal>
     requires lined { Lined lines.now }
     requires nests { Nests lines.now }
     requires lines_in_bounds { length lines.now ≤ length ends.old }

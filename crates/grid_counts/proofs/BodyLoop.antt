@@ -1,5 +1,5 @@
 -- The loop of `count_body` on plain lists: what hangs into row q is as wide as is told, and place q + k of the slice tells how much of it hangs into k rows
--- more; with the rows still to come this is the body. Assumes nothing.
+-- more; with the rows still to come this is the body.
 use mathlib.Core.Path.{◌≡◌, refl, sym, ap, ap₂, ◌∙◌}
 use mathlib.Core.Bool.{Bool, ◌||◌}
 use mathlib.Core.List.{List, [], ◌∷◌, ◌++◌, map}
@@ -11,22 +11,22 @@ use lib.Seq.{get_or-drop, length-take-le}
 use Rattle.std.proofs.lemmas.List.{get_or-append_right, get_or_append_left}
 use borrow.Rule.Slice.PartMut.{put_mid, same_len_mid}
 use borrow.Author.Tests.{lt-ltb, le-ltb}
-use Rattle.lists.specs.Lists.{sum}
-use Rattle.lists.specs.Limits.{max_lines, max_cols, max_position}
-use Rattle.records.specs.Kept.{no_kept}
-use Rattle.records.specs.declared.Kept.{Kept}
-use Rattle.cells.specs.Cells.{Cell, Row, Frame, frame, row, row_sum, widest, resolve_cell, resolve_row, fill_body, cut_cell, cut_row, cut_body, resolve_body}
-use Rattle.cells.specs.Listed.{all_cells}
-use Rattle.rows.specs.Row.{Item, items_end, nexts}
-use Rattle.positions.specs.Positions.{originals, all_rows, ends_past}
-use Rattle.positions.proofs.TableFacts.{entries}
+use Rattle.common.specs.Lists.{sum}
+use Rattle.common.specs.Limits.{max_lines, max_cols, max_position}
+use Rattle.records.specs.NodeRecord.{no_node}
+use Rattle.records.specs.declared.NodeRecord.{NodeRecord}
+use Rattle.resolved_rows.specs.Cells.{Cell, Row, Frame, frame, row, row_sum, widest, resolve_cell, resolve_row, fill_body, cut_cell, cut_row, cut_body, resolve_body}
+use Rattle.resolved_rows.specs.inner.Listed.{all_cells}
+use Rattle.grid_row.specs.Row.{Item, items_end, nexts}
+use Rattle.grid_positions.specs.Positions.{originals, all_rows, ends_past}
+use Rattle.grid_positions.proofs.TableFacts.{entries}
 use Rattle.grid_bounds.proofs.Ends.{wides, wides_small, entries_end, entries_wides, nexts_end, nexts_wides}
 use Rattle.grid_bounds.proofs.Entries.{takens, takens_append, body_entries}
 use Rattle.std.specs.Prelude.{Result, Ok, Err}
-use Rattle.lists.specs.declared.Reason.{Reason}
-use Rattle.lists.specs.declared.Reason.TheVariants.{RowEnd}
+use Rattle.common.specs.declared.Reason.{Reason}
+use Rattle.common.specs.declared.Reason.TheVariants.{RowEnd}
 use Rattle.grid_counts.specs.declared.Tally.{Tally}
-use Rattle.grid_counts.specs.inner.Tallies.{many_entries, Lines, RowSum, Surveyed, ready, cols_sum, RowReady, RowDone, RowCounted, BodyCounted}
+use Rattle.grid_counts.specs.inner.Tallies.{many_entries, Lines, RowSumPost, SurveyPost, ready, cols_sum, CountRowPre, RowDone, CountRowPost, CountBodyPost}
 use Rattle.grid_counts.proofs.SumLoop.{sum_lent}
 use Rattle.grid_counts.proofs.Scan.{framed, framed_all, rest_is, lines_lent, there, rows_none, rows_more, rows_on}
 
@@ -43,7 +43,7 @@ past_row : (hs : List Item) (r : Row) (rs : List Row) → ends_past (originals h
 unfolding originals ends_past
 past_row hs r rs = refl
 
-pub record BodyCounting (ks : List Kept) (d rows most entries₀ : ℕ) (ends₀ ends : List ℕ) (reach count q j : ℕ) : Type 0 where
+pub record BodyCounting (ks : List NodeRecord) (d rows most entries₀ : ℕ) (ends₀ ends : List ℕ) (reach count q j : ℕ) : Type 0 where
   pub hs : ℕ → List Item
   pub place : j ≤ length ks
   pub rows_left : (n : ℕ) → q + length (framed n ks d j).rows ≡ rows
@@ -57,8 +57,8 @@ pub record BodyCounting (ks : List Kept) (d rows most entries₀ : ℕ) (ends₀
   pub ends_are : (n k : ℕ) → q + k < rows → get_or ends (q + k) 0 ≡ wides k (hs n)
   pub same : length ends ≡ length ends₀
 
-pub body_start : {ks : List Kept} {d rows most entries₀ : ℕ} {ends : List ℕ} → entries₀ ≤ many_entries
-    → ((n : ℕ) → Surveyed (frame d n ks).rows rows most ends) → BodyCounting ks d rows most entries₀ ends ends 0 entries₀ 0 0
+pub body_start : {ks : List NodeRecord} {d rows most entries₀ : ℕ} {ends : List ℕ} → entries₀ ≤ many_entries
+    → ((n : ℕ) → SurveyPost (frame d n ks).rows rows most ends) → BodyCounting ks d rows most entries₀ ends ends 0 entries₀ 0 0
 unfolding resolve_body fill_body sum
 body_start {ks} {d} {rows} {most} {entries₀} {ends} f s = record {
   hs = λ n. [];
@@ -81,9 +81,9 @@ body_start {ks} {d} {rows} {most} {entries₀} {ends} f s = record {
     all_length : (n : ℕ) → length (framed n ks d 0).rows ≡ length (frame d n ks).rows
     all_length n = ap (λ (g : Frame). length g.rows) (framed_all n ks d)
 
-module _ {ks : List Kept} {d rows most entries₀ : ℕ} {ends₀ ends : List ℕ} {reach count q j : ℕ} (t : Lines ks d) (small : most ≤ max_lines * max_cols) (few_rows : rows ≤ max_lines) (room : rows ≤ length ends₀)
+module _ {ks : List NodeRecord} {d rows most entries₀ : ℕ} {ends₀ ends : List ℕ} {reach count q j : ℕ} (t : Lines ks d) (small : most ≤ max_lines * max_cols) (few_rows : rows ≤ max_lines) (capacity : rows ≤ length ends₀)
     (z : BodyCounting ks d rows most entries₀ ends₀ ends reach count q j) where
-  pub body_stop : (n : ℕ) → (get_or ks j no_kept).depth ≤ d + 1 → BodyCounted (frame d n ks).rows entries₀ (Ok count)
+  pub body_stop : (n : ℕ) → (get_or ks j no_node).depth ≤ d + 1 → CountBodyPost (frame d n ks).rows entries₀ (Ok count)
   unfolding cut_body originals ends_past all_cells sum
   body_stop n h =
       let e = rows_none n ks d j h in
@@ -97,8 +97,8 @@ module _ {ks : List Kept} {d rows most entries₀ : ℕ} {ends₀ ends : List �
             };
       }
 
-  abbrev l : Kept
-  l = get_or ks j no_kept
+  abbrev l : NodeRecord
+  l = get_or ks j no_node
 
   module _ (h : d + 1 < l.depth) where
     pub body_there : j < length ks
@@ -120,8 +120,8 @@ module _ {ks : List Kept} {d rows most entries₀ : ℕ} {ends₀ ends : List �
           same = z.same;
         }
 
-    module _ (e : l.depth - (d + 1) ≡ 1) (s : ℕ) (lent : (n : ℕ) → RowSum (frame d n (take (length ks - (j + 1)) (drop (j + 1) ks))).cells s) where
-      r : (n : ℕ) → RowSum (framed n ks d (j + 1)).cells s
+    module _ (e : l.depth - (d + 1) ≡ 1) (s : ℕ) (lent : (n : ℕ) → RowSumPost (frame d n (take (length ks - (j + 1)) (drop (j + 1) ks))).cells s) where
+      r : (n : ℕ) → RowSumPost (framed n ks d (j + 1)).cells s
       r = sum_lent ks d (j + 1) s lent
 
       abbrev cs : ℕ → List Cell
@@ -159,12 +159,12 @@ module _ {ks : List Kept} {d rows most entries₀ : ℕ} {ends₀ ends : List �
       lent_at : (k : ℕ) → get_or (take (length ends - q) (drop q ends)) k 0 ≡ get_or ends (q + k) 0
       lent_at k = rw (rest_is ends q) (get_or-drop q ends k 0)
 
-      pub row_ready : RowReady (take (length ks - (j + 1)) (drop (j + 1) ks)) d (most - s + 1) (rows - q - 1) reach count (take (length ends - q) (drop q ends))
+      pub row_ready : CountRowPre (take (length ks - (j + 1)) (drop (j + 1) ks)) d (most - s + 1) (rows - q - 1) reach count (take (length ends - q) (drop q ends))
       row_ready = record {
         lines = lines_lent (j + 1) t;
         small = omega arith;
         few_left = omega (arith, some_left);
-        room = rw (rest_is ends q) (omega (arith, length-drop q ends, some_left, z.same));
+        capacity = rw (rest_is ends q) (omega (arith, length-drop q ends, some_left, z.same));
         within = z.within;
         few = z.few;
         ends_small = λ k g. omega (arith, lent_at k, z.ends_are 0 k (omega (arith, some_left)), wides_small k (z.hs 0), z.reach_is 0);
@@ -176,7 +176,7 @@ module _ {ks : List Kept} {d rows most entries₀ : ℕ} {ends₀ ends : List �
       end_is : (n : ℕ) → items_end (X n) ≡ reach + cols_sum (R n).cells
       end_is n = omega (arith, entries_end (z.hs n) (R n), z.reach_is n)
 
-      body_past : (n : ℕ) → max_position < reach + cols_sum (R n).cells → BodyCounted (frame d n ks).rows entries₀ (Err RowEnd)
+      body_past : (n : ℕ) → max_position < reach + cols_sum (R n).cells → CountBodyPost (frame d n ks).rows entries₀ (Err RowEnd)
       body_past n g = record {
         past = λ why x.
             let e : RowEnd ≡ why = cc in
@@ -185,12 +185,12 @@ module _ {ks : List Kept} {d rows most entries₀ : ℕ} {ends₀ ends : List �
       }
 
       module _ {part : List ℕ} {res : Result Tally Reason}
-          (counted : (n : ℕ) → RowCounted (ready (most - s + 1) (rows - q - 1) (frame d n (take (length ks - (j + 1)) (drop (j + 1) ks))).cells) (rows - q - 1) reach count
+          (counted : (n : ℕ) → CountRowPost (ready (most - s + 1) (rows - q - 1) (frame d n (take (length ks - (j + 1)) (drop (j + 1) ks))).cells) (rows - q - 1) reach count
           (take (length ends - q) (drop q ends)) part res) where
-        counted_here : (n : ℕ) → RowCounted (R n).cells (rows - q - 1) reach count (take (length ends - q) (drop q ends)) part res
+        counted_here : (n : ℕ) → CountRowPost (R n).cells (rows - q - 1) reach count (take (length ends - q) (drop q ends)) part res
         counted_here n = rw (rest_is ks (j + 1)) at (counted (j + 1 + n))
 
-        pub body_refused : (why : Reason) → res ≡ Err why → (n : ℕ) → BodyCounted (frame d n ks).rows entries₀ (Err why)
+        pub body_refused : (why : Reason) → res ≡ Err why → (n : ℕ) → CountBodyPost (frame d n ks).rows entries₀ (Err why)
         body_refused why u n = let p = (counted_here n).past why u in rw p.0 (body_past n p.1)
 
         module _ (t' : Tally) (u : res ≡ Ok t') (kept : length part ≡ length (take (length ends - q) (drop q ends))) where

@@ -1,4 +1,4 @@
--- The loop of `count_row` on plain lists: what is counted, with what the cells still to come add, is what the row's cells add. Assumes nothing.
+-- The loop of `count_row` on plain lists: what is counted, with what the cells still to come add, is what the row's cells add.
 use mathlib.Core.Path.{◌≡◌, refl, sym, ap, ap₂, ◌∙◌}
 use mathlib.Core.Bool.{Bool, true, false, cond}
 use mathlib.Core.List.{List, ◌∷◌, map}
@@ -8,17 +8,17 @@ use native.Mathlib.Decide.{ℕ_discrete}
 use native.Mathlib.Omega.{arith}
 use lib.ListN.{length, get_or, set, length-set}
 use lib.Seq.{get_or-set_same, get_or-set_other}
-use Rattle.lists.specs.Lists.{sum}
-use Rattle.lists.specs.Limits.{max_position}
-use Rattle.records.specs.Kept.{no_kept}
-use Rattle.records.specs.declared.Kept.{Kept}
-use Rattle.cells.specs.Cells.{Cell, Frame, frame, cell, resolve_cell, cut_cell}
-use Rattle.rows.specs.Row.{item_of}
+use Rattle.common.specs.Lists.{sum}
+use Rattle.common.specs.Limits.{max_position}
+use Rattle.records.specs.NodeRecord.{no_node}
+use Rattle.records.specs.declared.NodeRecord.{NodeRecord}
+use Rattle.resolved_rows.specs.Cells.{Cell, Frame, frame, cell, resolve_cell, cut_cell}
+use Rattle.grid_row.specs.Row.{item_of}
 use Rattle.grid_bounds.proofs.Ends.{wide_at, at_same, at_other}
 use Rattle.grid_counts.specs.declared.Tally.{Tally}
 use Rattle.std.specs.Prelude.{Ok, Err}
-use Rattle.lists.specs.declared.Reason.TheVariants.{RowEnd}
-use Rattle.grid_counts.specs.inner.Tallies.{many_entries, Filled, Hanging, ready, cols_sum, rows_taken, wides_of, RowReady, RowCounted}
+use Rattle.common.specs.declared.Reason.TheVariants.{RowEnd}
+use Rattle.grid_counts.specs.inner.Tallies.{many_entries, Filled, HangsWithinPost, ready, cols_sum, rows_taken, wides_of, CountRowPre, CountRowPost}
 use Rattle.grid_counts.proofs.Scan.{framed, framed_all, there, cells_none, cells_more, cells_on}
 
 -- cols with `instead` in the place of 0 are no more than both together
@@ -29,7 +29,7 @@ filled_at {cols} {instead} e = record { is = e; small = rw e (least (eqb cols 0)
     least true = omega arith
     least false = omega arith
 
-module _ (n : ℕ) (ks : List Kept) (d instead left : ℕ) where
+module _ (n : ℕ) (ks : List NodeRecord) (d instead left : ℕ) where
   -- the row's cells, resolved, where its first line has the number n; and those from place j on
   abbrev pub ready_all : List Cell
   ready_all = ready instead left (frame d n ks).cells
@@ -37,7 +37,7 @@ module _ (n : ℕ) (ks : List Kept) (d instead left : ℕ) where
   abbrev pub ready_from : ℕ → List Cell
   ready_from j = ready instead left (framed n ks d j).cells
 
-pub record Counting (ks : List Kept) (d instead left reach₀ entries₀ : ℕ) (ends₀ ends : List ℕ) (reach entries j : ℕ) : Type 0 where
+pub record Counting (ks : List NodeRecord) (d instead left reach₀ entries₀ : ℕ) (ends₀ ends : List ℕ) (reach entries j : ℕ) : Type 0 where
   pub place : j ≤ length ks
   pub cols : (n : ℕ) → reach + cols_sum (ready_from n ks d instead left j) ≡ reach₀ + cols_sum (ready_all n ks d instead left)
   pub within : reach ≤ max_position
@@ -48,7 +48,7 @@ pub record Counting (ks : List Kept) (d instead left reach₀ entries₀ : ℕ) 
   pub ends_small : (k : ℕ) → k ≤ left → get_or ends k 0 ≤ reach
   pub same : length ends ≡ length ends₀
 
-module _ {ks : List Kept} {d instead left reach₀ entries₀ : ℕ} {ends₀ : List ℕ} (t : RowReady ks d instead left reach₀ entries₀ ends₀) where
+module _ {ks : List NodeRecord} {d instead left reach₀ entries₀ : ℕ} {ends₀ : List ℕ} (t : CountRowPre ks d instead left reach₀ entries₀ ends₀) where
   pub row_start : Counting ks d instead left reach₀ entries₀ ends₀ ends₀ reach₀ entries₀ 0
   row_start = record {
     place = omega arith;
@@ -62,8 +62,8 @@ module _ {ks : List Kept} {d instead left reach₀ entries₀ : ℕ} {ends₀ : 
   }
 
   module _ {ends : List ℕ} {reach entries j : ℕ} (z : Counting ks d instead left reach₀ entries₀ ends₀ ends reach entries j) where
-    pub row_stop : (n : ℕ) → (get_or ks j no_kept).depth ≤ d + 2
-        → RowCounted (ready_all n ks d instead left) left reach₀ entries₀ ends₀ ends (Ok (record { reach = reach; entries = entries }))
+    pub row_stop : (n : ℕ) → (get_or ks j no_node).depth ≤ d + 2
+        → CountRowPost (ready_all n ks d instead left) left reach₀ entries₀ ends₀ ends (Ok (record { reach = reach; entries = entries }))
     unfolding sum
     row_stop n h =
         let e = cells_none n ks d j h in
@@ -81,8 +81,8 @@ module _ {ks : List Kept} {d instead left reach₀ entries₀ : ℕ} {ends₀ : 
               };
         }
 
-    abbrev l : Kept
-    l = get_or ks j no_kept
+    abbrev l : NodeRecord
+    l = get_or ks j no_node
 
     module _ (h : d + 2 < l.depth) where
       pub row_there : j < length ks
@@ -109,13 +109,13 @@ module _ {ks : List Kept} {d instead left reach₀ entries₀ : ℕ} {ends₀ : 
         cells_are n = ap (ready instead left) (cells_more n ks d j h e)
 
         -- past 4,096 already
-        pub row_past : (n : ℕ) → max_position < reach + wide → (ends' : List ℕ) → RowCounted (ready_all n ks d instead left) left reach₀ entries₀ ends₀ ends' (Err RowEnd)
+        pub row_past : (n : ℕ) → max_position < reach + wide → (ends' : List ℕ) → CountRowPost (ready_all n ks d instead left) left reach₀ entries₀ ends₀ ends' (Err RowEnd)
         unfolding sum
         row_past n g ends' =
             let w = rw (cells_are n) at (z.cols n) in
             record { past = λ why x. let e : RowEnd ≡ why = cc in (sym e, omega (arith, f.is)); counted = λ o x. cc }
 
-        module _ (g : reach + wide ≤ max_position) (hang : ℕ) (v : Hanging left l.rows hang) where
+        module _ (g : reach + wide ≤ max_position) (hang : ℕ) (v : HangsWithinPost left l.rows hang) where
           abbrev new : List ℕ
           new = set ends hang (get_or ends hang 0 + wide)
 
@@ -128,7 +128,7 @@ module _ {ks : List Kept} {d instead left reach₀ entries₀ : ℕ} {ends₀ : 
           new_at : (n k : ℕ) → Dec (k ≡ hang) → get_or new k 0 ≡ get_or ends k 0 + wide_at k (item_of (c n))
           new_at n k (yes u) =
               ap (λ (x : ℕ). get_or new x 0) u
-              ∙ get_or-set_same ends hang (get_or ends hang 0 + wide) 0 (omega (arith, t.room, z.same, v.small))
+              ∙ get_or-set_same ends hang (get_or ends hang 0 + wide) 0 (omega (arith, t.capacity, z.same, v.small))
               ∙ ap₂ (λ (x y : ℕ). get_or ends x 0 + y) (sym u) (f.is ∙ sym (at_same k (item_of (c n)) (left_is n ∙ sym u)))
           new_at n k (no u) =
               get_or-set_other ends hang k (get_or ends hang 0 + wide) 0 u

@@ -1,4 +1,4 @@
--- The cells of a row, the rows of a body and the bodies of a table, line by line. Assumes nothing.
+-- The cells of a row, the rows of a body and the bodies of a table, line by line.
 use mathlib.Core.Path.{◌≡◌, ap}
 use mathlib.Core.List.{List, [], ◌∷◌}
 use Prim.Native.Nat.{ℕ, ◌+◌, ◌-◌, ◌≤◌, ◌<◌}
@@ -6,18 +6,18 @@ use native.Mathlib.Decide.{dec_lt, ℕ_discrete}
 use native.Mathlib.Omega.{arith}
 use lib.ListN.{length, get_or, take, drop, length-drop, get_or-eq_default}
 use lib.Seq.{take_all, get_or-drop}
-use Rattle.records.specs.Kept.{no_kept}
-use Rattle.records.specs.declared.Kept.{Kept}
-use Rattle.cells.specs.Cells.{Cell, Row, Frame, frame, cell, row, open_body, open_row, open_cell}
+use Rattle.records.specs.NodeRecord.{no_node}
+use Rattle.records.specs.declared.NodeRecord.{NodeRecord}
+use Rattle.resolved_rows.specs.Cells.{Cell, Row, Frame, frame, cell, row, open_body, open_row, open_cell}
 use Rattle.grid_counts.specs.inner.Tallies.{Lines}
-use Rattle.cells.proofs.Lines.{stop_from, body_from, row_from, cell_from, deeper_from, inside}
+use Rattle.resolved_rows.proofs.Lines.{stop_from, body_from, row_from, cell_from, deeper_from, inside}
 
 -- what the lines from place i on hold, below a table of depth d, where the first of all has the number n: the cells of the open row, the other rows of
 -- its body, and the other bodies
-abbrev pub framed : ℕ → List Kept → ℕ → ℕ → Frame
+abbrev pub framed : ℕ → List NodeRecord → ℕ → ℕ → Frame
 framed n ks d i = frame d (i + n) (drop i ks)
 
-pub framed_all : (n : ℕ) (ks : List Kept) (d : ℕ) → framed n ks d 0 ≡ frame d n ks
+pub framed_all : (n : ℕ) (ks : List NodeRecord) (d : ℕ) → framed n ks d 0 ≡ frame d n ks
 framed_all n ks d = let e : 0 + n ≡ n = omega arith in ap (λ (k : ℕ). frame d k ks) e
 
 -- the lines that are lent from a place on
@@ -25,11 +25,11 @@ pub rest_is : {A : Type 0} (xs : List A) (i : ℕ) → take (length xs - i) (dro
 rest_is xs i = take_all (length xs - i) (drop i xs) (omega (arith, length-drop i xs))
 
 -- what lines that are lent from a place on have
-pub lines_lent : {ks : List Kept} {d : ℕ} (i : ℕ) → Lines ks d → Lines (take (length ks - i) (drop i ks)) d
+pub lines_lent : {ks : List NodeRecord} {d : ℕ} (i : ℕ) → Lines ks d → Lines (take (length ks - i) (drop i ks)) d
 lines_lent {ks} {d} i t = rw (rest_is ks i) record {
   short = omega (arith, length-drop i ks, t.short);
   shallow = t.shallow;
-  narrow = λ k. omega (arith, ap (λ (x : Kept). x.cols) (get_or-drop i ks k no_kept), t.narrow (i + k));
+  narrow = λ k. omega (arith, ap (λ (x : NodeRecord). x.cols) (get_or-drop i ks k no_node), t.narrow (i + k));
 }
 
 abbrev cells_of : Frame → List Cell
@@ -41,9 +41,9 @@ rows_of f = f.rows
 abbrev bodies_of : Frame → List (List Row)
 bodies_of f = f.bodies
 
-module _ (n : ℕ) (ks : List Kept) (d i : ℕ) where
+module _ (n : ℕ) (ks : List NodeRecord) (d i : ℕ) where
   abbrev depth : ℕ
-  depth = (get_or ks i no_kept).depth
+  depth = (get_or ks i no_node).depth
 
   -- ---- where they end
 
@@ -67,8 +67,8 @@ module _ (n : ℕ) (ks : List Kept) (d i : ℕ) where
 
   -- ---- a line
 
-  abbrev l : Kept
-  l = get_or ks i no_kept
+  abbrev l : NodeRecord
+  l = get_or ks i no_node
 
   pub there : d < depth → i < length ks
   there h = inside ks i d h
@@ -128,5 +128,5 @@ module _ (n : ℕ) (ks : List Kept) (d i : ℕ) where
   bodies_more h e = ap bodies_of (body_here h e)
 
 -- past the last line there is none
-pub past_lines : (ks : List Kept) (i : ℕ) → length ks ≤ i → (get_or ks i no_kept).depth ≡ 0
-past_lines ks i h = ap (λ (k : Kept). k.depth) (get_or-eq_default ks no_kept {n = i} h)
+pub past_lines : (ks : List NodeRecord) (i : ℕ) → length ks ≤ i → (get_or ks i no_node).depth ≡ 0
+past_lines ks i h = ap (λ (k : NodeRecord). k.depth) (get_or-eq_default ks no_node {n = i} h)

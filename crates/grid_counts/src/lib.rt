@@ -6,15 +6,15 @@
 #![tactic(auto)]
 
 ghost use Rattle.std.specs.Prelude.{◌≡◌, ℕ, ◌≤◌, ◌<◌, ◌+◌, min, length, get_or, set};
-ghost use Rattle.lists.specs.Limits.{max_lines};
-ghost use Rattle.records.specs.Kept.{no_kept};
-ghost use Rattle.cells.specs.Cells.{frame};
-ghost use Rattle.cells.specs.Listed.{table_rows};
-ghost use Rattle.grid_counts.specs.Count.{count_of, judged_by};
-ghost use Rattle.grid_counts.specs.inner.Tallies.{many_entries, Lines, RowSum, Surveyed, Hanging, ready, RowReady, RowCounted, BodyReady, BodyCounted};
+ghost use Rattle.common.specs.Limits.{max_lines};
+ghost use Rattle.records.specs.NodeRecord.{no_node};
+ghost use Rattle.resolved_rows.specs.Cells.{frame};
+ghost use Rattle.resolved_rows.specs.Listed.{table_rows};
+ghost use Rattle.grid_counts.specs.inner.Count.{count_of, entries_checked};
+ghost use Rattle.grid_counts.specs.inner.Tallies.{many_entries, Lines, RowSumPost, SurveyPost, HangsWithinPost, ready, CountRowPre, CountRowPost, BodyReady, CountBodyPost};
 
-use lists::{MAX_ENTRIES, MAX_POSITION, Reason};
-use records::Kept;
+use common::{MAX_ENTRIES, MAX_POSITION, Reason};
+use records::NodeRecord;
 
 // What a row comes to: what ends with it or hangs on, and how many entries there are up to it.
 #[derive(Clone, Copy)]
@@ -36,9 +36,9 @@ const MANY: u32 = MAX_ENTRIES as u32 + 1;
 // Into how many rows a cell hangs, where `left` rows follow its own in the body.
 fn hangs_within(rows: u32, left: u32) -> u32
     requires { left < max_lines }
-    ensures { Hanging left rows result }
+    ensures { HangsWithinPost left rows result }
 {
-    cells::rows_within(rows, left) - 1
+    resolved_rows::rows_within(rows, left) - 1
 }
 
 // The entries of a cell that hangs into so many rows more; no more than `MANY` are counted.
@@ -59,9 +59,9 @@ fn widen(ends: &mut [u32], at: usize, wide: u32)
 
 // The sum of the cols of the row whose cells are the first of these lines, in a table of depth d; 0 counts as 1. Here and below a contract holds for
 // whatever number n the first of the lines has.
-fn row_sum(lines: &[Kept], d: u8) -> u32
+fn row_sum(lines: &[NodeRecord], d: u8) -> u32
     requires { Lines lines.now d }
-    ensures { (n : ℕ) → RowSum (frame d n lines.now).cells result }
+    ensures { (n : ℕ) → RowSumPost (frame d n lines.now).cells result }
 {
     let row = d + 2;
     let cell = d + 3;
@@ -74,9 +74,9 @@ fn row_sum(lines: &[Kept], d: u8) -> u32
 }
 
 // How many rows the body has that the first of these lines are, and their largest sum; and a clear place for each of its rows.
-fn survey(lines: &[Kept], d: u8, ends: &mut [u32]) -> Body
+fn survey(lines: &[NodeRecord], d: u8, ends: &mut [u32]) -> Body
     requires { BodyReady lines.now d 0 ends.old }
-    ensures { (n : ℕ) → Surveyed (frame d n lines.now).rows result.rows result.most ends.new }
+    ensures { (n : ℕ) → SurveyPost (frame d n lines.now).rows result.rows result.most ends.new }
 {
     let body = d + 1;
     let mut rows = 0;
@@ -97,15 +97,15 @@ fn survey(lines: &[Kept], d: u8, ends: &mut [u32]) -> Body
 // Counts the row whose cells are the first of these lines: `instead` takes the place of cols 0, `left` rows follow it in its body, and before it so much
 // reaches into it and so many entries stand. Refusal 5 at the first cell that ends past 4,096.
 fn count_row(
-    lines: &[Kept],
+    lines: &[NodeRecord],
     d: u8,
     instead: u32,
     left: u32,
     before: Tally,
     ends: &mut [u32],
 ) -> Result<Tally, Reason>
-    requires { RowReady lines.now d instead left before.reach before.entries ends.old }
-    ensures { (n : ℕ) → RowCounted (ready instead left (frame d n lines.now).cells) left before.reach before.entries ends.old ends.new result }
+    requires { CountRowPre lines.now d instead left before.reach before.entries ends.old }
+    ensures { (n : ℕ) → CountRowPost (ready instead left (frame d n lines.now).cells) left before.reach before.entries ends.old ends.new result }
 {
     let row = d + 2;
     let mut sum = before.reach;
@@ -117,7 +117,7 @@ fn count_row(
         if line.depth == row + 1 {
             let cols = u32::from(line.cols);
             let rows = u32::from(line.rows);
-            let wide = cells::filled(cols, instead);
+            let wide = resolved_rows::filled(cols, instead);
             sum += wide;
             if MAX_POSITION < sum as usize {
                 return Err(Reason::RowEnd);
@@ -134,9 +134,9 @@ fn count_row(
 }
 
 // Counts the body that the first of these lines are, where there are so many entries before it: how many there are up to its end, or refusal 5.
-fn count_body(lines: &[Kept], d: u8, entries: u32, ends: &mut [u32]) -> Result<u32, Reason>
+fn count_body(lines: &[NodeRecord], d: u8, entries: u32, ends: &mut [u32]) -> Result<u32, Reason>
     requires { BodyReady lines.now d entries ends.old }
-    ensures { (n : ℕ) → BodyCounted (frame d n lines.now).rows entries result }
+    ensures { (n : ℕ) → CountBodyPost (frame d n lines.now).rows entries result }
 {
     let Body { rows, most } = survey(lines, d, ends);
     let body = d + 1;
@@ -163,8 +163,8 @@ fn count_body(lines: &[Kept], d: u8, entries: u32, ends: &mut [u32]) -> Result<u
 }
 
 // Refusal 6 if there are more entries than a table may have.
-fn judged(entries: u32) -> Result<(), Reason>
-    ensures { result ≡ judged_by entries }
+fn check_entries(entries: u32) -> Result<(), Reason>
+    ensures { result ≡ entries_checked entries }
 {
     if MAX_ENTRIES < entries as usize {
         return Err(Reason::TooManyEntries);
@@ -173,9 +173,9 @@ fn judged(entries: u32) -> Result<(), Reason>
 }
 
 // Which of the refusals 5 and 6 applies to the table at the place `at`: 5 if a row ends past 4,096, however late, and else 6.
-pub fn count_table(lines: &[Kept], at: usize, ends: &mut [u32]) -> Result<(), Reason>
+pub fn count_table(lines: &[NodeRecord], at: usize, ends: &mut [u32]) -> Result<(), Reason>
     requires at_in_bounds { at < length lines.now }
-    requires body_ready { BodyReady lines.now (get_or lines.now at no_kept).depth 0 ends.old }
+    requires body_ready { BodyReady lines.now (get_or lines.now at no_node).depth 0 ends.old }
     ensures { result ≡ count_of (table_rows lines.now at) }
 {
     let d = lines[at].depth;
@@ -189,5 +189,5 @@ pub fn count_table(lines: &[Kept], at: usize, ends: &mut [u32]) -> Result<(), Re
             n = count_body(&rest[i + 1..], d, n, ends)?;
         }
     }
-    judged(n)
+    check_entries(n)
 }

@@ -1,6 +1,6 @@
 -- The law of plain tables: where every cell takes one column and one row, the grid by the column edges is the one by the places of the cells in their
 -- rows, and has as many columns as the longest row has cells. Nothing hangs into a row, so cell k stands at position k; the edges are the positions up
--- to the longest row's end, so the number of each is the position itself. Assumes nothing.
+-- to the longest row's end, so the number of each is the position itself.
 use mathlib.Core.Path.{◌≡◌, refl, ap, ap₂, ◌∙◌}
 use mathlib.Core.Bool.{Bool, true, false, cond, ◌||◌}
 use mathlib.Core.List.{List, [], ◌∷◌, map}
@@ -10,17 +10,17 @@ use native.Mathlib.Omega.{arith}
 use lib.Dec.{eqb}
 use lib.ListN.{length}
 use borrow.Author.Tests.{eq-eqb}
-use Rattle.lists.proofs.Tests.{or_right}
-use Rattle.lists.specs.Lists.{sum, mem, All}
-use Rattle.cells.specs.Cells.{Cell, Row}
-use Rattle.rows.specs.Row.{Item, item, item_span, item_of, items_end, row_from, hang_of, nexts}
-use Rattle.rows.proofs.Steps.{row_free}
-use Rattle.positions.specs.Positions.{originals, all_rows}
-use Rattle.positions.specs.Positions as positions
-use Rattle.edges.specs.Edges.{count_below, ends_from}
-use Rattle.edges.proofs.Columns.{mem_append}
+use Rattle.common.proofs.Tests.{or_right}
+use Rattle.common.specs.Lists.{sum, mem, All}
+use Rattle.resolved_rows.specs.Cells.{Cell, Row}
+use Rattle.grid_row.specs.Row.{Item, item, item_span, item_of, items_end, row_from, hang_of, nexts}
+use Rattle.grid_row.proofs.Steps.{row_free}
+use Rattle.grid_positions.specs.Positions.{originals, all_rows}
+use Rattle.grid_positions.specs.Positions as positions
+use Rattle.column_edges.specs.Edges.{count_below, ends_from}
+use Rattle.column_edges.proofs.Columns.{mem_append}
 use Rattle.grid.specs.Grid.{Entry, entry, GridRow, grid_row, grid_of, columns_of, ends_of, spans_of, is_column_edge, number, entries_from, longest}
-use Rattle.grid_plain.specs.Plain.{Plain, PlainTable, plain_entries, plain_row, plain_grid, most_cells, IsPlainGrid}
+use Rattle.grid_plain.specs.inner.Plain.{Plain, PlainTable, plain_entries, plain_row, plain_grid, most_cells, IsPlainGrid}
 
 -- ---- the rows by positions: nothing hangs, and the cells stand one after the other
 

@@ -1,4 +1,4 @@
--- What resolving leaves of bodies: as many cells, and of plain ones everything; and a table has an entry at least for each cell. Assumes nothing.
+-- What resolving leaves of bodies: as many cells, and of plain ones everything; and a table has an entry at least for each cell.
 use mathlib.Core.Path.{◌≡◌, refl, sym, ap, ap₂, ◌∙◌}
 use mathlib.Core.Bool.{cond}
 use mathlib.Core.List.{List, [], ◌∷◌, ◌++◌, map}
@@ -7,14 +7,14 @@ use Prim.Native.Nat.{ℕ, suc, ◌+◌, ◌-◌, ◌≤◌, min}
 use native.Mathlib.Omega.{arith}
 use lib.Dec.{eqb}
 use lib.ListN.{length, length-append, length-map}
-use Rattle.lists.specs.Lists.{All}
-use Rattle.cells.specs.Cells.{Cell, Row, cell, row, row_sum, widest, resolve_cell, resolve_row, fill_body, taken, cut_cell, cut_row, cut_body, resolve_body, resolved}
-use Rattle.cells.specs.Listed.{all_cells}
-use Rattle.cells.proofs.Rows.{cells_append, cells_body}
-use Rattle.rows.specs.Row.{Item, item_of, row_from, nexts}
-use Rattle.rows.proofs.Merging.{row_length}
-use Rattle.positions.specs.Positions.{originals, all_rows, entry_count}
-use Rattle.grid_plain.specs.Plain.{Plain, PlainRow, PlainTable}
+use Rattle.common.specs.Lists.{All}
+use Rattle.resolved_rows.specs.Cells.{Cell, Row, cell, row, row_sum, widest, resolve_cell, resolve_row, fill_body, taken, cut_cell, cut_row, cut_body, resolve_body, resolved}
+use Rattle.resolved_rows.specs.inner.Listed.{all_cells}
+use Rattle.resolved_rows.proofs.Rows.{cells_append, cells_body}
+use Rattle.grid_row.specs.Row.{Item, item_of, row_from, nexts}
+use Rattle.grid_row.proofs.Merging.{row_length}
+use Rattle.grid_positions.specs.Positions.{originals, all_rows, entry_count}
+use Rattle.grid_plain.specs.inner.Plain.{Plain, PlainRow, PlainTable}
 
 -- the rows of all bodies, as they are written
 abbrev pub joined : List (List Row) → List Row

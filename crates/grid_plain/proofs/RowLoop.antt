@@ -1,5 +1,5 @@
 -- The loop of `try_row` on plain lists: the cells so far are plain, and with those of the lines still to come they are the row's; their entries stand after
--- those before. Assumes nothing.
+-- those before.
 use mathlib.Core.Path.{◌≡◌, refl, sym, ap, subst, ◌∙◌}
 use mathlib.Core.Bool.{true, false, ◌&&◌}
 use mathlib.Core.List.{List, [], ◌∷◌, ◌++◌, map, append_assoc, append-nil}
@@ -11,22 +11,22 @@ use lib.ListN.{length, get_or, set, take, length-append, length-set}
 use lib.Dec.{eqb}
 use lib.Seq.{take-suc-set}
 use borrow.Author.Tests.{eqb-true}
-use Rattle.lists.proofs.Tests.{both}
-use Rattle.lists.specs.Lists.{All}
-use Rattle.lists.specs.Limits.{max_entries}
-use Rattle.lists.proofs.All.{all_append}
-use Rattle.lists.proofs.Sum.{map_snoc}
-use Rattle.records.specs.Kept.{no_kept}
-use Rattle.records.specs.declared.Kept.{Kept}
+use Rattle.common.proofs.Tests.{both}
+use Rattle.common.specs.Lists.{All}
+use Rattle.common.specs.Limits.{max_entries}
+use Rattle.common.proofs.All.{all_append}
+use Rattle.common.proofs.Sum.{map_snoc}
+use Rattle.records.specs.NodeRecord.{no_node}
+use Rattle.records.specs.declared.NodeRecord.{NodeRecord}
 use Rattle.records.specs.declared.Entry.{Entry}
-use Rattle.cells.specs.Cells.{Cell, Frame, cell, open_cell}
-use Rattle.cells.proofs.Lines.{frame_stop, frame_body, frame_row, frame_cell, frame_deeper, inside}
+use Rattle.resolved_rows.specs.Cells.{Cell, Frame, cell, open_cell}
+use Rattle.resolved_rows.proofs.Lines.{frame_stop, frame_body, frame_row, frame_cell, frame_deeper, inside}
 use Rattle.grid.specs.Grid as grid
-use Rattle.gridding.specs.Records.{entry, shown}
+use Rattle.grid_build.specs.inner.Records.{entry, shown}
 use Rattle.grid_plain.specs.declared.RowCells.{RowCells}
 use Rattle.std.specs.Prelude.{Some}
-use Rattle.grid_plain.specs.Plain.{Plain, plain_entries}
-use Rattle.grid_plain.specs.inner.Walking.{lines_from, cells_from, RowReady, RowDone, RowWalked}
+use Rattle.grid_plain.specs.inner.Plain.{Plain, plain_entries}
+use Rattle.grid_plain.specs.inner.Walking.{lines_from, cells_from, TryRowPre, RowDone, TryRowPost}
 
 -- ---- a test's outcome
 
@@ -59,17 +59,17 @@ abbrev adds : List Cell → Frame → Frame
 adds cs f = with_cells (cs ++ f.cells) f
 
 -- a line that is no cell of the row, and does not stand in one, ends it
-pub no_cells : (ks : List Kept) (d i : ℕ) → (get_or ks i no_kept).depth ≤ d + 2 → cells_from ks d i ≡ []
-no_cells ks d i h = go (dec_lt d (get_or ks i no_kept).depth) (ℕ_discrete (get_or ks i no_kept).depth (d + 1))
+pub no_cells : (ks : List NodeRecord) (d i : ℕ) → (get_or ks i no_node).depth ≤ d + 2 → cells_from ks d i ≡ []
+no_cells ks d i h = go (dec_lt d (get_or ks i no_node).depth) (ℕ_discrete (get_or ks i no_node).depth (d + 1))
   where
-    go : Dec (d < (get_or ks i no_kept).depth) → Dec ((get_or ks i no_kept).depth ≡ d + 1) → cells_from ks d i ≡ []
+    go : Dec (d < (get_or ks i no_node).depth) → Dec ((get_or ks i no_node).depth ≡ d + 1) → cells_from ks d i ≡ []
     go (no g) b = ap (λ (f : Frame). f.cells) (frame_stop ks d i (omega arith))
     go (yes g) (yes b) = ap (λ (f : Frame). f.cells) (frame_body ks d i g b)
     go (yes g) (no b) = ap (λ (f : Frame). f.cells) (frame_row ks d i g b (omega arith))
 
 -- ---- the loop
 
-pub record RowLoop (ks : List Kept) (d from n : ℕ) (es₀ es : List Entry) (k i : ℕ) : Type 0 where
+pub record RowLoop (ks : List NodeRecord) (d from n : ℕ) (es₀ es : List Entry) (k i : ℕ) : Type 0 where
   pub cells : List Cell
   pub whole : lines_from ks d from ≡ adds cells (lines_from ks d i)
   pub plain : All Plain cells
@@ -79,10 +79,10 @@ pub record RowLoop (ks : List Kept) (d from n : ℕ) (es₀ es : List Entry) (k 
   pub written : take (n + k) es ≡ take n es₀ ++ map shown (plain_entries 0 cells)
   pub same : length es ≡ length es₀
 
-found_plain : {ks : List Kept} {d from n : ℕ} {end : RowCells} {es₀ es : List Entry} → RowDone ks d from n end es₀ es → RowWalked ks d from n (Some end) es₀ es
+found_plain : {ks : List NodeRecord} {d from n : ℕ} {end : RowCells} {es₀ es : List Entry} → RowDone ks d from n end es₀ es → TryRowPost ks d from n (Some end) es₀ es
 found_plain {ks} {d} {from} {n} {end} {es₀} {es} w = record { done = λ end' e. let q : end ≡ end' = cc in subst (λ (x : RowCells). RowDone ks d from n x es₀ es) q w }
 
-pub row_start : (ks : List Kept) (d from n : ℕ) (es : List Entry) → from ≤ length ks → RowLoop ks d from n es es 0 from
+pub row_start : (ks : List NodeRecord) (d from n : ℕ) (es : List Entry) → from ≤ length ks → RowLoop ks d from n es es 0 from
 unfolding plain_entries All
 row_start ks d from n es h = let e : n + 0 ≡ n = omega arith in record {
   cells = [];
@@ -95,9 +95,9 @@ row_start ks d from n es h = let e : n + 0 ≡ n = omega arith in record {
   same = refl;
 }
 
-module _ {ks : List Kept} {d from n : ℕ} {es₀ es : List Entry} {k i : ℕ} (z : RowLoop ks d from n es₀ es k i) where
-  abbrev here : Kept
-  here = get_or ks i no_kept
+module _ {ks : List NodeRecord} {d from n : ℕ} {es₀ es : List Entry} {k i : ℕ} (z : RowLoop ks d from n es₀ es k i) where
+  abbrev here : NodeRecord
+  here = get_or ks i no_node
 
   module _ (h : here.depth ≡ d + 3) where
     more : i < length ks
@@ -107,16 +107,16 @@ module _ {ks : List Kept} {d from n : ℕ} {es₀ es : List Entry} {k i : ℕ} (
     opened = frame_cell ks d i (omega arith) (λ e. omega arith) (λ e. omega arith) h
 
     -- there is room for a cell more
-    pub row_room : RowReady ks d from n es₀ → (n + k < length es) × (n + k < max_entries)
-    row_room t =
+    pub row_capacity : TryRowPre ks d from n es₀ → (n + k < length es) × (n + k < max_entries)
+    row_capacity t =
         let e : cells_from ks d from ≡ z.cells ++ (cell (i + 1) here.cols here.rows ∷ cells_from ks d (i + 1)) =
         ap (λ (f : Frame). f.cells) z.whole ∙ ap (λ (f : Frame). z.cells ++ f.cells) opened in
         let l = length-append z.cells (cell (i + 1) here.cols here.rows ∷ cells_from ks d (i + 1)) in
-        (omega (arith, t.room, ap length e, l, z.count, z.same), omega (arith, t.few, ap length e, l, z.count))
+        (omega (arith, t.capacity, ap length e, l, z.count, z.same), omega (arith, t.few, ap length e, l, z.count))
 
     pub row_cell : (here.cols ≡ 1) × (here.rows ≡ 1) → n + k < length es → RowLoop ks d from n es₀ (set es (n + k) (entry (i + 1) k 1)) (k + 1) (i + 1)
     unfolding All
-    row_cell p room =
+    row_cell p capacity =
         let c = cell (i + 1) here.cols here.rows in
         let new = entry (i + 1) k 1 in
         let f = lines_from ks d (i + 1) in
@@ -132,7 +132,7 @@ module _ {ks : List Kept} {d from n : ℕ} {es₀ es : List Entry} {k i : ℕ} (
           within = omega (arith, more);
           written =
               ap (λ (m : ℕ). take m (set es (n + k) new)) s
-              ∙ take-suc-set es (n + k) new room
+              ∙ take-suc-set es (n + k) new capacity
               ∙ ap (λ (l : List Entry). l ++ (new ∷ [])) z.written
               ∙ append_assoc (take n es₀) (map shown (plain_entries 0 z.cells)) (new ∷ [])
               ∙ ap (λ (m : ℕ). take n es₀ ++ (map shown (plain_entries 0 z.cells) ++ (entry (i + 1) m 1 ∷ []))) z.count
@@ -168,5 +168,5 @@ module _ {ks : List Kept} {d from n : ℕ} {es₀ es : List Entry} {k i : ℕ} (
         written = z.written ∙ ap (λ (l : List Cell). take n es₀ ++ map shown (plain_entries 0 l)) (sym e);
       }
 
-  pub row_stop : here.depth ≤ d + 2 → RowWalked ks d from n (Some (record { next = i; cells = k })) es₀ es
+  pub row_stop : here.depth ≤ d + 2 → TryRowPost ks d from n (Some (record { next = i; cells = k })) es₀ es
   row_stop h = found_plain (row_done h)

@@ -1,5 +1,5 @@
 -- The loop of `try_plain` on plain lists: the rows so far are plain, and with what the lines still to come hold they are the table's as they are written;
--- their entries and records stand in the slices. Assumes nothing.
+-- their entries and records stand in the slices.
 use mathlib.Core.Path.{◌≡◌, refl, sym, ap, ap₂, subst, ◌∙◌}
 use mathlib.Core.Bool.{Bool, true}
 use mathlib.Core.List.{List, [], ◌∷◌, ◌++◌, map, map-append, append_assoc, append-nil}
@@ -13,26 +13,27 @@ use lib.Dec.{ltb}
 use lib.Seq.{take-suc-set}
 use borrow.Author.Tests.{ltb-true}
 use Rattle.records.specs.declared.RowEnd.{RowEnd}
-use Rattle.lists.specs.Lists.{All}
-use Rattle.lists.proofs.All.{all_append}
-use Rattle.records.specs.Kept.{no_kept}
-use Rattle.records.specs.declared.Kept.{Kept}
+use Rattle.common.specs.Lists.{All}
+use Rattle.common.proofs.All.{all_append}
+use Rattle.records.specs.NodeRecord.{no_node}
+use Rattle.records.specs.declared.NodeRecord.{NodeRecord}
 use Rattle.records.specs.declared.Entry.{Entry}
-use Rattle.cells.specs.Cells.{Cell, Row, Frame, row, frame, resolved}
-use Rattle.cells.specs.Listed.{all_cells, table_rows}
-use Rattle.cells.proofs.Lines.{frame_stop, frame_body, frame_row, inside}
-use Rattle.cells.proofs.Rows.{cells_append}
-use Rattle.positions.specs.Positions.{all_rows, entry_count}
+use Rattle.resolved_rows.specs.Cells.{Cell, Row, Frame, row, frame, resolved}
+use Rattle.resolved_rows.specs.Listed.{table_rows}
+use Rattle.resolved_rows.specs.inner.Listed.{all_cells}
+use Rattle.resolved_rows.proofs.Lines.{frame_stop, frame_body, frame_row, inside}
+use Rattle.resolved_rows.proofs.Rows.{cells_append}
+use Rattle.grid_positions.specs.Positions.{all_rows, entry_count}
 use Rattle.grid.specs.Grid.{GridRow, grid_of}
 use Rattle.grid.specs.Grid as grid
-use Rattle.gridding.specs.declared.Counts.{Counts}
-use Rattle.gridding.specs.Records.{shown, ended_rows, TableReady, TableMade}
-use Rattle.gridding.specs.Records as records
-use Rattle.cells.proofs.Listing.{step_on}
+use Rattle.grid_build.specs.declared.Counts.{Counts}
+use Rattle.grid_build.specs.inner.Records.{shown, ended_rows, TableReady, TableMade}
+use Rattle.grid_build.specs.inner.Records as records
+use Rattle.resolved_rows.proofs.Listing.{step_on}
 use Rattle.grid_plain.specs.declared.RowCells.{RowCells}
 use Rattle.std.specs.Prelude.{Some}
-use Rattle.grid_plain.specs.Plain.{PlainRow, PlainTable, plain_entries, plain_row, plain_grid, most_cells}
-use Rattle.grid_plain.specs.inner.Walking.{lines_from, RowReady, RowDone, TableWalked}
+use Rattle.grid_plain.specs.inner.Plain.{PlainRow, PlainTable, plain_entries, plain_row, plain_grid, most_cells}
+use Rattle.grid_plain.specs.inner.Walking.{lines_from, TryRowPre, RowDone, TryPlainPost}
 use Rattle.grid_plain.proofs.Plain.{plain_grid_lem}
 use Rattle.grid_plain.proofs.Resolving.{joined, cells_joined, cells_few, resolved_plain}
 
@@ -91,25 +92,25 @@ abbrev still : Frame → List Row
 still f = f.rows ++ joined f.bodies
 
 -- a line that the loop's test lets pass is deeper than the table
-pub test_deep : (ks : List Kept) (at i : ℕ) {d : ℕ} {b : Bool} → d ≡ (get_or ks at no_kept).depth → b ≡ ltb d (get_or ks i no_kept).depth → b ≡ true
-    → (get_or ks at no_kept).depth < (get_or ks i no_kept).depth
-test_deep ks at i {d} e is t = omega (arith, e, ltb-true d (get_or ks i no_kept).depth (sym is ∙ t))
+pub test_deep : (ks : List NodeRecord) (at i : ℕ) {d : ℕ} {b : Bool} → d ≡ (get_or ks at no_node).depth → b ≡ ltb d (get_or ks i no_node).depth → b ≡ true
+    → (get_or ks at no_node).depth < (get_or ks i no_node).depth
+test_deep ks at i {d} e is t = omega (arith, e, ltb-true d (get_or ks i no_node).depth (sym is ∙ t))
 
 -- the bodies of the table at a place, and their rows as they are written
-abbrev bodies_at : List Kept → ℕ → List (List Row)
-bodies_at ks at = (lines_from ks (get_or ks at no_kept).depth (at + 1)).bodies
+abbrev bodies_at : List NodeRecord → ℕ → List (List Row)
+bodies_at ks at = (lines_from ks (get_or ks at no_node).depth (at + 1)).bodies
 
-table_is : (ks : List Kept) (at : ℕ) → table_rows ks at ≡ resolved (bodies_at ks at)
+table_is : (ks : List NodeRecord) (at : ℕ) → table_rows ks at ≡ resolved (bodies_at ks at)
 unfolding table_rows
-table_is ks at = ap (λ (k : ℕ). resolved (frame (get_or ks at no_kept).depth k (drop (at + 1) ks)).bodies) (sym (add-one (at + 1)))
+table_is ks at = ap (λ (k : ℕ). resolved (frame (get_or ks at no_node).depth k (drop (at + 1) ks)).bodies) (sym (add-one (at + 1)))
 
 -- ---- the loop
 
-pub record TableLoop (ks : List Kept) (at : ℕ) (es₀ es : List Entry) (rs₀ rs : List RowEnd) (n r columns i : ℕ) : Type 0 where
+pub record TableLoop (ks : List NodeRecord) (at : ℕ) (es₀ es : List Entry) (rs₀ rs : List RowEnd) (n r columns i : ℕ) : Type 0 where
   pub rows : List Row
-  pub whole : rows ++ still (lines_from ks (get_or ks at no_kept).depth i) ≡ joined (bodies_at ks at)
+  pub whole : rows ++ still (lines_from ks (get_or ks at no_node).depth i) ≡ joined (bodies_at ks at)
   pub plain : PlainTable rows
-  pub fresh : (get_or ks i no_kept).depth ≤ (get_or ks at no_kept).depth + 2
+  pub fresh : (get_or ks i no_node).depth ≤ (get_or ks at no_node).depth + 2
   pub cells_are : n ≡ length (all_cells rows)
   pub rows_are : r ≡ length rows
   pub columns_are : columns ≡ most_cells rows
@@ -120,21 +121,21 @@ pub record TableLoop (ks : List Kept) (at : ℕ) (es₀ es : List Entry) (rs₀ 
   pub same_entries : length es ≡ length es₀
   pub same_rows : length rs ≡ length rs₀
 
-found_plain : {table : List Row} {counts : Counts} {es : List Entry} {rs : List RowEnd} → TableMade table counts es rs → TableWalked table (Some counts) es rs
+found_plain : {table : List Row} {counts : Counts} {es : List Entry} {rs : List RowEnd} → TableMade table counts es rs → TryPlainPost table (Some counts) es rs
 found_plain {table} {counts} {es} {rs} w = record { made = λ counts' e. let q : counts ≡ counts' = cc in subst (λ (x : Counts). TableMade table x es rs) q w }
 
-module _ {ks : List Kept} {at : ℕ} {es₀ : List Entry} {rs₀ : List RowEnd} (t : TableReady ks at es₀ rs₀) where
+module _ {ks : List NodeRecord} {at : ℕ} {es₀ : List Entry} {rs₀ : List RowEnd} (t : TableReady ks at es₀ rs₀) where
   abbrev d : ℕ
-  d = (get_or ks at no_kept).depth
+  d = (get_or ks at no_node).depth
 
-  step : (k : ℕ) → (get_or ks (k + 1) no_kept).depth ≤ (get_or ks k no_kept).depth + 1
+  step : (k : ℕ) → (get_or ks (k + 1) no_node).depth ≤ (get_or ks k no_node).depth + 1
   step = step_on ks t.lined.step
 
   -- no row stands before the first body
   no_rows : (lines_from ks d (at + 1)).rows ≡ []
-  no_rows = go (dec_lt d (get_or ks (at + 1) no_kept).depth)
+  no_rows = go (dec_lt d (get_or ks (at + 1) no_node).depth)
     where
-      go : Dec (d < (get_or ks (at + 1) no_kept).depth) → (lines_from ks d (at + 1)).rows ≡ []
+      go : Dec (d < (get_or ks (at + 1) no_node).depth) → (lines_from ks d (at + 1)).rows ≡ []
       go (yes g) = ap (λ (f : Frame). f.rows) (frame_body ks d (at + 1) g (omega (arith, step at)))
       go (no g) = ap (λ (f : Frame). f.rows) (frame_stop ks d (at + 1) (omega arith))
 
@@ -157,11 +158,11 @@ module _ {ks : List Kept} {at : ℕ} {es₀ : List Entry} {rs₀ : List RowEnd} 
   }
 
   module _ {es : List Entry} {rs : List RowEnd} {n r columns i : ℕ} (z : TableLoop ks at es₀ es rs₀ rs n r columns i) where
-    abbrev here : Kept
-    here = get_or ks i no_kept
+    abbrev here : NodeRecord
+    here = get_or ks i no_node
 
     -- where no line of the table is left, the rows are the table's
-    pub table_stop : here.depth ≤ d → TableWalked (table_rows ks at) (Some (record { rows = r; entries = n; columns = columns })) es rs
+    pub table_stop : here.depth ≤ d → TryPlainPost (table_rows ks at) (Some (record { rows = r; entries = n; columns = columns })) es rs
     table_stop h =
         let w : z.rows ≡ joined (bodies_at ks at) =
         sym (append-nil z.rows) ∙ ap (λ (f : Frame). z.rows ++ still f) (sym (frame_stop ks d i h)) ∙ z.whole in
@@ -232,13 +233,13 @@ module _ {ks : List Kept} {at : ℕ} {es₀ : List Entry} {rs₀ : List RowEnd} 
               length-append f.cells (all_cells (still f)),
             )
 
-        pub row_ready : RowReady ks d (i + 1) n es
+        pub row_ready : TryRowPre ks d (i + 1) n es
         row_ready = record {
           within = omega (arith, more);
           short = t.lined.short;
           shallow = t.lined.shallow at;
           few = omega (arith, row_few, t.sound.few);
-          room = omega (arith, row_few, t.entry_room, z.same_entries);
+          capacity = omega (arith, row_few, t.entry_capacity, z.same_entries);
         }
 
         pub table_row : (end : RowCells) (es' : List Entry) → RowDone ks d (i + 1) n end es es' → length es' ≡ length es
@@ -249,7 +250,7 @@ module _ {ks : List Kept} {at : ℕ} {es₀ : List Entry} {rs₀ : List RowEnd} 
             let g = plain_grid z.rows in
             let rows' = z.rows ++ (new ∷ []) in
             let added = records.row (i + 1) (n + end.cells) in
-            let room : r < length rs = omega (arith, z.few, more, t.row_room, z.same_rows) in
+            let capacity : r < length rs = omega (arith, z.few, more, t.row_capacity, z.same_rows) in
             let m : r + 1 ≡ suc r = omega arith in
             let k : n + end.cells ≡ 0 + length (grid.entries_of g) + length (plain_entries 0 f.cells) =
             omega (arith, z.cells_are, grid_entries z.rows, entries_length 0 f.cells, w.count) in
@@ -279,7 +280,7 @@ module _ {ks : List Kept} {at : ℕ} {es₀ : List Entry} {rs₀ : List RowEnd} 
                   ∙ ap (map shown) (sym (ap grid.entries_of (grid_more z.rows new) ∙ entries_more g (plain_row new)));
               rows_in_fits =
                   ap (λ (x : ℕ). take x (set rs r added)) m
-                  ∙ take-suc-set rs r added room
+                  ∙ take-suc-set rs r added capacity
                   ∙ ap₂ (λ (l : List RowEnd) (x : ℕ). l ++ (records.row (i + 1) x ∷ [])) z.rows_in_fits k
                   ∙ sym (ap (ended_rows 0) (grid_more z.rows new) ∙ ended_more 0 g (plain_row new));
               few = omega (arith, z.few, w.after);

@@ -1,2 +1,3 @@
 -- How the code goes about it: a table's lines, row by row.
 pub mod Walking
+pub mod Plain

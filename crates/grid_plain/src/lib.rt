@@ -7,12 +7,12 @@
 #![tactic(auto)]
 
 ghost use Rattle.std.specs.Prelude.{◌≡◌, ◌&&◌, eqb};
-ghost use Rattle.cells.specs.Listed.{table_rows};
-ghost use Rattle.gridding.specs.Records.{TableReady, TableMade};
-ghost use Rattle.grid_plain.specs.inner.Walking.{RowReady, RowWalked, TableWalked};
+ghost use Rattle.resolved_rows.specs.Listed.{table_rows};
+ghost use Rattle.grid_build.specs.inner.Records.{TableReady, TableMade};
+ghost use Rattle.grid_plain.specs.inner.Walking.{TryRowPre, TryRowPost, TryPlainPost};
 
-use gridding::Counts;
-use records::{Entry, Kept, RowEnd};
+use grid_build::Counts;
+use records::{Entry, NodeRecord, RowEnd};
 
 // Where a row's lines end, and how many cells it has.
 #[derive(Clone, Copy)]
@@ -30,9 +30,15 @@ fn is_plain(cols: u16, rows: u16) -> bool
 
 // The entries of a row of a table of depth d, from entry n on, by the row's lines, which begin at the place `from`: its cells are three deeper than the
 // table, and what is still deeper stands in them. None at the first cell that is not plain. Of the entries before n it is promised that they stay.
-fn try_row(lines: &[Kept], from: usize, d: u32, n: usize, entries: &mut [Entry]) -> Option<RowCells>
-    requires { RowReady lines.now d from n entries.old }
-    ensures { RowWalked lines.now d from n result entries.old entries.new }
+fn try_row(
+    lines: &[NodeRecord],
+    from: usize,
+    d: u32,
+    n: usize,
+    entries: &mut [Entry],
+) -> Option<RowCells>
+    requires { TryRowPre lines.now d from n entries.old }
+    ensures { TryRowPost lines.now d from n result entries.old entries.new }
 {
     let mut k = 0;
     // each with its place: it says the line's number, and the answer says where the next lines begin
@@ -62,13 +68,13 @@ fn try_row(lines: &[Kept], from: usize, d: u32, n: usize, entries: &mut [Entry])
 
 // The grid of the table at the place `at`, if it is plain: of each row its entries and its record. A line that is no row between rows is a body.
 fn try_plain(
-    lines: &[Kept],
+    lines: &[NodeRecord],
     at: usize,
     entries: &mut [Entry],
     rows: &mut [RowEnd],
 ) -> Option<Counts>
     requires { TableReady lines.now at entries.old rows.old }
-    ensures { TableWalked (table_rows lines.now at) result entries.new rows.new }
+    ensures { TryPlainPost (table_rows lines.now at) result entries.new rows.new }
 {
     let d = u32::from(lines[at].depth);
     let mut n = 0;
@@ -76,7 +82,7 @@ fn try_plain(
     let mut columns: usize = 0;
     let mut i = at + 1;
     // A while: a turn passes all lines of a row.
-    while cells::below(lines, i, d) {
+    while resolved_rows::below(lines, i, d) {
         let line = lines[i];
         i += 1;
         if u32::from(line.depth) == d + 2 {
@@ -101,12 +107,12 @@ fn try_plain(
 
 // The grid of the table at the place `at` of an opened sheet, to which no refusal applies: a record for each entry and for each row, and how many
 // there are. A table that is not plain is made by its edges.
-pub fn make(lines: &[Kept], at: usize, entries: &mut [Entry], rows: &mut [RowEnd]) -> Counts
+pub fn make(lines: &[NodeRecord], at: usize, entries: &mut [Entry], rows: &mut [RowEnd]) -> Counts
     requires { TableReady lines.now at entries.old rows.old }
     ensures { TableMade (table_rows lines.now at) result entries.new rows.new }
 {
     match try_plain(lines, at, entries, rows) {
         Some(counts) => counts,
-        None => gridding::make_sound(lines, at, entries, rows),
+        None => grid_build::make_sound(lines, at, entries, rows),
     }
 }

@@ -1,4 +1,4 @@
--- The kind at each of the 27 places has that place, and the kind at the place of a kind is that kind. Assumes nothing.
+-- The kind at each of the 27 places has that place, and the kind at the place of a kind is that kind.
 use mathlib.Core.Path.{◌≡◌, refl, sym, ap, ◌∙◌}
 use mathlib.Core.List.{List, [], ◌∷◌}
 use Prim.Native.Nat.{ℕ, zero, suc, ◌+◌, ◌<◌}

@@ -1,5 +1,5 @@
 -- The names of the kinds are the bytes of their words, each word names the kind of its name, and each kind that the rules name has its
--- name's place: computed. Assumes nothing.
+-- name's place: computed.
 use Rattle.std.specs.Prelude.{◌≡◌, refl, List, [], ◌∷◌, ◌++◌, map, ℕ, zero, suc, length}
 use Prim.Native.Char.{code}
 use Prim.Native.String.{String, len, char_at}

@@ -1,4 +1,4 @@
--- The field n of each kind: the kind says which numbers. Assumes nothing.
+-- The field n of each kind: the kind says which numbers.
 use mathlib.Core.Path.{◌≡◌, refl, ap}
 use mathlib.Core.Bool.{Bool, true, false, not, ◌&&◌, and-true}
 use mathlib.Core.List.{List}
@@ -9,7 +9,7 @@ use borrow.Author.Tests.{le-leb, lt-leb}
 use Rattle.text.specs.Decimal.{Number, plain, minus, shift, shifted}
 use Rattle.kinds.specs.Kinds.{head_kind, ol_kind, kind_number}
 use Rattle.fields.specs.Numbers.{within}
-use Rattle.fields.specs.Reading.{from_to, number_read}
+use Rattle.fields.specs.inner.Reading.{from_to, number_read}
 use Rattle.fields.proofs.Signs.{number_map}
 use Rattle.line.specs.Fields.{n_fits}
 use Rattle.kinds.specs.declared.Kind.{Kind}

@@ -1,4 +1,4 @@
--- A line whose numbers have one digit each, and whose n is 0: its fields, and what it is where a line feed ends its text. Assumes nothing.
+-- A line whose numbers have one digit each, and whose n is 0: its fields, and what it is where a line feed ends its text.
 use mathlib.Core.Path.{◌≡◌, sym, ap, ◌∙◌}
 use mathlib.Core.Bool.{Bool, true, false, ◌||◌}
 use mathlib.Core.List.{List, [], ◌∷◌, ◌++◌}
@@ -10,19 +10,19 @@ use lib.ListN.{length, get_or, drop, length-drop}
 use lib.Seq.{drop-drop, drop-append-add, get_or-drop}
 use borrow.Author.Tests.{ne_eqb, le-leb}
 use Rattle.std.specs.Prelude.{Some, Ok}
-use Rattle.lists.specs.Limits.{max_depth, max_cols, max_rows}
+use Rattle.common.specs.Limits.{max_depth, max_cols, max_rows}
 use Rattle.text.specs.Decimal.{Number, plain, shift, shifted}
 use Rattle.text.specs.Text.{text_size, with_img, begins, trim_start, trim_end, widths, runs}
-use Rattle.text.specs.Fronts.{front_of}
+use Rattle.text.specs.inner.Fronts.{front_of}
 use Rattle.kinds.specs.declared.Kind.{Kind}
 use Rattle.kinds.specs.Kinds.{kind_number, has_text, img_kind, calc_kind}
 use Rattle.fields.specs.Lines.{feed}
 use Rattle.fields.specs.Numbers.{up_to, magnitude, is_natural, value_from, natural_of, number_of}
 use Rattle.fields.specs.Blanks.{until_blank, blank}
-use Rattle.fields.specs.Reading.{sound, number_read, kind_read}
+use Rattle.fields.specs.inner.Reading.{sound, number_read, kind_read}
 use Rattle.line.specs.Fields.{n_fits}
-use Rattle.line.specs.Reading.{span_limit, rest_read, fields_read}
-use Rattle.line.specs.LineAt.{line_at}
+use Rattle.line.specs.inner.Reading.{span_limit, rest_read, fields_read}
+use Rattle.line.specs.inner.LineAt.{line_at}
 use Rattle.line.proofs.Judging.{reads, front_good}
 
 -- a number of one digit, where it is allowed

@@ -1,9 +1,9 @@
 // The numbers that a line of a kind may have: its n and its spans.
 ghost use Rattle.std.specs.Prelude.{◌≡◌, drop};
 ghost use Rattle.text.specs.Decimal.{shifted};
-ghost use Rattle.fields.specs.Reading.{number_read};
+ghost use Rattle.fields.specs.inner.Reading.{number_read};
 ghost use Rattle.line.specs.Fields.{n_fits};
-ghost use Rattle.line.specs.Reading.{span_limit};
+ghost use Rattle.line.specs.inner.Reading.{span_limit};
 
 use fields::{Scanned, numbers};
 use kinds::Kind;
@@ -20,7 +20,7 @@ pub fn n_at(bytes: &[u8], at: usize, kind: Kind) -> Option<Scanned<u32>>
 }
 
 // Cells alone have spans: the largest that a line of the kind may have, where a cell may have `most`.
-#[tactic(auto, unfolding(crate::specs::Reading::span_limit))]
+#[tactic(auto, unfolding(crate::specs::inner::Reading::span_limit))]
 pub fn span_limit(kind: Kind, most: u32) -> u32
     ensures { result ≡ span_limit kind most }
 {

@@ -2,7 +2,7 @@
 #![tactic(auto)]
 
 ghost use Rattle.std.specs.Prelude.{◌≡◌, ◌+◌};
-ghost use Rattle.records.specs.Kept.{kept_bare, kept_cell, kept_text};
+ghost use Rattle.records.specs.inner.NodeRecord.{bare_node, cell_node, text_node};
 
 use kinds::Kind;
 use std::ops::Range;
@@ -13,7 +13,7 @@ const NO_NUMBER: u32 = 1000000000;
 
 // What is kept of a line. The number is shifted up by 1,000,000,000; own is the size of the line's own text, 2 more for img.
 #[derive(Clone, Copy)]
-pub struct Kept {
+pub struct NodeRecord {
     pub depth: u8,
     pub kind: Kind,
     pub cols: u16,
@@ -22,12 +22,12 @@ pub struct Kept {
     pub own: u32,
 }
 
-impl Kept {
+impl NodeRecord {
     // A line of a kind without figures.
-    pub fn bare(depth: u8, kind: Kind) -> Kept
-        ensures { result ≡ kept_bare depth kind }
+    pub fn bare(depth: u8, kind: Kind) -> NodeRecord
+        ensures { result ≡ bare_node depth kind }
     {
-        Kept {
+        NodeRecord {
             depth,
             kind,
             cols: 0,
@@ -38,23 +38,23 @@ impl Kept {
     }
 
     // A cell of so many columns and rows.
-    pub fn cell(depth: u8, cols: u16, rows: u16) -> Kept
-        ensures { result ≡ kept_cell depth cols rows }
+    pub fn cell(depth: u8, cols: u16, rows: u16) -> NodeRecord
+        ensures { result ≡ cell_node depth cols rows }
     {
-        Kept {
+        NodeRecord {
             cols,
             rows,
-            ..Kept::bare(depth, Kind::Cell)
+            ..NodeRecord::bare(depth, Kind::Cell)
         }
     }
 
     // A text of so many columns.
-    pub fn text(depth: u8, own: u32) -> Kept
-        ensures { result ≡ kept_text depth own }
+    pub fn text(depth: u8, own: u32) -> NodeRecord
+        ensures { result ≡ text_node depth own }
     {
-        Kept {
+        NodeRecord {
             own,
-            ..Kept::bare(depth, Kind::Text)
+            ..NodeRecord::bare(depth, Kind::Text)
         }
     }
 }
@@ -86,8 +86,8 @@ pub struct RowEnd {
 }
 
 // What an array is filled with before it is written.
-// No `Default`, which would say that such a line or entry is one. The definitions have these zeros as `no_kept`, `no_entry` and `no_row`.
-pub const NO_LINE: Kept = Kept {
+// No `Default`, which would say that such a line or entry is one. The definitions have these zeros as `no_node`, `no_entry` and `no_row`.
+pub const NO_NODE: NodeRecord = NodeRecord {
     depth: 0,
     kind: Kind::Text,
     cols: 0,

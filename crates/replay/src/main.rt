@@ -6,7 +6,7 @@ ghost use Rattle.std.specs.Prelude.{◌≡◌, ◌≤◌, ◌<◌, length, IfSom
 
 use fields::numbers::digits_in;
 use fields::places::field_at;
-use writing::lines::Listing;
+use table_text::lines::Listing;
 
 // The descriptor of standard input.
 const STANDARD_INPUT: i32 = 0;
@@ -29,7 +29,7 @@ fn case_listed(out: &mut Listing<'_>, number: u32, case: &[u8]) {
     out.words(b"case ");
     out.number(number);
     out.words(b"\n");
-    answering::answers(out, case);
+    replay_answers::answers(out, case);
 }
 
 // Puts what is listed of each case, up to the end of the input or the first malformed frame.

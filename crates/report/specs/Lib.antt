@@ -1,2 +1,2 @@
--- The definitions that the contracts of this crate cite. Assumes nothing.
+-- The definitions that the contracts of this crate cite.
 pub mod inner

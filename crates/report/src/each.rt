@@ -1,19 +1,19 @@
 // Each table of a walked sheet, laid out and printed.
 // `as` where a place or a number of columns is known to fit 32 bits: a `TryFrom` would never fail.
 ghost use Rattle.std.specs.Prelude.{◌≤◌, length};
-ghost use Rattle.lists.specs.Limits.{max_size};
-ghost use Rattle.causes.specs.inner.Tables.{Explainable};
+ghost use Rattle.common.specs.Limits.{max_size};
+ghost use Rattle.causes.specs.inner.Tables.{ExplainPre};
 ghost use Rattle.report.specs.inner.Read.{TableAt};
 
 use super::{Form, Walked};
 use answers::Way;
-use gridding::Records;
+use grid_build::Records;
 use kinds::Kind;
-use table::MeasuredTable;
+use table_layout::MeasuredTable;
+use table_text::entries::Entries;
+use table_text::lines::Listing;
 use text::Estimate;
-use walking::{Measured, Scratch};
-use writing::entries::Entries;
-use writing::lines::Listing;
+use width_walk::{Measured, Scratch};
 
 // What is asked for of a table: the form, and the two settings that a measured table is laid out at. The width is the one that the walk gives it.
 #[derive(Clone, Copy)]
@@ -35,7 +35,7 @@ fn shown(
     x: &mut [u32],
     wide: &mut [u32],
 )
-    requires explainable { Explainable grid.entries.now figures.now grid.columns x.old }
+    requires explainable { ExplainPre grid.entries.now figures.now grid.columns x.old }
     requires cause_in { grid.columns ≤ length wide.old }
 {
     match asked.form {
@@ -46,9 +46,9 @@ fn shown(
                 start: x,
                 extent: wide,
             };
-            writing::tables::cells(out, column, entries);
+            table_text::tables::cells(out, column, entries);
         }
-        Form::Explain => report_causes::told(
+        Form::Explain => report_causes::put_table(
             out,
             way,
             asked.raw,
@@ -71,7 +71,7 @@ fn table(out: &mut Listing<'_>, place: usize, asked: Asked, m: Measured<'_>, s: 
         figures: m.figures,
         at: place,
     };
-    let arranged = table::arrange(
+    let arranged = table_layout::arrange(
         t,
         asked.raw,
         asked.width,
@@ -84,7 +84,7 @@ fn table(out: &mut Listing<'_>, place: usize, asked: Asked, m: Measured<'_>, s: 
     let counts = arranged.counts;
     let laid = arranged.laid;
     let line = (place + 1) as u32;
-    writing::tables::heading(out, line, laid.way, counts.columns as u32, laid.width);
+    table_text::tables::heading(out, line, laid.way, counts.columns as u32, laid.width);
     shown(
         out,
         asked,

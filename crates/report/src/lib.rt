@@ -8,9 +8,9 @@ ghost use Rattle.std.specs.Prelude.{length};
 ghost use Rattle.report.specs.inner.Read.{WalkNarrow};
 
 use arguments::Settings;
-use lists::{MAX_ENTRIES, MAX_LINES, MAX_POSITION, Refusal};
-use walking::{Measured, Scratch};
-use writing::lines::Listing;
+use common::{MAX_ENTRIES, MAX_LINES, MAX_POSITION, Refusal};
+use table_text::lines::Listing;
+use width_walk::{Measured, Scratch};
 
 // Settings take at most 28 bytes, so a full buffer holds a sheet that is too long.
 const INPUT_BYTES: usize = 65565;
@@ -60,11 +60,11 @@ fn opened(
     form: Form,
     settings: Settings,
 ) -> Result<(), Refusal> {
-    let mut kept = [records::NO_LINE; MAX_LINES];
+    let mut kept = [records::NO_NODE; MAX_LINES];
     let mut figures = [estimates::NONE; MAX_LINES];
     let mut walk = [None; MAX_LINES];
     let mut leasts = [0u32; MAX_POSITION];
-    let n = pacing::walk_sheet(
+    let n = sheet_walk::walk_sheet(
         sheet,
         None,
         settings,
@@ -102,7 +102,7 @@ fn accepted(out: &mut Listing<'_>, input: &[u8], form: Form) -> Result<(), Refus
 // Puts what is printed of an input, or why it is refused. What no longer fits the buffer is written to standard output on the way.
 pub fn answer(out: &mut Listing<'_>, input: &[u8], form: Form) {
     if let Err(why) = accepted(out, input, form) {
-        writing::refusal(out, why);
+        table_text::refusal(out, why);
     }
 }
 

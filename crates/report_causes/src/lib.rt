@@ -3,21 +3,21 @@
 // raw and width are two parameters, as crate causes takes them, and missing and cause slices of numbers, as it fills them.
 #![tactic(auto)]
 
-mod columns_told; // columns_told.rt: a line for each column, with its cause
+mod column_lines; // column_lines.rt: a line for each column, with its cause
 mod losses; // losses.rt: which entries are missing, and how many
 
 ghost use Rattle.std.specs.Prelude.{◌≤◌, length};
-ghost use Rattle.causes.specs.inner.Tables.{Explainable};
+ghost use Rattle.causes.specs.inner.Tables.{ExplainPre};
 
 use answers::Way;
-use columns_told::Columns;
-use gridding::Records;
+use column_lines::Columns;
+use grid_build::Records;
 use losses::Missed;
+use table_text::lines::Listing;
 use text::Estimate;
-use writing::lines::Listing;
 
-// Puts what is told of a table, whose grid and final widths are given. The last two are room for the missing entries and the causes.
-pub fn told(
+// Puts what is told of a table, whose grid and final widths are given. The last two are scratch for the missing entries and the causes.
+pub fn put_table(
     out: &mut Listing<'_>,
     way: Way,
     raw: u32,
@@ -28,7 +28,7 @@ pub fn told(
     missing: &mut [u32],
     cause: &mut [u32],
 )
-    requires explainable { Explainable grid.entries.now figures.now grid.columns missing.old }
+    requires explainable { ExplainPre grid.entries.now figures.now grid.columns missing.old }
     requires cause_in { grid.columns ≤ length cause.old }
 {
     let cause = &mut cause[..grid.columns];

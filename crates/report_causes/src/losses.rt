@@ -2,12 +2,12 @@
 // `as` where a line or a number becomes a `usize`, or a count one of 32 bits: there is no `From`, and a `TryFrom` would never fail.
 ghost use Rattle.std.specs.Prelude.{◌<◌, length};
 
-use super::columns_told::four_spaced;
-use gridding::Records;
+use super::column_lines::four_spaced;
+use grid_build::Records;
 use records::{NO_ENTRY, RowEnd};
+use table_text::entries::value_at;
+use table_text::lines::Listing;
 use text::Estimate;
-use writing::entries::value_at;
-use writing::lines::Listing;
 
 // The grid of a table, the estimates of its cells, and the numbers of its missing entries.
 #[derive(Clone, Copy)]

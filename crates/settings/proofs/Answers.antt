@@ -1,15 +1,14 @@
 -- The answers of `settings`, in the order of the code: no heading, each of the three settings that cannot be read, and all three.
--- Assumes nothing.
 use mathlib.Core.Path.{◌≡◌}
 use mathlib.Core.Bool.{true, false}
 use mathlib.Core.List.{List}
 use Prim.Native.Nat.{ℕ}
 use lib.ListN.{length, take, drop}
 use Rattle.std.specs.Prelude.{Some, None, Ok}
-use Rattle.lists.specs.Limits.{max_wrap, max_width}
+use Rattle.common.specs.Limits.{max_wrap, max_width}
 use Rattle.fields.specs.Lines.{feed}
 use Rattle.kinds.specs.Kinds.{same}
-use Rattle.fields.specs.Reading.{FieldRead, written_at}
+use Rattle.fields.specs.inner.Reading.{FieldRead, written_at}
 use Rattle.fields.specs.declared.Scanned.{Scanned}
 use Rattle.settings.specs.Settings.{settings_heading, settings_in, settings_of, malformed}
 use Rattle.settings.proofs.Told.{setting_told, setting_none, setting_place}

@@ -1,4 +1,4 @@
--- What callers know of settings that were read: each is in its range, and the sheet starts within the input. Assumes nothing.
+-- What callers know of settings that were read: each is in its range, and the sheet starts within the input.
 use mathlib.Core.Path.{◌≡◌, refl, subst}
 use mathlib.Core.Bool.{Bool, true, false, cond}
 use mathlib.Core.List.{List}
@@ -8,7 +8,7 @@ use lib.Dec.{leb}
 use lib.ListN.{length, take, drop}
 use borrow.Author.Tests.{leb-true}
 use Rattle.std.specs.Prelude.{Ok, Err}
-use Rattle.lists.specs.Limits.{max_wrap, max_width}
+use Rattle.common.specs.Limits.{max_wrap, max_width}
 use Rattle.text.specs.Decimal.{plain, minus}
 use Rattle.kinds.specs.Kinds.{same}
 use Rattle.fields.specs.Lines.{feed}

@@ -1,4 +1,4 @@
--- Bytes up to a stop and after it: the two parts, cut where a search for it ends. Assumes nothing.
+-- Bytes up to a stop and after it: the two parts, cut where a search for it ends.
 use mathlib.Core.Path.{◌≡◌, refl}
 use mathlib.Core.Bool.{Bool, true, false, cond}
 use mathlib.Core.List.{List, [], ◌∷◌}

@@ -1,4 +1,4 @@
--- What a setting that was read tells of the definition: its number and what follows it, and that this lies in the input. Assumes nothing.
+-- What a setting that was read tells of the definition: its number and what follows it, and that this lies in the input.
 use mathlib.Core.Path.{◌≡◌, refl, ap, subst, ◌∙◌}
 use mathlib.Core.Bool.{Bool, true, false, cond}
 use mathlib.Core.List.{List}
@@ -13,7 +13,7 @@ use Rattle.std.specs.Prelude.{Option, Some, None}
 use Rattle.std.specs.Option.{option_map, option_and_then}
 use Rattle.fields.specs.Numbers.{Numeral, numeral, unwritten, number_of, up_to, magnitude}
 use Rattle.fields.specs.Blanks.{front_to}
-use Rattle.fields.specs.Reading.{FieldRead, written_in, written_at, ended_at}
+use Rattle.fields.specs.inner.Reading.{FieldRead, written_in, written_at, ended_at}
 use Rattle.fields.specs.declared.Scanned.{Scanned}
 use Rattle.settings.specs.Settings.{part, unstopped, with_part, with_numeral, then_setting, Settled, malformed}
 use Rattle.settings.proofs.Stops.{count_before, until_cut}

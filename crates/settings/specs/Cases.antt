@@ -1,4 +1,4 @@
--- Cases on the settings: what is read, and what is malformed, about the definitions. Assumes nothing.
+-- Cases on the settings: what is read, and what is malformed, about the definitions.
 use Rattle.std.specs.Prelude.{◌≡◌, refl, List, [], ◌∷◌, ◌++◌, ℕ, Ok}
 use Rattle.kinds.specs.Kinds.{same}
 use Rattle.fields.specs.Numbers.{number_of, natural_of, negative_of, is_natural, all_digits, value_from}

@@ -1,10 +1,10 @@
 -- The settings before the sheet in the input of a program: two lines, the first "wrap raw width", the second these three numbers, one
--- space between, written as in a sheet. These are definitions; nothing is assumed.
+-- space between, written as in a sheet.
 use Rattle.std.specs.Prelude.{cond, List, [], ◌∷◌, ℕ, ◌-◌, eqb, length, take, drop, Result, Ok, Err}
-use Rattle.lists.specs.Limits.{max_wrap, max_width}
-use Rattle.lists.specs.Refusals.{refusal}
-use Rattle.lists.specs.declared.Reason.TheVariants.{Setting}
-use Rattle.lists.specs.declared.Refusal.{Refusal}
+use Rattle.common.specs.Limits.{max_wrap, max_width}
+use Rattle.common.specs.Refusals.{refusal}
+use Rattle.common.specs.declared.Reason.TheVariants.{Setting}
+use Rattle.common.specs.declared.Refusal.{Refusal}
 use Rattle.kinds.specs.Kinds.{same}
 use Rattle.fields.specs.Lines.{feed}
 use Rattle.fields.specs.Numbers.{Numeral, numeral, unwritten, number_of, up_to, magnitude}

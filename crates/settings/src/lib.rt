@@ -2,12 +2,12 @@
 #![tactic(auto)]
 
 ghost use Rattle.std.specs.Prelude.{◌≡◌, ok_or};
-ghost use Rattle.lists.specs.Refusals.{refusal};
-ghost use Rattle.lists.specs.declared.Reason.TheVariants.{Setting};
+ghost use Rattle.common.specs.Refusals.{refusal};
+ghost use Rattle.common.specs.declared.Reason.TheVariants.{Setting};
 ghost use Rattle.settings.specs.Settings.{settings_of};
 
+use common::{Reason, Refusal};
 use fields::numbers::number_at;
-use lists::{Reason, Refusal};
 
 // The three settings, and the place where the sheet starts: what the two lines say. `arguments::Settings` is what a call may ask, in its ranges.
 // Not that struct within: it has a proof in a ghost field, and the definition of an input's settings has none.
@@ -31,9 +31,9 @@ fn given_in(bytes: &[u8]) -> Option<Given>
     if !bytes.starts_with(HEADING) {
         return None;
     }
-    let wrap = number_at(bytes, HEADING.len(), b' ', lists::MAX_WRAP)?;
+    let wrap = number_at(bytes, HEADING.len(), b' ', common::MAX_WRAP)?;
     let raw = number_at(bytes, wrap.next, b' ', MAX_RAW)?;
-    let width = number_at(bytes, raw.next, b'\n', lists::MAX_WIDTH)?;
+    let width = number_at(bytes, raw.next, b'\n', common::MAX_WIDTH)?;
     Some(Given {
         wrap: wrap.value,
         raw: raw.value,

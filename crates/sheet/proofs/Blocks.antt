@@ -1,5 +1,5 @@
 -- The line feeds of the blocks of bytes add up to those of the bytes: what a run of an iterator gives, each of whose items counts those of the bytes that
--- its turn takes off the front. Assumes nothing.
+-- its turn takes off the front.
 use mathlib.Core.Path.{◌≡◌, sym, ap, subst}
 use mathlib.Core.List.{List, [], ◌∷◌, ◌++◌}
 use Prim.Native.Nat.{ℕ, ◌+◌, ◌<◌}

@@ -1,4 +1,4 @@
--- Lines as they are kept: what the code's answer says of a line by itself, and after the lines before it. Assumes nothing.
+-- Lines as they are kept: what the code's answer says of a line by itself, and after the lines before it.
 use mathlib.Core.Path.{◌≡◌, sym, ap}
 use mathlib.Core.Bool.{Bool, cond}
 use mathlib.Core.List.{List}
@@ -6,28 +6,28 @@ use Prim.Native.Nat.{ℕ, ◌≤◌}
 use native.Mathlib.Omega.{arith}
 use Rattle.kinds.specs.declared.Kind.{Kind}
 use Rattle.std.specs.Prelude.{Ok, Err}
-use Rattle.lists.specs.declared.Reason.{Reason}
-use Rattle.lists.specs.declared.Reason.TheVariants.{Nesting}
-use Rattle.lists.specs.Limits.{max_depth}
-use Rattle.records.specs.declared.Kept.{Kept}
-use Rattle.line.specs.LineAt.{LineRead, line_at}
+use Rattle.common.specs.declared.Reason.{Reason}
+use Rattle.common.specs.declared.Reason.TheVariants.{Nesting}
+use Rattle.common.specs.Limits.{max_depth}
+use Rattle.records.specs.declared.NodeRecord.{NodeRecord}
+use Rattle.line.specs.inner.LineAt.{LineRead, line_at}
 use Rattle.line.specs.declared.Node.{Node}
 use Rattle.line.proofs.Told.{good_line}
-use Rattle.eights.specs.inner.Briefs.{Brief, BriefOf}
-use Rattle.sheet.specs.Steps.{breaks_nesting, judgement_of, Answers}
+use Rattle.line_fast.specs.inner.Briefs.{Brief, BriefPost}
+use Rattle.sheet.specs.inner.Steps.{breaks_nesting, nesting_checked, Answers}
 
 -- a line as it is kept has its depth and its kind
 
-module _ {node : Node} {b : Brief} (w : BriefOf node b) where
+module _ {node : Node} {b : Brief} (w : BriefPost node b) where
   pub depth_of : b.value.depth ≡ node.depth
-  depth_of = ap (λ (k : Kept). k.depth) w.kept
+  depth_of = ap (λ (k : NodeRecord). k.depth) w.kept
 
   pub kind_of : b.value.kind ≡ node.kind
-  kind_of = ap (λ (k : Kept). k.kind) w.kept
+  kind_of = ap (λ (k : NodeRecord). k.kind) w.kept
 
 -- answers
 
-pub sound_answers : {j : LineRead} (b : Brief) (node : Node) → j ≡ Ok node → BriefOf node b → Answers j (Ok b)
+pub sound_answers : {j : LineRead} (b : Brief) (node : Node) → j ≡ Ok node → BriefPost node b → Answers j (Ok b)
 sound_answers b node e w =
     record {
       refused = λ why f. let z : ◌≡◌ {A = ℕ} 0 1 = cc in absurd (omega arith);
@@ -43,15 +43,15 @@ faulty_answers why e =
 
 -- from a line by itself to the line after others
 
-pub read_deep : (s : List ℕ) (at : ℕ) (v : Node) (b : Brief) → line_at s at ≡ Ok v → BriefOf v b → b.value.depth ≤ max_depth
+pub read_deep : (s : List ℕ) (at : ℕ) (v : Node) (b : Brief) → line_at s at ≡ Ok v → BriefPost v b → b.value.depth ≤ max_depth
 read_deep s at v b e w = omega (arith, depth_of w, (good_line s at v e).deep)
 
 module _ (chain : List Kind) (lines previous : ℕ) where
-  pub judged_faulty : (r : LineRead) (why : Reason) → r ≡ Err why → judgement_of chain lines previous r ≡ Err why
-  unfolding judgement_of
+  pub judged_faulty : (r : LineRead) (why : Reason) → r ≡ Err why → nesting_checked chain lines previous r ≡ Err why
+  unfolding nesting_checked
   judged_faulty r why e = rw e
 
-  pub judged_sound : (r : LineRead) (v : Node) (b : Brief) (t : Bool) → r ≡ Ok v → BriefOf v b → breaks_nesting chain lines previous b.value.depth b.value.kind ≡ t
-      → judgement_of chain lines previous r ≡ cond t (Err Nesting) (Ok v)
-  unfolding judgement_of
+  pub judged_sound : (r : LineRead) (v : Node) (b : Brief) (t : Bool) → r ≡ Ok v → BriefPost v b → breaks_nesting chain lines previous b.value.depth b.value.kind ≡ t
+      → nesting_checked chain lines previous r ≡ cond t (Err Nesting) (Ok v)
+  unfolding nesting_checked
   judged_sound r v b t e w q = rw (e, ← depth_of w, ← kind_of w, q)

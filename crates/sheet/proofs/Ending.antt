@@ -1,4 +1,4 @@
--- What is asked after the lines, place by place: the first table or body left empty. Assumes nothing.
+-- What is asked after the lines, place by place: the first table or body left empty.
 use mathlib.Core.Path.{◌≡◌, refl, sym, ap, ap₂, ◌∙◌}
 use mathlib.Core.Bool.{Bool, true, false, ◌||◌}
 use mathlib.Core.List.{List, [], ◌∷◌, map}
@@ -12,15 +12,16 @@ use lib.Seq.{drop-cons}
 use borrow.Author.Tests.{le-leb, lt-leb}
 use Rattle.kinds.specs.Kinds.{kind_number}
 use Rattle.std.specs.Prelude.{Err, Ok}
-use Rattle.lists.specs.declared.Reason.TheVariants.{Nesting}
-use Rattle.lists.specs.Refusals.{Check, check, first_answer, refusal}
-use Rattle.records.specs.Kept.{no_kept}
-use Rattle.records.specs.declared.Kept.{Kept}
+use Rattle.common.specs.declared.Reason.TheVariants.{Nesting}
+use Rattle.common.specs.Refusals.{Check, check, first_answer, refusal}
+use Rattle.records.specs.NodeRecord.{no_node}
+use Rattle.records.specs.declared.NodeRecord.{NodeRecord}
 use Rattle.line.specs.Fields.{Line, no_line}
-use Rattle.sheet.specs.Nesting.{childless, left_empty, depth_at}
+use Rattle.sheet.specs.Nesting.{childless, left_empty}
+use Rattle.sheet.specs.inner.Nesting.{depth_at}
 use Rattle.sheet.specs.Sheet.{empty_checks}
-use Rattle.sheet.specs.Reading.{kept_of}
-use Rattle.sheet.specs.Steps.{empty_at, line_end, bare_line, bare}
+use Rattle.sheet.specs.Reading.{record_of}
+use Rattle.sheet.specs.inner.Steps.{empty_at, line_end, bare_line, bare}
 
 -- the line at a place is left empty by what stands at the next place
 
@@ -38,28 +39,28 @@ module _ (ls : List Line) (i : ℕ) where
 
 -- no more than depth and kind is asked
 
-pub bare_length : (xs : List Kept) → length (bare xs) ≡ length xs
+pub bare_length : (xs : List NodeRecord) → length (bare xs) ≡ length xs
 bare_length xs = length-map xs bare_line
 
-pub bare_empty : (ks : List Kept) (i : ℕ) → empty_at ks i ≡ left_empty_at (bare ks) i
+pub bare_empty : (ks : List NodeRecord) (i : ℕ) → empty_at ks i ≡ left_empty_at (bare ks) i
 unfolding empty_at
 bare_empty ks i =
-    let at : (j : ℕ) → get_or (bare ks) j no_line ≡ bare_line (get_or ks j no_kept) = λ j. get_or-map bare_line ks j no_kept in
-    let d : (j : ℕ) → depth_at (bare ks) j ≡ (get_or ks j no_kept).depth = λ j. ap (λ (l : Line). l.depth) (at j) in
+    let at : (j : ℕ) → get_or (bare ks) j no_line ≡ bare_line (get_or ks j no_node) = λ j. get_or-map bare_line ks j no_node in
+    let d : (j : ℕ) → depth_at (bare ks) j ≡ (get_or ks j no_node).depth = λ j. ap (λ (l : Line). l.depth) (at j) in
     rw (childless_at (bare ks) i, length-map ks bare_line, d (i + 1), d i, ap (λ (l : Line). kind_number l.kind) (at i))
 
-bare_checks : (k : ℕ) (ls : List Line) → empty_checks k (bare (map kept_of ls)) ≡ empty_checks k ls
+bare_checks : (k : ℕ) (ls : List Line) → empty_checks k (bare (map record_of ls)) ≡ empty_checks k ls
 unfolding empty_checks childless
 bare_checks k [] = refl
 bare_checks k (l ∷ []) = refl
 bare_checks k (l ∷ m ∷ ls) = ap (λ (cs : List Check). check (left_empty l (m ∷ ls)) Nesting k ∷ cs) (bare_checks (suc k) (m ∷ ls))
 
-pub bare_end : (ls : List Line) → line_end (bare (map kept_of ls)) ≡ line_end ls
+pub bare_end : (ls : List Line) → line_end (bare (map record_of ls)) ≡ line_end ls
 unfolding line_end
 bare_end [] = refl
 bare_end (l ∷ ls) =
     ap₂ (λ (m : ℕ) (cs : List Check). first_answer Err (Ok m) (check false Nesting 0 ∷ cs))
-    (length-map (map kept_of (l ∷ ls)) bare_line ∙ length-map (l ∷ ls) kept_of)
+    (length-map (map record_of (l ∷ ls)) bare_line ∙ length-map (l ∷ ls) record_of)
     (bare_checks 1 (l ∷ ls))
 
 -- asked from a place on

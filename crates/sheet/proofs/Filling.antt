@@ -1,4 +1,4 @@
--- A sheet in which no table and no body is left empty: seen line by line, and the answer. Assumes nothing.
+-- A sheet in which no table and no body is left empty: seen line by line, and the answer.
 use mathlib.Core.Path.{◌≡◌, sym, ◌∙◌}
 use mathlib.Core.Bool.{false}
 use mathlib.Core.List.{List}
@@ -10,16 +10,16 @@ use lib.ListN.{length, get_or, set, length-map}
 use lib.Seq.{get_or-set_same, get_or-set_other}
 use borrow.Author.Tests.{lt-leb}
 use Rattle.std.specs.Prelude.{Ok}
-use Rattle.records.specs.Kept.{no_kept}
-use Rattle.records.specs.declared.Kept.{Kept}
+use Rattle.records.specs.NodeRecord.{no_node}
+use Rattle.records.specs.declared.NodeRecord.{NodeRecord}
 use Rattle.kinds.specs.Kinds.{needs_child}
-use Rattle.sheet.specs.Steps.{empty_at, FilledTo, lacks_child, NoneLacking, line_end, bare, bare_line}
+use Rattle.sheet.specs.inner.Steps.{empty_at, FilledTo, lacks_child, FinishPre, line_end, bare, bare_line}
 use Rattle.sheet.proofs.Ending.{EndsFrom, bare_empty, ends_start, ends_more, ends_all}
 
-module _ (ks : List Kept) where
+module _ (ks : List NodeRecord) where
   -- none is, where none lacks a child and the last is no table and no body
-  pub none_empty : NoneLacking ks (length ks) → 0 < length ks
-      → needs_child (get_or ks (length ks - 1) no_kept).kind ≡ false → FilledTo ks (length ks)
+  pub none_empty : FinishPre ks (length ks) → 0 < length ks
+      → needs_child (get_or ks (length ks - 1) no_node).kind ≡ false → FilledTo ks (length ks)
   unfolding empty_at
   none_empty f some e i h = go (ℕ_discrete i (length ks - 1))
     where
@@ -40,13 +40,13 @@ module _ (ks : List Kept) where
       (ends_all (bare ks) (length ks) (omega (arith, length-map ks bare_line)) (ends_to some (length ks) (omega arith) f))
 
 -- one line more, which is stored behind them
-pub none_more : (b : List Kept) {c : List Kept} {n : ℕ} (k : Kept) → NoneLacking b n → (0 < n → lacks_child (get_or b (n - 1) no_kept) k ≡ false) → n < length b → c ≡ set b n k
-    → NoneLacking c (n + 1)
+pub none_more : (b : List NodeRecord) {c : List NodeRecord} {n : ℕ} (k : NodeRecord) → FinishPre b n → (0 < n → lacks_child (get_or b (n - 1) no_node) k ≡ false) → n < length b → c ≡ set b n k
+    → FinishPre c (n + 1)
 none_more b {c} {n} k f e h p i g = rw p (go (ℕ_discrete (i + 1) n))
   where
-    go : Dec (i + 1 ≡ n) → lacks_child (get_or (set b n k) i no_kept) (get_or (set b n k) (i + 1) no_kept) ≡ false
+    go : Dec (i + 1 ≡ n) → lacks_child (get_or (set b n k) i no_node) (get_or (set b n k) (i + 1) no_node) ≡ false
     go (yes q) =
         let last : n - 1 ≡ i = omega arith in
-        rw (q, get_or-set_same b n k no_kept h, get_or-set_other b n i k no_kept (λ z. omega arith), ← last) (e (omega arith))
+        rw (q, get_or-set_same b n k no_node h, get_or-set_other b n i k no_node (λ z. omega arith), ← last) (e (omega arith))
     go (no q) =
-        rw (get_or-set_other b n i k no_kept (λ z. omega arith), get_or-set_other b n (i + 1) k no_kept (λ z. omega arith)) (f i (omega arith))
+        rw (get_or-set_other b n i k no_node (λ z. omega arith), get_or-set_other b n (i + 1) k no_node (λ z. omega arith)) (f i (omega arith))

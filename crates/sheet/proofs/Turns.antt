@@ -1,4 +1,4 @@
--- The reader's loop: what holds before each line, at the start, after one line more, where a line is refused, and at the end. Assumes nothing.
+-- The reader's loop: what holds before each line, at the start, after one line more, where a line is refused, and at the end.
 use mathlib.Core.Path.{◌≡◌, refl, sym, ap, subst, ◌∙◌}
 use mathlib.Core.Bool.{Bool, true, false, cond}
 use mathlib.Core.List.{List, [], ◌∷◌, ◌++◌, map}
@@ -8,27 +8,28 @@ use native.Mathlib.Omega.{arith}
 use lib.ListN.{length, get_or, take, drop, set, replicate}
 use lib.Seq.{take_all}
 use borrow.Author.Tests.{le-ltb}
-use Rattle.records.specs.declared.Kept.{Kept}
+use Rattle.records.specs.declared.NodeRecord.{NodeRecord}
 use Rattle.std.specs.Prelude.{Err, Ok, Result}
-use Rattle.lists.specs.declared.Reason.{Reason}
-use Rattle.lists.specs.declared.Reason.TheVariants.{TextByte, Nesting, NoExpression, OutOfBounds}
-use Rattle.lists.specs.declared.Reason.TheVariants as reason
-use Rattle.lists.specs.declared.Refusal.{Refusal}
-use Rattle.lists.specs.Limits.{max_bytes, max_feeds, max_depth, depths}
-use Rattle.lists.specs.Refusals.{first_answer, refusal}
+use Rattle.common.specs.declared.Reason.{Reason}
+use Rattle.common.specs.declared.Reason.TheVariants.{TextByte, Nesting, NoExpression, OutOfBounds}
+use Rattle.common.specs.declared.Reason.TheVariants as reason
+use Rattle.common.specs.declared.Refusal.{Refusal}
+use Rattle.common.specs.Limits.{max_bytes, max_feeds, max_depth, depths}
+use Rattle.common.specs.Refusals.{first_answer, refusal}
 use Rattle.kinds.specs.declared.Kind.{Kind}
 use Rattle.kinds.specs.declared.Kind.TheVariants.{Text}
 use Rattle.fields.specs.Lines.{Piece, feeds, pieces, node_pieces, heading_bytes}
 use Rattle.line.specs.Fields.{Line, no_line, read_line, is_unread, has_bad_byte, not_expression, out_of_bounds, or_none}
-use Rattle.line.specs.LineAt.{LineRead, piece_at, node_of, line_in, line_at}
+use Rattle.line.specs.inner.LineAt.{LineRead, piece_at, node_of, line_in, line_at}
 use Rattle.line.proofs.Pieces.{pieces_at, pieces_end, feeds_at}
 use Rattle.line.proofs.Told.{good_line}
 use Rattle.line.specs.declared.Node.{Node}
-use Rattle.eights.specs.inner.Briefs.{Brief, figures_of, BriefOf}
+use Rattle.line_fast.specs.inner.Briefs.{Brief, figures_of, BriefPost}
 use Rattle.sheet.specs.Nesting.{misplaced}
 use Rattle.sheet.specs.Sheet.{lines_checks, lines_of, sheet_lines, sheet_checks}
-use Rattle.sheet.specs.Reading.{reading_of, kept_of}
-use Rattle.sheet.specs.Steps.{breaks_nesting, judgement_of, end_checks, line_end, bare, Begun}
+use Rattle.sheet.specs.Reading.{record_of}
+use Rattle.sheet.specs.inner.Reading.{reading_of}
+use Rattle.sheet.specs.inner.Steps.{breaks_nesting, nesting_checked, end_checks, line_end, bare, ReadLinesPre}
 use Rattle.sheet.proofs.Heading.{heading_long, heading_feeds}
 use Rattle.sheet.proofs.Earlier.{earlier, drop_here, drop_none, lines_drop, lines_length}
 use Rattle.sheet.proofs.Chain.{Linked, linked_none, linked_more, linked_told}
@@ -38,7 +39,7 @@ use Rattle.sheet.proofs.Storing.{stored_more}
 use Rattle.sheet.proofs.Briefs.{depth_of, kind_of}
 
 -- after n lines, of the sheet s, at the place where the next one starts; the slice is a before the loop, and b now
-pub record ReadingLoop (s : List ℕ) (a b : List Kept) (chain : List Kind) (previous at n : ℕ) : Type 0 where
+pub record ReadingLoop (s : List ℕ) (a b : List NodeRecord) (chain : List Kind) (previous at n : ℕ) : Type 0 where
   pub within : at ≤ length s
   pub place : pieces (drop at s) ≡ drop n (node_pieces s)
   pub count : n ≤ length (sheet_lines s)
@@ -47,10 +48,10 @@ pub record ReadingLoop (s : List ℕ) (a b : List Kept) (chain : List Kind) (pre
   pub answer : reading_of s
       ≡ first_answer Err (Ok (length (sheet_lines s)))
       (lines_checks (suc n) (earlier n (sheet_lines s)) (drop n (node_pieces s)) ++ end_checks (sheet_lines s))
-  pub stored : take n b ≡ map kept_of (take n (sheet_lines s))
+  pub stored : take n b ≡ map record_of (take n (sheet_lines s))
   pub same : length b ≡ length a
 
-pub turns_start : (s : List ℕ) (a : List Kept) → Begun s → ReadingLoop s a a (replicate depths Text) 0 heading_bytes 0
+pub turns_start : (s : List ℕ) (a : List NodeRecord) → ReadLinesPre s → ReadingLoop s a a (replicate depths Text) 0 heading_bytes 0
 unfolding earlier reading_of sheet_checks first_answer
 turns_start s a g = record {
   within = heading_long s g.headed;
@@ -80,8 +81,8 @@ abbrev answered : Bool → Bool → Bool → Bool → Node → LineRead
 answered u y x z w = cond u (Err reason.Fields) (cond y (Err TextByte) (cond x (Err NoExpression) (cond z (Err OutOfBounds) (Ok w))))
 
 module _ (chain : List Kind) (n previous : ℕ) where
-  told_good : (r : LineRead) (v : Node) → judgement_of chain n previous r ≡ Ok v → (r ≡ Ok v) × (breaks_nesting chain n previous v.depth v.kind ≡ false)
-  unfolding judgement_of
+  told_good : (r : LineRead) (v : Node) → nesting_checked chain n previous r ≡ Ok v → (r ≡ Ok v) × (breaks_nesting chain n previous v.depth v.kind ≡ false)
+  unfolding nesting_checked
   told_good (Err why) v e = let z : ◌≡◌ {A = ℕ} 0 1 = cc in absurd (omega arith)
   told_good (Ok w) v e = at (breaks_nesting chain n previous w.depth w.kind) refl e
     where
@@ -91,10 +92,10 @@ module _ (chain : List Kind) (n previous : ℕ) where
       at false q e = let f : w ≡ v = cc in (ap Ok f, rw f at q)
 
   told_faulty : (u y x z m : Bool) (w : Node) (r : Result ℕ Refusal) (why : Reason) (line : ℕ) → breaks_nesting chain n previous w.depth w.kind ≡ m
-      → judgement_of chain n previous (answered u y x z w) ≡ Err why
+      → nesting_checked chain n previous (answered u y x z w) ≡ Err why
       → cond u (Err (refusal reason.Fields line)) (cond y (Err (refusal TextByte line)) (cond x (Err (refusal NoExpression line))
       (cond z (Err (refusal OutOfBounds line)) (cond m (Err (refusal Nesting line)) r)))) ≡ Err (refusal why line)
-  unfolding judgement_of
+  unfolding nesting_checked
   told_faulty true y x z m w r why line q e = let f : reason.Fields ≡ why = cc in rw f
   told_faulty false true x z m w r why line q e = let f : TextByte ≡ why = cc in rw f
   told_faulty false false true z m w r why line q e = let f : NoExpression ≡ why = cc in rw f
@@ -124,7 +125,7 @@ told_line false false true z w v e = let z : ◌≡◌ {A = ℕ} 0 1 = cc in abs
 told_line false false false true w v e = let z : ◌≡◌ {A = ℕ} 0 1 = cc in absurd (omega arith)
 told_line false false false false w v e = record { fields = refl; bytes = refl; sum = refl; bounds = refl; same = cc }
 
-module _ {s : List ℕ} {a b : List Kept} {chain : List Kind} {previous at n : ℕ} (t : ReadingLoop s a b chain previous at n) (h : at < length s) where
+module _ {s : List ℕ} {a b : List NodeRecord} {chain : List Kind} {previous at n : ℕ} (t : ReadingLoop s a b chain previous at n) (h : at < length s) where
   here : Line
   here = or_none (read_line (piece_at s at))
 
@@ -153,7 +154,7 @@ module _ {s : List ℕ} {a b : List Kept} {chain : List Kind} {previous at n : �
   unfolding here
   broken = linked_told t.linked here (piece_ranged (piece_at s at)).0.deep
 
-  pub turns_refuse : (why : Reason) → judgement_of chain n previous (line_at s at) ≡ Err why → Err (refusal why (n + 1)) ≡ reading_of s
+  pub turns_refuse : (why : Reason) → nesting_checked chain n previous (line_at s at) ≡ Err why → Err (refusal why (n + 1)) ≡ reading_of s
   unfolding here line_at line_in
   turns_refuse why e =
       sym
@@ -174,7 +175,7 @@ module _ {s : List ℕ} {a b : List Kept} {chain : List Kind} {previous at n : �
   earlier_here = rw (add-one n, line_here.1)
 
   module _ (good : line_at s at ≡ Ok (node_of at (piece_at s at) here)) (fits : breaks_nesting chain n previous here.depth here.kind ≡ false)
-      (c : List Kept) (r : n < length a) (same : length c ≡ length b) (p : c ≡ set b n (kept_of here)) where
+      (c : List NodeRecord) (r : n < length a) (same : length c ≡ length b) (p : c ≡ set b n (record_of here)) where
     more : ReadingLoop s a c (set chain here.depth here.kind) here.depth (at + length (piece_at s at).bytes + 1) (n + 1)
     unfolding here after line_at line_in
     more =
@@ -188,12 +189,12 @@ module _ {s : List ℕ} {a b : List Kept} {chain : List Kind} {previous at n : �
           linked = rw earlier_here (linked_more t.linked here (piece_ranged (piece_at s at)).0.deep);
           answer = asked ∙ rw (f.fields, f.bytes, f.sum, f.bounds, sym broken ∙ fits, earlier_here, ← (drop_here (piece_at s at) (node_pieces s) n (piece_at s at) after rest).2, add-one n);
           stored =
-              stored_more (sheet_lines s) n (kept_of here) b c t.stored line_here.0 (omega (arith, t.same)) p (ap kept_of (sym line_here.1));
+              stored_more (sheet_lines s) n (record_of here) b c t.stored line_here.0 (omega (arith, t.same)) p (ap record_of (sym line_here.1));
           same = same ∙ t.same;
         }
 
   -- a sound line is the one that stands at the place
-  as_read : (v : Node) (G : Node → Type 0) → judgement_of chain n previous (line_at s at) ≡ Ok v
+  as_read : (v : Node) (G : Node → Type 0) → nesting_checked chain n previous (line_at s at) ≡ Ok v
       → (line_at s at ≡ Ok (node_of at (piece_at s at) here) → breaks_nesting chain n previous here.depth here.kind ≡ false → G (node_of at (piece_at s at) here))
       → G v
   unfolding here line_at line_in
@@ -203,7 +204,7 @@ module _ {s : List ℕ} {a b : List Kept} {chain : List Kind} {previous at n : �
       subst G q (k (rw (sym q) at g) (rw (sym q) at f))
 
   -- the line as it is kept
-  module _ (x : Brief) (w : (node : Node) × (judgement_of chain n previous (line_at s at) ≡ Ok node) × BriefOf node x) where
+  module _ (x : Brief) (w : (node : Node) × (nesting_checked chain n previous (line_at s at) ≡ Ok node) × BriefPost node x) where
     pub turns_next : NextLine s at n x.value.depth x.next
     unfolding here
     turns_next =
@@ -214,7 +215,7 @@ module _ {s : List ℕ} {a b : List Kept} {chain : List Kind} {previous at n : �
         let p = (piece_ranged (piece_at s at)).0 in
         record { deep = p.deep; ahead = omega arith; ends = l.inside; few = omega (arith, feeds_at s at l.ended, t.few) }))
 
-    pub turns_more : (c : List Kept) → n < length a → length c ≡ length b → c ≡ set b n x.value
+    pub turns_more : (c : List NodeRecord) → n < length a → length c ≡ length b → c ≡ set b n x.value
         → ReadingLoop s a c (set chain x.value.depth x.value.kind) x.value.depth x.next (n + 1)
     unfolding here
     turns_more c r m p =
@@ -222,7 +223,7 @@ module _ {s : List ℕ} {a b : List Kept} {chain : List Kind} {previous at n : �
         (as_read w.0 (λ (v : Node). c ≡ set b n (figures_of v) → ReadingLoop s a c (set chain v.depth v.kind) v.depth v.next (n + 1)) w.1
         (λ g f p. more g f c r m p) (p ∙ ap (set b n) w.2.kept))
 
-module _ {s : List ℕ} {a b : List Kept} {chain : List Kind} {previous at n : ℕ} (t : ReadingLoop s a b chain previous at n) (h : length s ≤ at) where
+module _ {s : List ℕ} {a b : List NodeRecord} {chain : List Kind} {previous at n : ℕ} (t : ReadingLoop s a b chain previous at n) (h : length s ≤ at) where
   none : drop n (node_pieces s) ≡ []
   none = sym t.place ∙ pieces_end s at h
 
@@ -230,10 +231,10 @@ module _ {s : List ℕ} {a b : List Kept} {chain : List Kind} {previous at n : �
   unfolding sheet_lines
   count = omega (arith, lines_length (node_pieces s), drop_none (node_pieces s) n none, t.count)
 
-  stored : take n b ≡ map kept_of (sheet_lines s)
+  stored : take n b ≡ map record_of (sheet_lines s)
   stored = rw (take_all n (sheet_lines s) (omega (arith, count))) at t.stored
 
-  pub turns_stored : (m : ℕ) → m ≡ length (sheet_lines s) → take m b ≡ map kept_of (sheet_lines s)
+  pub turns_stored : (m : ℕ) → m ≡ length (sheet_lines s) → take m b ≡ map record_of (sheet_lines s)
   turns_stored m e = rw (e ∙ sym count) stored
 
   pub turns_end : line_end (bare (take n b)) ≡ reading_of s

@@ -10,27 +10,28 @@ pub mod nesting; // nesting.rt: what may stand below what
 pub mod cursor; // cursor.rt: a record that holds the sheet and the current place
 
 ghost use Rattle.std.specs.Prelude.{◌≡◌, true, false, ◌-◌, ◌≤◌, ◌<◌, length, get_or};
-ghost use Rattle.lists.specs.Limits.{max_lines, max_depth};
-ghost use Rattle.records.specs.Kept.{InRanges, no_kept};
-ghost use Rattle.line.specs.LineAt.{line_at};
-ghost use Rattle.eights.specs.inner.Briefs.{figures_of, BriefOf};
-ghost use Rattle.sheet.specs.Reading.{Reads};
-ghost use Rattle.sheet.specs.Steps.{AtLine, judgement_of, Answers, empty_at, lacks_child, NoneLacking, line_end, bare, Begun, room_for};
+ghost use Rattle.common.specs.Limits.{max_lines, max_depth};
+ghost use Rattle.records.specs.NodeRecord.{no_node};
+ghost use Rattle.records.specs.inner.NodeRecord.{InRanges};
+ghost use Rattle.line.specs.inner.LineAt.{line_at};
+ghost use Rattle.line_fast.specs.inner.Briefs.{figures_of, BriefPost};
+ghost use Rattle.sheet.specs.inner.Reading.{Reads};
+ghost use Rattle.sheet.specs.inner.Steps.{AtLine, nesting_checked, Answers, empty_at, lacks_child, FinishPre, line_end, bare, ReadLinesPre, line_bound};
 
+use common::{DEPTHS, Reason, Refusal};
 use fields::Scanned;
 use kinds::Kind;
 use line::Node;
-use lists::{DEPTHS, Reason, Refusal};
-use records::Kept;
+use records::NodeRecord;
 use text::bytes::Classes;
 
 // What is kept of a line, and where the next one starts. No `From`: it asks that the line's depth and spans are in their ranges.
-fn brief(node: Node) -> Scanned<Kept>
+fn brief(node: Node) -> Scanned<NodeRecord>
     requires { InRanges (figures_of node) }
-    ensures { BriefOf node result }
+    ensures { BriefPost node result }
 {
     Scanned {
-        value: Kept {
+        value: NodeRecord {
             depth: node.depth as u8,
             kind: node.kind,
             cols: node.cols as u16,
@@ -43,11 +44,11 @@ fn brief(node: Node) -> Scanned<Kept>
 }
 
 // The line that starts at a place, by itself: 2, 3, 13, 14. The commonest lines are told by few comparisons.
-fn line_of(classes: &Classes, bytes: &[u8], at: usize) -> Result<Scanned<Kept>, Reason>
+fn line_of(classes: &Classes, bytes: &[u8], at: usize) -> Result<Scanned<NodeRecord>, Reason>
     requires { AtLine bytes.now at }
     ensures { Answers (line_at bytes.now at) result }
 {
-    if let Some(b) = eights::common_line(classes, bytes, at) {
+    if let Some(b) = line_fast::common_line(classes, bytes, at) {
         return Ok(b);
     }
     let node = cursor::line_from(classes, bytes, at)?;
@@ -56,17 +57,17 @@ fn line_of(classes: &Classes, bytes: &[u8], at: usize) -> Result<Scanned<Kept>, 
 
 // The line that starts at a place, judged after the lines before it: 2, 3, 13, 14, 4. chain, lines and previous are those of `breaks_nesting`: a struct
 // of the three would be made anew for each line.
-fn judge(
+fn check_line(
     classes: &Classes,
     bytes: &[u8],
     at: usize,
     chain: &[Kind; DEPTHS],
     lines: usize,
     previous: u32,
-) -> Result<Scanned<Kept>, Reason>
+) -> Result<Scanned<NodeRecord>, Reason>
     requires at_line { AtLine bytes.now at }
     requires previous_le_max_depth { previous ≤ max_depth }
-    ensures { Answers (judgement_of chain.now lines previous (line_at bytes.now at)) result }
+    ensures { Answers (nesting_checked chain.now lines previous (line_at bytes.now at)) result }
 {
     let b = line_of(classes, bytes, at)?;
     if nesting::misplaced(
@@ -82,15 +83,15 @@ fn judge(
 }
 
 // Whether a line is a table or a body and the next line is no deeper.
-fn lacks_child(here: Kept, next: Kept) -> bool
+fn lacks_child(here: NodeRecord, next: NodeRecord) -> bool
     ensures { result ≡ lacks_child here next }
 {
     nesting::needs_child(here.kind) && next.depth <= here.depth
 }
 
 // Whether the line at place i is a table or a body without a child: no line one deeper follows it.
-#[tactic(auto, unfolding(crate::specs::Steps::empty_at))]
-fn left_empty_at(lines: &[Kept], i: usize) -> bool
+#[tactic(auto, unfolding(crate::specs::inner::Steps::empty_at))]
+fn left_empty_at(lines: &[NodeRecord], i: usize) -> bool
     requires { i < length lines.now }
     ensures { result ≡ empty_at lines.now i }
 {
@@ -101,9 +102,9 @@ fn left_empty_at(lines: &[Kept], i: usize) -> bool
 }
 
 // Whether no table and no body is seen to be left empty, where none was before the last of the first n lines, and one more line follows.
-fn still_filled(filled: bool, lines: &[Kept], n: usize, next: Kept) -> bool
+fn still_filled(filled: bool, lines: &[NodeRecord], n: usize, next: NodeRecord) -> bool
     requires { n ≤ length lines.now }
-    ensures { result ≡ true → (filled ≡ true) × (0 < n → lacks_child (get_or lines.now (n - 1) no_kept) next ≡ false) }
+    ensures { result ≡ true → (filled ≡ true) × (0 < n → lacks_child (get_or lines.now (n - 1) no_node) next ≡ false) }
 {
     filled
         && !lines[..n]
@@ -112,9 +113,9 @@ fn still_filled(filled: bool, lines: &[Kept], n: usize, next: Kept) -> bool
 }
 
 // What is asked after the lines: 4 for no line, or for the first table or body left empty. In most sheets there is none, which is seen at once.
-fn finish(lines: &[Kept], filled: bool) -> Result<usize, Refusal>
+fn finish(lines: &[NodeRecord], filled: bool) -> Result<usize, Refusal>
     requires lines_len_bound { length lines.now ≤ max_lines }
-    requires none_lacking { filled ≡ true → NoneLacking lines.now (length lines.now) }
+    requires none_lacking { filled ≡ true → FinishPre lines.now (length lines.now) }
     ensures { result ≡ line_end (bare lines.now) }
 {
     let Some(last) = lines.last() else {
@@ -133,9 +134,9 @@ fn finish(lines: &[Kept], filled: bool) -> Result<usize, Refusal>
 }
 
 // Reads the lines of a sheet that begins as it should.
-fn read_lines(classes: &Classes, bytes: &[u8], lines: &mut [Kept]) -> Result<usize, Refusal>
-    requires begun { Begun bytes.now }
-    requires bytes_bound { room_for bytes.now ≤ length lines.old }
+fn read_lines(classes: &Classes, bytes: &[u8], lines: &mut [NodeRecord]) -> Result<usize, Refusal>
+    requires begun { ReadLinesPre bytes.now }
+    requires bytes_bound { line_bound bytes.now ≤ length lines.old }
     ensures { Reads bytes.now result lines.new }
 {
     // the kind of the last line of each depth, which is all that the nesting of a line asks of those before it, and the last depth
@@ -147,7 +148,7 @@ fn read_lines(classes: &Classes, bytes: &[u8], lines: &mut [Kept]) -> Result<usi
     // A while: a turn moves on by the line that it reads.
     while at < bytes.len() {
         // A match: with `map_err` and `?` sheets of texts are read 5 % slower (75 for 71 us, 1,200 cells), since the loop holds more.
-        let b = match judge(classes, bytes, at, &chain, n, previous) {
+        let b = match check_line(classes, bytes, at, &chain, n, previous) {
             Ok(b) => b,
             Err(reason) => return Err(reason.at((n + 1) as u32)),
         };
@@ -162,8 +163,8 @@ fn read_lines(classes: &Classes, bytes: &[u8], lines: &mut [Kept]) -> Result<usi
 }
 
 // Reads a sheet: what each of its lines says, a record for each, and how many there are, or the first refusal that applies. Record k is of line k + 1.
-pub fn read(classes: &Classes, bytes: &[u8], lines: &mut [Kept]) -> Result<usize, Refusal>
-    requires bytes_bound { room_for bytes.now ≤ length lines.old }
+pub fn read(classes: &Classes, bytes: &[u8], lines: &mut [NodeRecord]) -> Result<usize, Refusal>
+    requires bytes_bound { line_bound bytes.now ≤ length lines.old }
     ensures { Reads bytes.now result lines.new }
 {
     if front::too_long(bytes) {

@@ -1,8 +1,7 @@
 -- No call answers 7, whatever the sheet: the answer of every call is what it accepts, or a refusal of another number. By the numbers of the checks.
--- Assumes nothing.
-use Rattle.lists.specs.declared.Reason.{Reason}
-use Rattle.lists.specs.declared.Reason.TheVariants.{Fields, Heading, Nesting, NoExpression, NoTable, OutOfBounds, RowEnd, TextByte, TooLong, TooManyEntries}
-use Rattle.lists.specs.declared.Refusal.{Refusal}
+use Rattle.common.specs.declared.Reason.{Reason}
+use Rattle.common.specs.declared.Reason.TheVariants.{Fields, Heading, Nesting, NoExpression, NoTable, OutOfBounds, RowEnd, TextByte, TooLong, TooManyEntries}
+use Rattle.common.specs.declared.Refusal.{Refusal}
 use mathlib.Core.Path.{◌≡◌, refl}
 use mathlib.Core.Logic.{◌⊎◌, inl, inr}
 use mathlib.Core.Bool.{Bool, true, false, cond}
@@ -10,18 +9,18 @@ use mathlib.Core.List.{List, [], ◌∷◌, ◌++◌}
 use Prim.Native.Nat.{ℕ, suc}
 use native.Mathlib.Omega.{arith}
 use lib.Dec.{eqb}
-use Rattle.lists.specs.Refusals.{reason_number, Check, check, first_answer}
-use Rattle.lists.specs.Lists.{All}
-use Rattle.lists.proofs.All.{all_append}
+use Rattle.common.specs.Refusals.{reason_number, Check, check, first_answer}
+use Rattle.common.specs.Lists.{All}
+use Rattle.common.proofs.All.{all_append}
 use Rattle.kinds.specs.Kinds.{kind_number, table_kind}
 use Rattle.fields.specs.Lines.{Piece, node_pieces}
 use Rattle.line.specs.Fields.{Line, read_line, or_none}
-use Rattle.records.specs.declared.Kept.{Kept}
+use Rattle.records.specs.declared.NodeRecord.{NodeRecord}
 use Rattle.sheet.specs.Sheet.{lines_checks, empty_checks, sheet_lines, sheet_checks}
-use Rattle.cells.specs.Cells.{rows_under}
-use Rattle.cells.specs.Cells as cells
+use Rattle.resolved_rows.specs.Cells.{rows_under}
+use Rattle.resolved_rows.specs.Cells as cells
 use Rattle.grid.specs.Grid.{table_checks, tables_checks}
-use Rattle.opening.specs.Opening.{kept_lines}
+use Rattle.sheet_load.specs.Opening.{nodes_of}
 use Rattle.sheet_figures.specs.Calls.{check_checks, asked_checks}
 
 -- a check of another refusal
@@ -62,7 +61,7 @@ table_other : (t : ℕ) (table : List cells.Row) → All Other (table_checks t t
 unfolding table_checks
 table_other t table = more RowEnd (λ e. omega (arith, e)) _ _ _ (more TooManyEntries (λ e. omega (arith, e)) _ _ _ no_more)
 
-tables_other : (t : ℕ) (ls : List Kept) → All Other (tables_checks t ls)
+tables_other : (t : ℕ) (ls : List NodeRecord) → All Other (tables_checks t ls)
 unfolding tables_checks
 tables_other t [] = no_more
 tables_other t (l ∷ ls) = all_append Other _ _ (go (eqb (kind_number l.kind) table_kind)) (tables_other (suc t) ls)
@@ -74,11 +73,11 @@ tables_other t (l ∷ ls) = all_append Other _ _ (go (eqb (kind_number l.kind) t
 -- ---- the checks of the calls
 
 pub check_other : (s : List ℕ) → All Other (check_checks s)
-check_other s = all_append Other _ _ (sheet_other s) (tables_other 1 (kept_lines s))
+check_other s = all_append Other _ _ (sheet_other s) (tables_other 1 (nodes_of s))
 
 -- those of a call that asks for a table
 pub asked_other : (arguments : List Check) → All Other arguments → (s : List ℕ) (line : ℕ) → All Other (arguments ++ asked_checks s line)
-asked_other arguments a s line = all_append Other _ _ a (all_append Other _ _ (sheet_other s) (more NoTable (λ e. omega (arith, e)) _ _ _ (tables_other 1 (kept_lines s))))
+asked_other arguments a s line = all_append Other _ _ a (all_append Other _ _ (sheet_other s) (more NoTable (λ e. omega (arith, e)) _ _ _ (tables_other 1 (nodes_of s))))
 
 -- ---- the answers
 

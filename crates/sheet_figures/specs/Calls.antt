@@ -1,14 +1,14 @@
--- What the calls refuse after their arguments, in its order, and what they leave in a lent buffer. These are definitions; nothing is assumed.
+-- What the calls refuse after their arguments, in its order, and what they leave in a lent buffer.
 use Rattle.std.specs.Prelude.{List, ◌∷◌, ◌++◌, ℕ, length}
-use Rattle.lists.specs.Lists.{padded}
-use Rattle.lists.specs.Refusals.{Check, if_passes}
+use Rattle.common.specs.Lists.{padded}
+use Rattle.common.specs.Refusals.{Check, if_passes}
 use Rattle.sheet.specs.Sheet.{sheet_checks}
 use Rattle.grid.specs.Grid.{tables_checks}
-use Rattle.opening.specs.Opening.{kept_lines, line_check}
+use Rattle.sheet_load.specs.Opening.{nodes_of, line_check}
 
 -- each table of the sheet in turn: 5, 6
 abbrev pub every_table : List ℕ → List Check
-every_table s = tables_checks 1 (kept_lines s)
+every_table s = tables_checks 1 (nodes_of s)
 
 -- a sheet: `check`, and every call that asks for no line, after its arguments
 abbrev pub check_checks : List ℕ → List Check
@@ -16,7 +16,7 @@ check_checks s = sheet_checks s ++ every_table s
 
 -- a call that asks for the table in a line, after its arguments: 10 before the tables
 abbrev pub asked_checks : List ℕ → ℕ → List Check
-asked_checks s line = sheet_checks s ++ line_check (kept_lines s) line ∷ every_table s
+asked_checks s line = sheet_checks s ++ line_check (nodes_of s) line ∷ every_table s
 
 -- what a lent buffer holds after a call with these checks: the figures, then zeros
 abbrev pub leaves : List Check → List ℕ → List ℕ → List ℕ

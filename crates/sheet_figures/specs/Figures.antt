@@ -1,17 +1,17 @@
--- The figures of a sheet's tables and lines, by the sheet's bytes, a line and the settings. These are definitions; nothing is assumed.
+-- The figures of a sheet's tables and lines, by the sheet's bytes, a line and the settings.
 use Rattle.std.specs.Prelude.{List, ℕ, ◌-◌, drop}
 use Rattle.text.specs.declared.Estimate.{Estimate}
 use Rattle.columns.specs.Boxes.{Box, flat}
 use Rattle.columns.specs.Columns as columns
 use Rattle.columns.specs.Columns.{largest}
-use Rattle.cells.specs.Cells as cells
-use Rattle.cells.specs.Listed.{table_rows}
+use Rattle.resolved_rows.specs.Cells as cells
+use Rattle.resolved_rows.specs.Listed.{table_rows}
 use Rattle.grid.specs.Grid.{GridRow, grid_of, columns_of}
 use Rattle.estimates.specs.Estimates.{measured, box_rows}
 use Rattle.widths.specs.Widths.{way_of, final_widths, table_width}
 use Rattle.answers.specs.declared.Way.{Way}
-use Rattle.placing.specs.Place.{Placed, place_rows}
-use Rattle.opening.specs.Opening.{kept_lines}
+use Rattle.placement.specs.Place.{Placed, place_rows}
+use Rattle.sheet_load.specs.Opening.{nodes_of}
 
 -- of a line
 abbrev pub line_size : Estimate → ℕ
@@ -32,7 +32,7 @@ width_of p = p.width
 
 -- the resolved rows of the table in a line of the sheet
 abbrev pub table_at : List ℕ → ℕ → List cells.Row
-table_at s line = table_rows (kept_lines s) (line - 1)
+table_at s line = table_rows (nodes_of s) (line - 1)
 
 -- its grid, and its columns
 abbrev pub rows_at : List ℕ → ℕ → List GridRow
@@ -43,7 +43,7 @@ columns_at s line = columns_of (table_at s line)
 
 -- its rows of boxes: the entries with their cells' estimates at this wrap, which are among those of the lines after the table's
 abbrev pub boxes_at : List ℕ → ℕ → ℕ → List (List Box)
-boxes_at s line wrap = box_rows line (drop line (measured wrap 1 (kept_lines s))) (rows_at s line)
+boxes_at s line wrap = box_rows line (drop line (measured wrap 1 (nodes_of s))) (rows_at s line)
 
 -- the way, the final widths, the table's width and the places of the entries
 abbrev pub sizes_at : List ℕ → ℕ → ℕ → List ℕ

@@ -3,19 +3,19 @@
 #![tactic(auto)]
 
 ghost use Rattle.std.specs.Prelude.{◌≡◌};
-ghost use Rattle.lists.specs.Refusals.{verdict_of};
+ghost use Rattle.common.specs.Refusals.{verdict_of};
 ghost use Rattle.text.specs.Text.{measure_of};
 ghost use Rattle.sheet_figures.specs.Calls.{check_checks};
 ghost use Rattle.call_estimates.specs.Estimates.{estimated_of, for_lines, EstimatesBuffers};
 ghost use Rattle.call_grid.specs.Grid.{gridded_of, for_entries, for_rows, GridBuffers};
 ghost use Rattle.call_layout.specs.Layout.{laid_out_of, for_columns, for_places, LayoutBuffers};
-ghost use Rattle.missing.specs.Missing.{explained_of, for_one, MissingLeft};
-ghost use Rattle.preview.specs.Preview.{pointed_of, listed_of, for_one as for_listed, WithinLeft, joined_of};
-ghost use Rattle.walks.specs.Walks.{walked_of, for_walk, WalkLeft};
-ghost use Rattle.nested.specs.Nested.{nested_of, NestedLeft};
-ghost use Rattle.crossing.specs.Answers.{check_result, as_img, measure_result, estimates_result, grid_result, layout_result, missing_result, at_result, within_result, joining_result, walk_result, nested_result};
+ghost use Rattle.call_missing.specs.Missing.{explained_of, for_one, MissingLeft};
+ghost use Rattle.call_preview.specs.Preview.{pointed_of, listed_of, for_one as for_listed, WithinLeft, joined_of};
+ghost use Rattle.call_walk.specs.Walks.{walked_of, for_walk, WalkLeft};
+ghost use Rattle.call_nested.specs.Nested.{nested_of, NestedLeft};
+ghost use Rattle.c_results.specs.Answers.{check_result, as_img, measure_result, estimates_result, grid_result, layout_result, missing_result, at_result, within_result, joining_result, walk_result, nested_result};
 
-use crossing::{
+use c_results::{
     AtResult, CheckResult, EstimatesResult, GridResult, JoiningResult, LayoutResult, MeasureResult,
     MissingResult, NestedResult, WalkResult, WithinResult,
 };
@@ -33,7 +33,7 @@ pub extern "C" fn tables_check(sheet: &[u8]) -> CheckResult
 pub extern "C" fn tables_measure(text: &[u8], wrap: u32, img: u32) -> MeasureResult
     ensures { result ≡ measure_result (measure_of text.now wrap (as_img img)) }
 {
-    MeasureResult::from(text::measure(text, wrap, crossing::as_img(img)))
+    MeasureResult::from(text::measure(text, wrap, c_results::as_img(img)))
 }
 
 // The size, the least width and the prefix of every line of a sheet.
@@ -105,7 +105,7 @@ pub extern "C" fn tables_missing(
     ensures missing_left { MissingLeft sheet.now line wrap raw width entry.old cause.old
         entry.new cause.new }
 {
-    MissingResult::from(missing::missing(sheet, line, wrap, raw, width, entry, cause))
+    MissingResult::from(call_missing::missing(sheet, line, wrap, raw, width, entry, cause))
 }
 
 // What lies at a character column of a row.
@@ -121,7 +121,7 @@ pub extern "C" fn tables_at(
 ) -> AtResult
     ensures { result ≡ at_result (pointed_of sheet.now line wrap raw width row x) }
 {
-    AtResult::from(preview::at(sheet, line, wrap, raw, width, row, x))
+    AtResult::from(call_preview::at(sheet, line, wrap, raw, width, row, x))
 }
 
 // The printed cells of a row that lie wholly in a stretch of character columns.
@@ -140,7 +140,7 @@ pub extern "C" fn tables_within(
     ensures value { result ≡ within_result (listed_of sheet.now line wrap raw width row from to (for_listed entry.old)) }
     ensures within_left { WithinLeft sheet.now line wrap raw width row from to entry.old entry.new }
 {
-    WithinResult::from(preview::within(sheet, line, wrap, raw, width, row, from, to, entry))
+    WithinResult::from(call_preview::within(sheet, line, wrap, raw, width, row, from, to, entry))
 }
 
 // The joining character at a character column between a row and the next.
@@ -156,7 +156,7 @@ pub extern "C" fn tables_joining(
 ) -> JoiningResult
     ensures { result ≡ joining_result (joined_of sheet.now line wrap raw width row x) }
 {
-    JoiningResult::from(preview::joining(sheet, line, wrap, raw, width, row, x))
+    JoiningResult::from(call_preview::joining(sheet, line, wrap, raw, width, row, x))
 }
 
 // The widths of a sheet's lines, from the first line's down: whether each has one, and which.
@@ -174,7 +174,7 @@ pub extern "C" fn tables_walk(
     ensures walk_left { WalkLeft sheet.now wrap raw width overflow given.old wide.old
         given.new wide.new }
 {
-    WalkResult::from(walks::walk(sheet, wrap, raw, width, overflow, given, wide))
+    WalkResult::from(call_walk::walk(sheet, wrap, raw, width, overflow, given, wide))
 }
 
 // The layout of the table in a line, at the width that the walk gives it.
@@ -194,5 +194,7 @@ pub extern "C" fn tables_nested(
     ensures nested_left { NestedLeft sheet.now line wrap raw width overflow column.old x.old wide.old
         column.new x.new wide.new }
 {
-    NestedResult::from(nested::nested(sheet, line, wrap, raw, width, overflow, column, x, wide))
+    NestedResult::from(call_nested::nested(
+        sheet, line, wrap, raw, width, overflow, column, x, wide,
+    ))
 }

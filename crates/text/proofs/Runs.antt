@@ -1,4 +1,4 @@
--- Characters and spaces, walked eight at a time: what holds of the walk so far, and that it is the walk of one byte at a time. Assumes nothing.
+-- Characters and spaces, walked eight at a time: what holds of the walk so far, and that it is the walk of one byte at a time.
 use mathlib.Core.Path.{◌≡◌, refl, ◌∙◌}
 use mathlib.Core.Bool.{Bool, true, false, cond}
 use mathlib.Core.List.{List, [], ◌∷◌, ◌++◌}
@@ -9,12 +9,12 @@ use lib.Dec.{leb, eqb}
 use lib.ListN.{length, get_or, take, drop, length-drop}
 use lib.Seq.{take-add, drop-drop, drop-cons, length-take-le}
 use borrow.Author.Tests.{eqb-true, eqb-false, le-leb, lt-leb, leb-true, leb-false}
-use Rattle.lists.specs.Lists.{All}
-use Rattle.lists.proofs.All.{all_append}
-use Rattle.octets.specs.inner.Plain.{IsPlain, plain_sum, plain_gap, PlainFront}
-use Rattle.octets.specs.declared.Plain.{Plain}
+use Rattle.common.specs.Lists.{All}
+use Rattle.common.proofs.All.{all_append}
+use Rattle.swar.specs.inner.Plain.{IsPlain, plain_sum, plain_gap, PlainFront}
+use Rattle.swar.specs.declared.Plain.{Plain}
 use Rattle.text.specs.Bytes.{class_of}
-use Rattle.text.specs.Inner.{PlainRun, RunTo}
+use Rattle.text.specs.inner.Steps.{PlainRunPost, RunToPost}
 use Rattle.text.specs.declared.Run.{Run}
 use Rattle.text.proofs.Scanning.{Summing, sum_start, sum_turn}
 
@@ -67,7 +67,7 @@ module _ {text : List ℕ} {from sum gap i : ℕ} (z : Running text from sum gap
       let t = take (i - from) (drop from text) in
       omega (arith, z.sum_is, sum_le 0 t (omega arith), length-take-le (i - from) (drop from text) (omega (arith, length-drop from text, z.inside)), length-drop from text, z.inside)
 
-  pub run_end : PlainRun text from (record { sum = sum; gap = gap; end = i })
+  pub run_end : PlainRunPost text from (record { sum = sum; gap = gap; end = i })
   run_end = record { later = z.later; inside = z.inside; plain = z.plain; sum = z.sum_is; gap = z.gap_is }
 
   pub run_turn : (p : Plain) → PlainFront (drop i text) gap p → Running text from (sum + p.size) p.gap (i + p.count)
@@ -149,7 +149,7 @@ summed {stop} {t} {from} (suc k) sum gap i h a n s =
         rw (q, next) at z
 
 -- so the byte loop goes on from where the run ends
-pub run_summing : {stop : ℕ} {t : List ℕ} {from : ℕ} (r : Run) → RunTo stop t from r → Dec (IsPlain stop) → Summing stop t from r.sum r.gap r.end
+pub run_summing : {stop : ℕ} {t : List ℕ} {from : ℕ} (r : Run) → RunToPost stop t from r → Dec (IsPlain stop) → Summing stop t from r.sum r.gap r.end
 unfolding All plain_sum plain_gap
 run_summing {stop} {t} {from} r w (yes p) =
     let e = w.kept p in

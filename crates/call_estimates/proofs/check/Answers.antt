@@ -1,4 +1,4 @@
--- `call_estimates::check` meets its contract: what opening the sheet answers, without the number of its lines. Assumes nothing.
+-- `call_estimates::check` meets its contract: what opening the sheet answers, without the number of its lines.
 use Rattle.std.proofs.Common.{rules, ◌≡◌, Err, sym, ap, ◌∙◌}
 use Rattle.call_estimates.proofs.Answers.{verdict_in, checked}
 use Rattle.call_estimates.proofs.check.Goals as goal

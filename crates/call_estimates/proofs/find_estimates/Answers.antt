@@ -1,4 +1,4 @@
--- `call_estimates::find_estimates` meets its contract: refused for the arguments, it has no figures; else what is found in the sheet. Assumes nothing.
+-- `call_estimates::find_estimates` meets its contract: refused for the arguments, it has no figures; else what is found in the sheet.
 use Rattle.std.proofs.Common.{rules, ◌≡◌, Err}
 use Rattle.call_estimates.proofs.Answers.{found_early, found_late}
 use Rattle.call_estimates.proofs.find_estimates.Goals as goal

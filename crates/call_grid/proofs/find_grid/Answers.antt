@@ -1,4 +1,4 @@
--- `call_grid::find_grid` meets its contract: refused for the arguments, it has no figures; else what is found in the sheet. Assumes nothing.
+-- `call_grid::find_grid` meets its contract: refused for the arguments, it has no figures; else what is found in the sheet.
 use Rattle.std.proofs.Common.{rules, ◌≡◌, Err}
 use Rattle.call_grid.proofs.Answers.{grid_early, grid_late}
 use Rattle.call_grid.proofs.find_grid.Goals as goal

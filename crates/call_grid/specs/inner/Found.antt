@@ -1,10 +1,10 @@
--- The grid of one table of a sheet, where the checks pass or one of them refuses. These are definitions; nothing is assumed.
+-- The grid of one table of a sheet, where the checks pass or one of them refuses.
 use Rattle.answers.specs.Answers.{grid_with}
 use Rattle.answers.specs.declared.Grid.{Grid}
-use Rattle.lists.specs.declared.Refusal.{Refusal}
+use Rattle.common.specs.declared.Refusal.{Refusal}
 use Rattle.std.specs.Prelude.{◌≡◌, List, map, ℕ, ◌≤◌, length, take, Err, Result, Ok}
-use Rattle.lists.specs.Limits.{max_lines, max_entries}
-use Rattle.lists.specs.Refusals.{Check, first_answer, if_passes}
+use Rattle.common.specs.Limits.{max_lines, max_entries}
+use Rattle.common.specs.Refusals.{Check, first_answer, if_passes}
 use Rattle.grid.specs.Grid.{shown_line, entries_of, row_ends, first_of, span_of, row_line}
 use Rattle.sheet_figures.specs.Figures.{rows_at, columns_at}
 
@@ -18,12 +18,12 @@ rows_in (Ok t) = t.rows
 rows_in (Err why) = 0
 
 -- the lent buffers have the places of a table's entries, and of its rows
-pub record GridRoom (cell first' span row end : List ℕ) : Type 0 where
-  pub cell_room : max_entries ≤ length cell
-  pub first_room : max_entries ≤ length first'
-  pub span_room : max_entries ≤ length span
-  pub row_room : max_lines ≤ length row
-  pub end_room : max_lines ≤ length end
+pub record GridCapacity (cell first' span row end : List ℕ) : Type 0 where
+  pub cell_capacity : max_entries ≤ length cell
+  pub first_capacity : max_entries ≤ length first'
+  pub span_capacity : max_entries ≤ length span
+  pub row_capacity : max_lines ≤ length row
+  pub end_capacity : max_lines ≤ length end
 
 -- the grid found, or the first refusal; its entries and rows stand in the first places
 pub record GridFound (cs : List Check) (s : List ℕ) (line : ℕ) (r : Result Grid Refusal) (cell first' span row end : List ℕ) : Type 0 where

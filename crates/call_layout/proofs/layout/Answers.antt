@@ -1,5 +1,5 @@
 -- `call_layout::layout` meets its contract: what is found stands in the front of the lent buffers, which are long enough where something is found,
--- and the rest of each is cleared. Assumes nothing.
+-- and the rest of each is cleared.
 use Rattle.std.proofs.Common.{rules}
 use native.Mathlib.Omega.{arith}
 use Rattle.call_layout.specs.inner.Found.{columns_in, entries_in}
@@ -11,21 +11,21 @@ find_layout-found-requires c =
     let a = c.args in
     layout_fit a.wrap a.raw a.width _ a.column.now a.x.now a.wide.now c.of_layout-asked.ensures.verdict
 
-pub keep_front-requires : goal.keep_front-requires
+pub zero_rest-requires : goal.zero_rest-requires
 unfolding columns_in
-keep_front-requires c = grind (arith, (layout_rooms c.of_layout-asked.ensures.verdict (layout_opened c.of_layout-asked.ensures.asks c.find_layout-found.ensures)).0, c.find_layout-found.auto.column)
+zero_rest-requires c = grind (arith, (layout_rooms c.of_layout-asked.ensures.verdict (layout_opened c.of_layout-asked.ensures.asks c.find_layout-found.ensures)).0, c.find_layout-found.auto.column)
 
-pub keep_front-requires-2 : goal.keep_front-requires-2
+pub zero_rest-requires-2 : goal.zero_rest-requires-2
 unfolding entries_in
-keep_front-requires-2 c = grind (arith, (layout_rooms c.of_layout-asked.ensures.verdict (layout_opened c.of_layout-asked.ensures.asks c.find_layout-found.ensures)).1, c.find_layout-found.auto.x)
+zero_rest-requires-2 c = grind (arith, (layout_rooms c.of_layout-asked.ensures.verdict (layout_opened c.of_layout-asked.ensures.asks c.find_layout-found.ensures)).1, c.find_layout-found.auto.x)
 
-pub keep_front-requires-3 : goal.keep_front-requires-3
+pub zero_rest-requires-3 : goal.zero_rest-requires-3
 unfolding entries_in
-keep_front-requires-3 c = grind (arith, (layout_rooms c.of_layout-asked.ensures.verdict (layout_opened c.of_layout-asked.ensures.asks c.find_layout-found.ensures)).2, c.find_layout-found.auto.wide)
+zero_rest-requires-3 c = grind (arith, (layout_rooms c.of_layout-asked.ensures.verdict (layout_opened c.of_layout-asked.ensures.asks c.find_layout-found.ensures)).2, c.find_layout-found.auto.wide)
 
 pub returns : goal.returns
 unfolding columns_in entries_in
 returns c =
     let f = c.find_layout-found in
     layout_answered c.of_layout-asked.ensures.verdict (layout_opened c.of_layout-asked.ensures.asks c.find_layout-found.ensures) (search rules) (search rules)
-    c.find_layout-found.auto.column c.find_layout-found.auto.x c.find_layout-found.auto.wide c.keep_front.ensures c.keep_front-2.ensures c.keep_front-3.ensures
+    c.find_layout-found.auto.column c.find_layout-found.auto.x c.find_layout-found.auto.wide c.zero_rest.ensures c.zero_rest-2.ensures c.zero_rest-3.ensures

@@ -1,12 +1,12 @@
--- The layout of one table of a sheet, where the checks pass or one of them refuses. These are definitions; nothing is assumed.
+-- The layout of one table of a sheet, where the checks pass or one of them refuses.
 use Rattle.answers.specs.Answers.{layout_with}
 use Rattle.answers.specs.declared.Layout.{Layout}
-use Rattle.lists.specs.declared.Refusal.{Refusal}
+use Rattle.common.specs.declared.Refusal.{Refusal}
 use Rattle.std.specs.Prelude.{◌≡◌, true, List, map, ℕ, ◌≤◌, length, take, Err, Result, Ok}
-use Rattle.lists.specs.Limits.{max_lines, max_entries}
-use Rattle.lists.specs.Refusals.{Check, first_answer, passes, if_passes}
+use Rattle.common.specs.Limits.{max_lines, max_entries}
+use Rattle.common.specs.Refusals.{Check, first_answer, passes, if_passes}
 use Rattle.grid.specs.Grid.{entries_of}
-use Rattle.placing.specs.Promise.{Promised}
+use Rattle.placement.specs.Promise.{Promised}
 use Rattle.sheet_figures.specs.Figures.{x_of, width_of, rows_at, columns_at, boxes_at, way_at, widths_at, width_at, places_at}
 
 -- how many columns and entries there are

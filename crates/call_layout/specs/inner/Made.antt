@@ -1,16 +1,17 @@
--- The layout of one table of an accepted sheet. These are definitions; nothing is assumed.
+-- The layout of one table of an accepted sheet.
 use Rattle.answers.specs.Answers.{layout_with}
 use Rattle.answers.specs.declared.Layout.{Layout}
 use Rattle.std.specs.Prelude.{◌≡◌, List, ℕ, ◌≤◌, length, take}
-use Rattle.lists.specs.Limits.{max_entries, max_position}
+use Rattle.common.specs.Limits.{max_entries, max_position}
 use Rattle.text.specs.declared.Estimate.{Estimate}
-use Rattle.records.specs.declared.Kept.{Kept}
-use Rattle.cells.specs.Listed.{table_rows}
+use Rattle.records.specs.declared.NodeRecord.{NodeRecord}
+use Rattle.resolved_rows.specs.Listed.{table_rows}
 use Rattle.grid.specs.Grid.{grid_of, columns_of, entries_of}
 use Rattle.widths.specs.declared.Laid.{Laid}
-use Rattle.table.specs.Laying.{LaidTable}
-use Rattle.table.specs.Arranging.{CellsAre, boxes_at}
-use Rattle.table.specs.declared.Arrangement.{Arrangement}
+use Rattle.table_layout.specs.inner.Laying.{LaidTable}
+use Rattle.table_layout.specs.Arranging.{boxes_at}
+use Rattle.table_layout.specs.inner.Arranging.{CellsAre}
+use Rattle.table_layout.specs.declared.Arrangement.{Arrangement}
 
 -- an arrangement as the call answers it
 abbrev pub answer_of : Arrangement → Layout
@@ -21,7 +22,7 @@ abbrev pub laid_of : Layout → Laid
 laid_of r = record { way = r.way; width = r.width }
 
 -- the layout of the table at a place, in the front of the buffers, at the wrap of the estimates
-pub record LayoutMade (ks : List Kept) (at : ℕ) (figures : List Estimate) (raw width : ℕ) (r : Layout) (column x wide : List ℕ) : Type 0 where
+pub record LayoutOfPost (ks : List NodeRecord) (at : ℕ) (figures : List Estimate) (raw width : ℕ) (r : Layout) (column x wide : List ℕ) : Type 0 where
   pub entries_are : r.entries ≡ length (entries_of (grid_of (table_rows ks at)))
   pub columns_are : r.columns ≡ columns_of (table_rows ks at)
   pub few_columns : columns_of (table_rows ks at) ≤ max_position

@@ -1,4 +1,4 @@
--- `causes::none_shown` meets its contract: std's `all` by the test of each is the definition. Assumes nothing.
+-- `causes::none_shown` meets its contract: std's `all` by the test of each is the definition.
 use mathlib.Core.Path.{refl}
 use mathlib.Core.Bool.{not}
 use lib.Dec.{eqb}

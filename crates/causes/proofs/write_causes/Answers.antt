@@ -1,4 +1,4 @@
--- `causes::write_causes` meets its contract. A turn stores the number of column i's cause. At the end all are written. Assumes nothing.
+-- `causes::write_causes` meets its contract. A turn stores the number of column i's cause. At the end all are written.
 use mathlib.Core.Path.{◌≡◌, sym, ap, ◌∙◌}
 use mathlib.Core.List.{List}
 use mathlib.Core.Logic.{inl, inr}
@@ -6,7 +6,7 @@ use Prim.Native.Nat.{ℕ, ◌≤◌}
 use native.Mathlib.Omega.{arith}
 use lib.ListN.{length}
 use Rattle.std.specs.Iterator.Adapters.{enumerate_count}
-use Rattle.lists.proofs.Write.{write_more, write_all}
+use Rattle.common.proofs.Write.{write_more, write_all}
 use Rattle.cutting.proofs.Pairs.{read_next, read_all}
 use Rattle.columns.specs.Columns.{up_to}
 use Rattle.columns.proofs.Upto.{length_up_to, at_up_to}

@@ -1,5 +1,5 @@
 -- `causes::write_causes` meets its contract. The loop's invariant: the first i places have the numbers of the first i columns' causes, and the rest
--- stands as it did; what the iterator has left are the columns from i on. Assumes nothing.
+-- stands as it did; what the iterator has left are the columns from i on.
 use mathlib.Core.Path.{◌≡◌}
 use mathlib.Core.List.{List, ◌++◌}
 use Prim.Native.Nat.{ℕ}

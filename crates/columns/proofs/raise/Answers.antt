@@ -1,4 +1,4 @@
--- `columns::raise` meets its contract. A turn stores the larger of a place and the value: the map of that place. Assumes nothing.
+-- `columns::raise` meets its contract. A turn stores the larger of a place and the value: the map of that place.
 use Prim.Native.Nat.{ℕ, max}
 use native.Mathlib.Omega.{arith}
 use Rattle.columns.proofs.Mapped.{mapped_turn}

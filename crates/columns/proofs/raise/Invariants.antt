@@ -1,5 +1,4 @@
 -- `columns::raise` meets its contract. The loop's invariant: of the part as it was, the places passed are mapped, and the rest stands as it did.
--- Assumes nothing.
 use mathlib.Core.Path.{◌≡◌}
 use mathlib.Core.List.{◌++◌, map}
 use Prim.Native.Nat.{ℕ, max}

@@ -1,5 +1,4 @@
 -- `cutting::pick_column` meets its contract: the chain gives the columns, and of each and the best so far the fold keeps the better one.
--- Assumes nothing.
 use mathlib.Core.Path.{ap, ◌∙◌}
 use borrow.Author.Rules.{rules}
 use Rattle.std.proofs.lemmas.Iterator.Consumers.{fold_from_yields_List}

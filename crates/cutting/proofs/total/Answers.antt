@@ -1,10 +1,10 @@
--- `cutting::total` meets its contract: std's sum of the figures is theirs here. Assumes nothing.
+-- `cutting::total` meets its contract: std's sum of the figures is theirs here.
 use mathlib.Core.Path.{◌≡◌, refl}
 use native.Mathlib.Omega.{arith}
 use Rattle.std.proofs.Common.{rules}
 use Rattle.std.specs.List.{sum_by}
 use Rattle.std.proofs.lemmas.List.Recursion.{is_sum_by}
-use Rattle.lists.specs.Lists.{sum}
+use Rattle.common.specs.Lists.{sum}
 use Rattle.cutting.proofs.Sums.{sum_small}
 use Rattle.cutting.proofs.total.Goals as goal
 

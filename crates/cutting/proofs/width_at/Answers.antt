@@ -1,5 +1,5 @@
 -- `cutting::width_at` meets its contract. A share no more than the level above its least stays; else the level is added, and one more where the
--- place is below the bound. Assumes nothing.
+-- place is below the bound.
 use native.Mathlib.Omega.{arith}
 use Rattle.cutting.specs.inner.Fill.{place}
 use Rattle.cutting.proofs.Fill.{width_share, width_first, width_later}

@@ -1,8 +1,7 @@
 -- How the code cuts: what is asked for, and widths at a level of which the first columns in the order of the characters left over have one more.
--- These are definitions; nothing is assumed.
 use Rattle.std.specs.Prelude.{cond, ◌≡◌, List, [], ◌∷◌, ℕ, suc, ◌+◌, ◌-◌, ◌*◌, ◌≤◌, min, ltb, length}
-use Rattle.lists.specs.Lists.{sum}
-use Rattle.lists.specs.Limits.{max_lines}
+use Rattle.common.specs.Lists.{sum}
+use Rattle.common.specs.Limits.{max_lines}
 use Rattle.cutting.specs.Cut.{gaps, Below}
 
 -- the sum of so few 32 bit figures that it fits 64 bits, and a sum with it
@@ -11,16 +10,16 @@ pub record Summed (figures : List ℕ) (r : ℕ) : Type 0 where
   pub small : r ≤ 4294967295 * max_lines
 
 -- widths that can be cut to fit the width: none is below its least, and the leasts with their gaps fit
-pub record Cuttable (leasts wide : List ℕ) (width : ℕ) : Type 0 where
+pub record CutWidthsPre (leasts wide : List ℕ) (width : ℕ) : Type 0 where
   pub above : Below leasts wide
   pub few : length wide ≤ max_lines
-  pub room : sum leasts + gaps (length leasts) ≤ width
+  pub capacity : sum leasts + gaps (length leasts) ≤ width
 
 -- the same where the gaps are taken off the width
-pub record Roomy (leasts wide : List ℕ) (room : ℕ) : Type 0 where
+pub record HoldsLeasts (leasts wide : List ℕ) (capacity : ℕ) : Type 0 where
   pub above : Below leasts wide
   pub few : length wide ≤ max_lines
-  pub enough : sum leasts ≤ room
+  pub enough : sum leasts ≤ capacity
 
 -- the place of column i, of the least l, in the order of the characters left over: the smaller least first, then the higher column
 abbrev pub place : ℕ → ℕ → ℕ

@@ -2,7 +2,7 @@
 -- the children of a line one after the other (a leaf without a call, by the law that `node` has for it), `below_table` the lines of a
 -- table (a cell that holds nothing without a call, by the laws that `cell` has for it), and `table` makes the table's grid once they are passed. The loops' invariants
 -- say that the lines passed have their estimates, and that what is combined so far, with the lines left, comes to the whole. The measure is
--- three times the lines left, one more for `table` and two more for `node`, which may call for their own line. Assumes nothing.
+-- three times the lines left, one more for `table` and two more for `node`, which may call for their own line.
 use mathlib.Core.Path.{refl, sym, ap, ◌∙◌}
 use Prim.Native.Nat.{ℕ, ◌+◌, max}
 use lib.ListN.{get_or, set}
@@ -12,7 +12,7 @@ use Rattle.estimates.specs.Estimates.{none}
 use Rattle.estimates.specs.inner.Cycle.{Holder, NodeMeets}
 use Rattle.estimates.proofs.Children.{CellLoop, roomy, again, cell_child, cell_again, cell_fits, cell_end, plain_holder, leaf_meets, holder_ready, holder_meets}
 use Rattle.estimates.proofs.Framing.{table_again, table_unfilled, table_stop, table_ready, table_end}
-use Rattle.estimates.specs.Sheet.{line_at}
+use Rattle.estimates.specs.inner.Sheet.{line_at}
 use Rattle.estimates.proofs.+cell_node_table.Goals as goal
 use Rattle.estimates.proofs.+cell_node_table.Goals.{cell-Joined-is_leaf, cell-then-is_leaf, cell-else-is_leaf}
 

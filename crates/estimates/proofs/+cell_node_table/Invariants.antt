@@ -1,6 +1,6 @@
 -- The cycle `node`, `table`, `cell`: each call passes a line and all below it. The loops' invariants say that the lines passed have their
 -- estimates, and that what is combined so far, with the lines left, comes to the whole. The measure is three times the lines left, one more
--- for `table` and two more for `node`, which may call for their own line. Assumes nothing.
+-- for `table` and two more for `node`, which may call for their own line.
 use Prim.Native.Nat.{◌+◌, ◌*◌, ◌-◌}
 use lib.ListN.{length}
 use Rattle.estimates.proofs.Children.{CellLoop}

@@ -1,4 +1,4 @@
--- `estimates::measure` meets its contract: the walk from the first line goes over all lines. Assumes nothing.
+-- `estimates::measure` meets its contract: the walk from the first line goes over all lines.
 use Rattle.estimates.proofs.Whole.{measured}
 use Rattle.estimates.proofs.measure.Goals as goal
 

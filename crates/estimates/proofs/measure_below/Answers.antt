@@ -1,4 +1,4 @@
--- `estimates::measure_below` meets its contract: where all below the table is passed, its cells are measured. Assumes nothing.
+-- `estimates::measure_below` meets its contract: where all below the table is passed, its cells are measured.
 use Rattle.estimates.proofs.Framing.{below_end}
 use Rattle.estimates.proofs.measure_below.Goals as goal
 

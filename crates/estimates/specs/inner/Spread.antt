@@ -1,15 +1,15 @@
--- A table's estimate by the entries of its grid, as records: what it reads, and what it makes of it. These are definitions; nothing is assumed.
+-- A table's estimate by the entries of its grid, as records: what it reads, and what it makes of it.
 use Rattle.std.specs.Prelude.{◌≡◌, cond, List, [], ◌∷◌, map, ℕ, ◌+◌, ◌-◌, ◌*◌, ◌/◌, ◌≤◌, ◌<◌, ◌^◌, eqb, length, get_or}
-use Rattle.lists.specs.Lists.{sum}
-use Rattle.lists.specs.Limits.{max_position}
+use Rattle.common.specs.Lists.{sum}
+use Rattle.common.specs.Limits.{max_position}
 use Rattle.text.specs.declared.Estimate.{Estimate}
-use Rattle.records.specs.Kept.{no_entry}
-use Rattle.records.specs.declared.Kept.{Kept}
+use Rattle.records.specs.inner.NodeRecord.{no_entry}
+use Rattle.records.specs.declared.NodeRecord.{NodeRecord}
 use Rattle.records.specs.declared.Entry.{Entry}
 use Rattle.columns.specs.Boxes.{Box, box}
 use Rattle.columns.specs.Columns.{least_of, largest}
-use Rattle.cells.specs.Listed.{table_rows}
-use Rattle.positions.specs.Positions.{all_rows, entry_count}
+use Rattle.resolved_rows.specs.Listed.{table_rows}
+use Rattle.grid_positions.specs.Positions.{all_rows, entry_count}
 use Rattle.grid.specs.Grid as grid
 use Rattle.grid.specs.Grid.{grid_of}
 use Rattle.grid.specs.Facts.{Sound, CellOf}
@@ -28,7 +28,7 @@ tabled_by columns bs =
     cond (eqb columns 0) none (estimate (spread_cells bs + (columns - 1)) (sum (largest least_of bs columns) + (columns - 1)) 0)
 
 -- the sum r, and a figure for each of n columns
-pub record Spreads (bs : List Box) (n r : ℕ) (columns : List ℕ) : Type 0 where
+pub record SpreadEntriesPost (bs : List Box) (n r : ℕ) (columns : List ℕ) : Type 0 where
   pub all : r ≡ spread_cells bs
   pub leasts : columns ≡ largest least_of bs n
 
@@ -55,30 +55,30 @@ pub record EntryFits (es : List Estimate) (columns : ℕ) (e : Entry) : Type 0 w
   pub sound : (e.cell ≡ 0 → ⊥) → (get_or es (e.cell - 1) none).least ≤ (get_or es (e.cell - 1) none).size
 
 -- what entries come to together fits 32 bits, with the gaps between columns
-pub record SpreadReady (entries : List Entry) (figures : List Estimate) (columns : ℕ) : Type 0 where
+pub record SpreadEntriesPre (entries : List Entry) (figures : List Estimate) (columns : ℕ) : Type 0 where
   pub fit : (k : ℕ) → k < length entries → EntryFits figures columns (get_or entries k no_entry)
-  pub room : spread_cells (entry_boxes figures entries) + max_position ≤ 2 ^ 32
+  pub capacity : spread_cells (entry_boxes figures entries) + max_position ≤ 2 ^ 32
 
 -- besides, there is scratch for the columns
-pub record TabulateReady (entries : List Entry) (columns : ℕ) (figures : List Estimate) (scratch : ℕ) : Type 0 where
-  pub spread : SpreadReady entries figures columns
+pub record TabulatePre (entries : List Entry) (columns : ℕ) (figures : List Estimate) (scratch : ℕ) : Type 0 where
+  pub spread : SpreadEntriesPre entries figures columns
   pub few : columns ≤ max_position
-  pub room : max_position ≤ scratch
+  pub capacity : max_position ≤ scratch
 
 -- ---- the table at a place
 
 -- the entries of its grid, as records
-abbrev pub records_at : List Kept → ℕ → List Entry
+abbrev pub records_at : List NodeRecord → ℕ → List Entry
 records_at ks at = map shown (grid.entries_of (grid_of (table_rows ks at)))
 
 -- its cells are measured, and there is scratch for its columns, entries and rows
-pub record FiguresReady (ks : List Kept) (at : ℕ) (es : List Estimate) (scratch entries rows : ℕ) : Type 0 where
+pub record TableFiguresPre (ks : List NodeRecord) (at : ℕ) (es : List Estimate) (scratch entries rows : ℕ) : Type 0 where
   pub within : at < length ks
   pub lined : Lined ks
   pub sound : Sound (table_rows ks at)
   pub measured : length ks ≤ length es
   pub bounded : (k : ℕ) → CellOf ks at k → (get_or es k none).least ≤ (get_or es k none).size
-  pub room : spread_cells (entry_boxes es (records_at ks at)) + max_position ≤ 2 ^ 32
-  pub column_room : max_position ≤ scratch
-  pub entry_room : entry_count (all_rows (table_rows ks at)) ≤ entries
-  pub row_room : length ks ≤ rows
+  pub capacity : spread_cells (entry_boxes es (records_at ks at)) + max_position ≤ 2 ^ 32
+  pub column_capacity : max_position ≤ scratch
+  pub entry_capacity : entry_count (all_rows (table_rows ks at)) ≤ entries
+  pub row_capacity : length ks ≤ rows

@@ -1,16 +1,16 @@
 -- `number_rows` meets its contract. The loop's invariant (`Sofar`): the records written, followed by the definition of the rows that are left, are
 -- the definition of all rows, and so are the edges asked and the longest row; the entries that are left stand as they stood. A turn numbers one row by
--- `renumber`: at edges one row's records more are written, else the rows are refused. Assumes nothing.
+-- `renumber`: at edges one row's records more are written, else the rows are refused.
 use mathlib.Core.Path.{◌≡◌, ◌∙◌}
 use Prim.Native.Nat.{◌≤◌, ◌<◌}
 use native.Mathlib.Omega.{arith}
 use lib.ListN.{length, get_or, length-map, get_or-map}
 use borrow.Rule.Slice.PartMut.{same_len_mid}
-use Rattle.lists.specs.Lists.{sum}
-use Rattle.lists.specs.Limits.{max_position}
-use Rattle.records.specs.Kept.{no_row}
-use Rattle.records.specs.Figures.{row_end, row_ends_of, entry_span, entry_spans_of}
-use Rattle.edges.specs.Edges.{part}
+use Rattle.common.specs.Lists.{sum}
+use Rattle.common.specs.Limits.{max_position}
+use Rattle.records.specs.inner.NodeRecord.{no_row}
+use Rattle.records.specs.inner.Figures.{row_end, row_ends_of, entry_span, entry_spans_of}
+use Rattle.column_edges.specs.inner.Edges.{part}
 use Rattle.grid.proofs.NumberLoop.{stop, fits, lent_spans, lent_row, turn, turn_missing}
 use Rattle.grid.proofs.number_rows.Goals as goal
 use Rattle.grid.proofs.number_rows.Goals.{In-loop-row}

@@ -1,10 +1,10 @@
 -- `number_rows` meets its contract. The loop's invariant (`Sofar`): the records written, followed by the definition of the rows that are left, are
 -- the definition of all rows, and so are the edges asked and the longest row; the entries that are left stand as they stood. A turn numbers one row by
--- `renumber`: at edges one row's records more are written, else the rows are refused. Assumes nothing.
+-- `renumber`: at edges one row's records more are written, else the rows are refused.
 use mathlib.Core.Path.{◌≡◌}
 use lib.ListN.{length}
-use Rattle.records.specs.Figures.{row_ends_of, entry_cells_of, entry_spans_of}
-use Rattle.edges.specs.Edges.{is_edge}
+use Rattle.records.specs.inner.Figures.{row_ends_of, entry_cells_of, entry_spans_of}
+use Rattle.column_edges.specs.inner.Edges.{is_edge}
 use Rattle.grid.proofs.NumberLoop.{Sofar}
 use Rattle.grid.proofs.number_rows.Given as goal
 

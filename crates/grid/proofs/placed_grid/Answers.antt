@@ -1,5 +1,5 @@
 -- `placed_grid` meets its contract: the fronts of the slices are the rows and their entries, and numbering them tells the columns; that an entry ends at
--- no edge is never told. Assumes nothing.
+-- no edge is never told.
 use Rattle.std.specs.Prelude.{Option, Some, None, unwrap_or}
 use mathlib.Core.Path.{◌≡◌, refl, sym}
 use mathlib.Core.List.{List, map}
@@ -7,7 +7,7 @@ use Prim.Native.Nat.{ℕ}
 use lib.ListN.{take}
 use Rattle.std.proofs.lemmas.List.{take-map}
 use Rattle.records.specs.declared.Entry.{Entry}
-use Rattle.records.specs.Figures.{row_end, row_ends_of, entry_cell, entry_span}
+use Rattle.records.specs.inner.Figures.{row_end, row_ends_of, entry_cell, entry_span}
 use Rattle.grid.specs.inner.Numbering.{RowsNumbered}
 use Rattle.grid.specs.inner.Placing.{edge_of_rows}
 use Rattle.grid.proofs.Seven.{never_missing}

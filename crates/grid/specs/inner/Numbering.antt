@@ -1,8 +1,9 @@
--- Rows in columns, one after the other, where the edges are those of any set. These are definitions; nothing is assumed.
+-- Rows in columns, one after the other, where the edges are those of any set.
 use Rattle.std.specs.Prelude.{◌≡◌, Bool, true, cond, List, [], ◌∷◌, ◌++◌, ℕ, max, length, take, drop, Option, Some, None}
-use Rattle.lists.specs.Lists.{sum}
+use Rattle.common.specs.Lists.{sum}
 use Rattle.records.specs.declared.Entry.{Entry}
-use Rattle.edges.specs.Edges.{count_below, all_at, rows_ends, records_from}
+use Rattle.column_edges.specs.Edges.{count_below, all_at}
+use Rattle.column_edges.specs.inner.Edges.{rows_ends, records_from}
 
 -- the records of all rows' entries, whose lines are the first figures of a list
 unfoldable pub rows_records : (ℕ → Bool) → List ℕ → List (List ℕ) → List Entry

@@ -1,15 +1,16 @@
--- Rows by positions in slices, and what numbering them takes and gives. These are definitions; nothing is assumed.
+-- Rows by positions in slices, and what numbering them takes and gives.
 use Rattle.std.specs.Prelude.{◌≡◌, Bool, List, ◌∷◌, map, ℕ, ◌/◌, ◌≤◌, length, take, Some}
-use Rattle.lists.specs.Lists.{mem}
+use Rattle.common.specs.Lists.{mem}
 use Rattle.records.specs.declared.Entry as records
 use Rattle.records.specs.declared.RowEnd.{RowEnd}
-use Rattle.edges.specs.Edges.{rows_from, rows_ends, RowsFit}
-use Rattle.cells.specs.Cells as cells
-use Rattle.rows.specs.declared.Overhang.{Overhang}
-use Rattle.rows.specs.Row.{item_line, item_span}
-use Rattle.positions.specs.declared.Positions.{Positions}
-use Rattle.positions.specs.Positions.{all_rows, entry_count}
-use Rattle.positions.specs.inner.Slices.{all_items, entry_ends, placed_line}
+use Rattle.column_edges.specs.inner.Edges.{rows_from, rows_ends, RowsFit}
+use Rattle.resolved_rows.specs.Cells as cells
+use Rattle.grid_row.specs.declared.Overhang.{Overhang}
+use Rattle.grid_row.specs.Row.{item_span}
+use Rattle.grid_row.specs.inner.Row.{item_line}
+use Rattle.grid_positions.specs.declared.Positions.{Positions}
+use Rattle.grid_positions.specs.Positions.{all_rows, entry_count}
+use Rattle.grid_positions.specs.inner.Slices.{all_items, entry_ends, placed_line}
 use Rattle.grid.specs.inner.Numbering.{RowsNumbered}
 use Rattle.grid.specs.Grid.{GridRow, grid_of, columns_of, entries_of, row_ends}
 use Rattle.grid.specs.Judging.{shown}
@@ -20,14 +21,14 @@ edge_of_rows rs p = mem p (0 ∷ rows_ends rs)
 
 -- rows by positions: the first `entries` figures of `wide` are the spans of their entries, the first `rows` figures of `ends` say how many entries
 -- there are up to and including each row
-pub record RowsReady (rows entries : ℕ) (wide ends : List ℕ) : Type 0 where
+pub record PlacedGridPre (rows entries : ℕ) (wide ends : List ℕ) : Type 0 where
   pub ends_in : rows ≤ length ends
   pub wide_in : entries ≤ length wide
   pub fit : RowsFit 0 (take rows ends) (take entries wide)
 
 -- what becomes of them in columns, of which there are so many
-abbrev pub PlacedNumbered : ℕ → ℕ → List ℕ → List ℕ → List ℕ → ℕ → List records.Entry → Type 0
-PlacedNumbered rows entries wide line ends columns es =
+abbrev pub PlacedGridPost : ℕ → ℕ → List ℕ → List ℕ → List ℕ → ℕ → List records.Entry → Type 0
+PlacedGridPost rows entries wide line ends columns es =
     RowsNumbered (edge_of_rows (rows_from 0 (take rows ends) (take entries wide))) (rows_from 0 (take rows ends) (take entries wide)) (take entries line) (Some columns) es
 
 -- the rows of a table by positions stand in the first places of the slices
@@ -37,7 +38,7 @@ pub record RowsStand (table : List cells.Row) (rows entries : ℕ) (wide line ro
   pub row_lines : take rows row ≡ map placed_line (all_rows table)
   pub ends : take rows end ≡ entry_ends 0 (all_rows table)
 
-pub record TablePlaced (table : List cells.Row) (placed : Positions) (wide line row end : List ℕ) : Type 0 where
+pub record PlaceTablePost (table : List cells.Row) (placed : Positions) (wide line row end : List ℕ) : Type 0 where
   pub rows_are : placed.rows ≡ length table
   pub entries_are : placed.entries ≡ entry_count (all_rows table)
   pub stand : RowsStand table placed.rows placed.entries wide line row end
@@ -55,9 +56,9 @@ pub record GridStands (table : List cells.Row) (rows n columns : ℕ) (es : List
   pub row_ends : take (length (grid_of table)) end ≡ row_ends 0 (grid_of table)
 
 -- the lent slices have a record for each entry, and for each of n lines
-pub record Room (n entries : ℕ) (cells overhang : List ℕ) (next : List Overhang) (es : List records.Entry) (rows : List RowEnd) : Type 0 where
-  pub cell_room : n ≤ length cells / 3
-  pub overhang_room : n ≤ length overhang / 3
-  pub next_room : n ≤ length next
-  pub entry_room : entries ≤ length es
-  pub row_room : n ≤ length rows
+pub record PlaceTablePre (n entries : ℕ) (cells overhang : List ℕ) (next : List Overhang) (es : List records.Entry) (rows : List RowEnd) : Type 0 where
+  pub cell_capacity : n ≤ length cells / 3
+  pub overhang_capacity : n ≤ length overhang / 3
+  pub next_capacity : n ≤ length next
+  pub entry_capacity : entries ≤ length es
+  pub row_capacity : n ≤ length rows

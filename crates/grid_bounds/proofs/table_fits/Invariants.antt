@@ -1,4 +1,4 @@
--- `grid_bounds::table_fits` meets its contract. The loop's invariant is `Bounding`. Assumes nothing.
+-- `grid_bounds::table_fits` meets its contract. The loop's invariant is `Bounding`.
 use Prim.Native.Nat.{◌+◌}
 use Rattle.grid_bounds.proofs.BoundLoop.{Bounding}
 use Rattle.grid_bounds.proofs.table_fits.Given as goal

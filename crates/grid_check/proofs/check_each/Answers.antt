@@ -1,4 +1,4 @@
--- `grid_check::check_each` meets its contract. The loop's invariant, `Sofar`: the verdict on the lines left is that on all. Assumes nothing.
+-- `grid_check::check_each` meets its contract. The loop's invariant, `Sofar`: the verdict on the lines left is that on all.
 use mathlib.Core.Path.{sym, ◌∙◌}
 use Prim.Native.Nat.{◌<◌}
 use native.Mathlib.Omega.{arith}

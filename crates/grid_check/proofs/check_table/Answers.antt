@@ -1,5 +1,5 @@
--- `grid_check::check_table` meets its contract: a table within the bound has no refusal, and of any other the count tells. Assumes nothing.
-use Rattle.grid_check.specs.Checking.{refusal_of}
+-- `grid_check::check_table` meets its contract: a table within the bound has no refusal, and of any other the count tells.
+use Rattle.grid_check.specs.inner.Checking.{refusal_of}
 use Rattle.grid_check.proofs.Reasons.{fits_none}
 use Rattle.grid_check.proofs.check_table.Goals as goal
 

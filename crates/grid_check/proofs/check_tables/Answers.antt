@@ -1,4 +1,4 @@
--- `grid_check::check_tables` meets its contract: no table of a sheet within the bound is refused. Assumes nothing.
+-- `grid_check::check_tables` meets its contract: no table of a sheet within the bound is refused.
 use Rattle.grid_bounds.proofs.Sheets.{sheet_sound}
 use Rattle.grid_check.proofs.CheckLoop.{fit_accepted}
 use Rattle.grid_check.proofs.check_tables.Goals as goal

@@ -1,4 +1,4 @@
--- `grid_counts::count_body` meets its contract. The loop's invariant, `BodyCounting`: what is counted, with the rows from place j on, is the body. Assumes nothing.
+-- `grid_counts::count_body` meets its contract. The loop's invariant, `BodyCounting`: what is counted, with the rows from place j on, is the body.
 use Rattle.grid_counts.proofs.BodyLoop.{BodyCounting}
 use Rattle.grid_counts.proofs.count_body.Given as goal
 

@@ -1,9 +1,8 @@
 -- `grid_counts::count_row` meets its contract. The loop's invariant, `Counting`: what is counted, with what the cells from the next line on add, is what the row adds.
--- Assumes nothing.
 use Prim.Native.Nat.{◌+◌, ◌<◌}
 use native.Mathlib.Omega.{arith}
 use lib.ListN.{get_or}
-use Rattle.records.specs.Kept.{no_kept}
+use Rattle.records.specs.NodeRecord.{no_node}
 use Rattle.grid_counts.proofs.Scan.{past_lines}
 use Rattle.grid_counts.proofs.RowLoop.{filled_at, row_stop, row_on, row_past, row_more}
 use Rattle.grid_counts.proofs.count_row.Goals as goal
@@ -18,7 +17,7 @@ pub loop-line-preserved : goal.loop-line-preserved
 loop-line-preserved c =
     let t = c.requires in
     let z = c.loop-line.invariant in
-    let deep : c.args.d + 2 < (get_or c.args.lines.now c.loop-line.line-index no_kept).depth = omega arith in
+    let deep : c.args.d + 2 < (get_or c.args.lines.now c.loop-line.line-index no_node).depth = omega arith in
     elim c.if-line-row-2.branch [
       | then-line-row-2+else-sum-gt-MAX_POSITION w ↦
           rw (w.ends-is, w.sum-is, w.n-is, w.widen.ensures)

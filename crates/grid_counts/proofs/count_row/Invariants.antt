@@ -1,5 +1,5 @@
 -- `grid_counts::count_row` meets its contract. The loop's invariant, `Counting`: what is counted, with what the cells from the next line on add, is what the
--- row adds. Assumes nothing.
+-- row adds.
 use Rattle.grid_counts.proofs.RowLoop.{Counting}
 use Rattle.grid_counts.proofs.count_row.Given as goal
 

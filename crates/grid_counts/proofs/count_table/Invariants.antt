@@ -1,6 +1,6 @@
--- `grid_counts::count_table` meets its contract. The loop's invariant, `TableCounting`: what is counted, with the bodies from place i on, is the table. Assumes nothing.
+-- `grid_counts::count_table` meets its contract. The loop's invariant, `TableCounting`: what is counted, with the bodies from place i on, is the table.
 use Prim.Native.Nat.{suc, ◌+◌}
-use Rattle.cells.specs.Listed.{table_rows}
+use Rattle.resolved_rows.specs.Listed.{table_rows}
 use Rattle.grid_counts.proofs.TableLoop.{TableCounting}
 use Rattle.grid_counts.proofs.count_table.Given as goal
 

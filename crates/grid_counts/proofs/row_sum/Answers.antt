@@ -1,4 +1,4 @@
--- `grid_counts::row_sum` meets its contract: the chain gives the cols of the row's cells. Assumes nothing.
+-- `grid_counts::row_sum` meets its contract: the chain gives the cols of the row's cells.
 use borrow.Author.Rules.{rules}
 use Rattle.std.proofs.lemmas.Iterator.{YieldsList-from_slice, YieldsList-from_map}
 use Rattle.std.proofs.lemmas.Iterator.Search.{YieldsList-from_take_while}

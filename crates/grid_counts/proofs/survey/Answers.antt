@@ -1,8 +1,8 @@
--- `grid_counts::survey` meets its contract. The loop's invariant, `Surveying`: what is counted, with the rows from place j on, is the body. Assumes nothing.
+-- `grid_counts::survey` meets its contract. The loop's invariant, `Surveying`: what is counted, with the rows from place j on, is the body.
 use Prim.Native.Nat.{◌+◌, ◌<◌}
 use native.Mathlib.Omega.{arith}
 use lib.ListN.{get_or}
-use Rattle.records.specs.Kept.{no_kept}
+use Rattle.records.specs.NodeRecord.{no_node}
 use Rattle.grid_counts.proofs.Scan.{past_lines}
 use Rattle.grid_counts.proofs.SumLoop.{sum_lent, survey_stop, survey_more, survey_on}
 use Rattle.grid_counts.proofs.survey.Goals as goal
@@ -12,7 +12,7 @@ pub loop-j-preserved : goal.loop-j-preserved
 loop-j-preserved c =
     let t = c.requires in
     let z = c.loop-j.invariant in
-    let deep : c.args.d + 1 < (get_or c.args.lines.now c.loop-j.j no_kept).depth = omega arith in
+    let deep : c.args.d + 1 < (get_or c.args.lines.now c.loop-j.j no_node).depth = omega arith in
     elim c.if-line-body-2.branch [
       | then-line-body-2 w ↦
           rw (w.ends-is, w.rows-is, w.most-is)

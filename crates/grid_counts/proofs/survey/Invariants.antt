@@ -1,4 +1,4 @@
--- `grid_counts::survey` meets its contract. The loop's invariant, `Surveying`: what is counted, with the rows from place j on, is the body. Assumes nothing.
+-- `grid_counts::survey` meets its contract. The loop's invariant, `Surveying`: what is counted, with the rows from place j on, is the body.
 use Rattle.grid_counts.proofs.SumLoop.{Surveying}
 use Rattle.grid_counts.proofs.survey.Given as goal
 

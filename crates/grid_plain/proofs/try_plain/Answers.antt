@@ -1,28 +1,28 @@
 -- `grid_plain::try_plain` meets its contract. The loop's invariant, `TableLoop`: the rows so far are plain, with what the lines still to come hold they are the
 -- table's as they are written, and their entries and records stand in the slices. A line of the table that the loop meets is a row or a body, since
--- `try_row` passes what is deeper. The measure is the number of lines left. Assumes nothing.
+-- `try_row` passes what is deeper. The measure is the number of lines left.
 use mathlib.Core.Path.{◌≡◌, sym, subst, ◌∙◌}
 use Prim.Native.Nat.{ℕ, ◌+◌, ◌<◌, ◌≤◌, max}
 use native.Mathlib.Omega.{arith}
 use lib.ListN.{length, get_or}
 use borrow.Author.Tests.{ltb-false}
-use Rattle.lists.specs.Limits.{max_entries}
-use Rattle.records.specs.Kept.{no_kept}
-use Rattle.grid_plain.specs.inner.Walking.{RowReady, RowDone}
+use Rattle.common.specs.Limits.{max_entries}
+use Rattle.records.specs.NodeRecord.{no_node}
+use Rattle.grid_plain.specs.inner.Walking.{TryRowPre, RowDone}
 use Rattle.grid_plain.proofs.TableLoop.{test_deep, table_start, table_stop, more, table_body, row_ready, table_row}
 use Rattle.grid_plain.proofs.try_plain.Goals as goal
 use Rattle.grid_plain.proofs.try_plain.Goals.{In_ok-end}
 
 -- the line of a turn is below the table
-deep : (c : In_ok-end) → (get_or c.args.lines.now c.args.at no_kept).depth < (get_or c.args.lines.now c.loop-line.i no_kept).depth
+deep : (c : In_ok-end) → (get_or c.args.lines.now c.args.at no_node).depth < (get_or c.args.lines.now c.loop-line.i no_node).depth
 deep c = test_deep c.args.lines.now c.args.at c.loop-line.i c.from-d.ensures c.below.ensures c.loop-line-test.true
 
 -- a row's, for whose cells there is room
-row_line : (c : In_ok-end) → (get_or c.args.lines.now c.loop-line.i no_kept).depth ≡ (get_or c.args.lines.now c.args.at no_kept).depth + 2
+row_line : (c : In_ok-end) → (get_or c.args.lines.now c.loop-line.i no_node).depth ≡ (get_or c.args.lines.now c.args.at no_node).depth + 2
 row_line c = omega (arith, c.from.ensures, c.from-d.ensures, c.if-from-d.true)
 
 -- and whose cells are plain
-done : (c : In_ok-end) → RowDone c.args.lines.now (get_or c.args.lines.now c.args.at no_kept).depth (c.loop-line.i + 1) c.loop-line.n c.in_ok-end.end c.loop-line.entries c.try_row.new.entries
+done : (c : In_ok-end) → RowDone c.args.lines.now (get_or c.args.lines.now c.args.at no_node).depth (c.loop-line.i + 1) c.loop-line.n c.in_ok-end.end c.loop-line.entries c.try_row.new.entries
 done c =
     subst (λ (d : ℕ). RowDone c.args.lines.now d (c.loop-line.i + 1) c.loop-line.n c.in_ok-end.end c.loop-line.entries c.try_row.new.entries)
     c.from-d.ensures (c.try_row.ensures.done _ c.in_ok-end.was)
@@ -40,7 +40,7 @@ loop-line-init c = table_start c.requires
 pub try_row-requires : goal.try_row-requires
 try_row-requires c =
     let h = test_deep c.args.lines.now c.args.at c.loop-line.i c.from-d.ensures c.below.ensures c.loop-line-test.true in
-    subst (λ (d : ℕ). RowReady c.args.lines.now d (c.loop-line.i + 1) c.loop-line.n c.loop-line.entries) (sym c.from-d.ensures)
+    subst (λ (d : ℕ). TryRowPre c.args.lines.now d (c.loop-line.i + 1) c.loop-line.n c.loop-line.entries) (sym c.from-d.ensures)
     (row_ready c.requires c.loop-line.invariant h (omega (arith, c.from.ensures, c.from-d.ensures, c.if-from-d.true)))
 
 pub overflow_add-n : goal.overflow_add-n
@@ -69,5 +69,5 @@ loop-line-preserved c =
 
 pub returns : goal.returns
 returns c =
-    let h : (get_or c.args.lines.now c.loop-line.i no_kept).depth ≤ c.from-d.result = ltb-false _ _ (sym c.below.ensures ∙ c.loop-line-test.false) in
+    let h : (get_or c.args.lines.now c.loop-line.i no_node).depth ≤ c.from-d.result = ltb-false _ _ (sym c.below.ensures ∙ c.loop-line-test.false) in
     table_stop c.requires c.loop-line.invariant (omega (arith, c.from-d.ensures))

@@ -1,6 +1,6 @@
 -- `grid_plain::try_plain` meets its contract. The loop's invariant, `TableLoop`: the rows so far are plain, with what the lines still to come hold they are the
 -- table's as they are written, and their entries and records stand in the slices. A line of the table that the loop meets is a row or a body, since
--- `try_row` passes what is deeper. The measure is the number of lines left. Assumes nothing.
+-- `try_row` passes what is deeper. The measure is the number of lines left.
 use Prim.Native.Nat.{◌-◌}
 use lib.ListN.{length}
 use Rattle.grid_plain.proofs.TableLoop.{TableLoop}

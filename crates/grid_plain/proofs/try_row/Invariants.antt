@@ -1,5 +1,5 @@
 -- `grid_plain::try_row` meets its contract. The loop's invariant, `RowLoop`: the cells so far are plain, with those of the lines still to come they are the
--- row's, and their entries are written. What the walk has left are the lines from the next place on. Assumes nothing.
+-- row's, and their entries are written. What the walk has left are the lines from the next place on.
 use mathlib.Core.Path.{◌≡◌}
 use lib.ListN.{drop}
 use Rattle.std.specs.Iterator.Adapters.{zip_first, zip_second}

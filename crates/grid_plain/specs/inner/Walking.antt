@@ -1,48 +1,48 @@
--- The lines of a plain table, row by row. These are definitions; nothing is assumed.
+-- The lines of a plain table, row by row.
 use Rattle.std.specs.Prelude.{◌≡◌, List, ◌++◌, map, ℕ, ◌+◌, ◌≤◌, length, get_or, take, drop, Option, Some}
-use Rattle.lists.specs.Lists.{All}
-use Rattle.lists.specs.Limits.{max_lines, max_depth, max_entries}
-use Rattle.records.specs.Kept.{no_kept}
-use Rattle.records.specs.declared.Kept.{Kept}
+use Rattle.common.specs.Lists.{All}
+use Rattle.common.specs.Limits.{max_lines, max_depth, max_entries}
+use Rattle.records.specs.NodeRecord.{no_node}
+use Rattle.records.specs.declared.NodeRecord.{NodeRecord}
 use Rattle.records.specs.declared.Entry.{Entry}
 use Rattle.records.specs.declared.RowEnd.{RowEnd}
-use Rattle.cells.specs.Cells.{Cell, Frame, frame}
-use Rattle.cells.specs.Cells as cells
-use Rattle.gridding.specs.declared.Counts.{Counts}
-use Rattle.gridding.specs.Records.{shown, TableMade}
+use Rattle.resolved_rows.specs.Cells.{Cell, Frame, frame}
+use Rattle.resolved_rows.specs.Cells as cells
+use Rattle.grid_build.specs.declared.Counts.{Counts}
+use Rattle.grid_build.specs.inner.Records.{shown, TableMade}
 use Rattle.grid_plain.specs.declared.RowCells.{RowCells}
-use Rattle.grid_plain.specs.Plain.{Plain, plain_entries}
+use Rattle.grid_plain.specs.inner.Plain.{Plain, plain_entries}
 
 -- what the lines from the place i on hold, below a table of depth d
-abbrev pub lines_from : List Kept → ℕ → ℕ → Frame
+abbrev pub lines_from : List NodeRecord → ℕ → ℕ → Frame
 lines_from ks d i = frame d (i + 1) (drop i ks)
 
 -- the cells of the row whose lines begin, or go on, at the place i
-abbrev pub cells_from : List Kept → ℕ → ℕ → List Cell
+abbrev pub cells_from : List NodeRecord → ℕ → ℕ → List Cell
 cells_from ks d i = (lines_from ks d i).cells
 
 -- what the entries of that row take, from entry n on
-pub record RowReady (ks : List Kept) (d i n : ℕ) (es : List Entry) : Type 0 where
+pub record TryRowPre (ks : List NodeRecord) (d i n : ℕ) (es : List Entry) : Type 0 where
   pub within : i ≤ length ks
   pub short : length ks ≤ max_lines
   pub shallow : d ≤ max_depth
   pub few : n + length (cells_from ks d i) ≤ max_entries
-  pub room : n + length (cells_from ks d i) ≤ length es
+  pub capacity : n + length (cells_from ks d i) ≤ length es
 
 -- the row's lines end at the place `next`, its cells are plain, and their entries stand after those before
-pub record RowDone (ks : List Kept) (d i n : ℕ) (end : RowCells) (es₀ es : List Entry) : Type 0 where
+pub record RowDone (ks : List NodeRecord) (d i n : ℕ) (end : RowCells) (es₀ es : List Entry) : Type 0 where
   pub after : i ≤ end.next
   pub within : end.next ≤ length ks
-  pub stops : (get_or ks end.next no_kept).depth ≤ d + 2
+  pub stops : (get_or ks end.next no_node).depth ≤ d + 2
   pub rows_are : (lines_from ks d i).rows ≡ (lines_from ks d end.next).rows
   pub bodies_are : (lines_from ks d i).bodies ≡ (lines_from ks d end.next).bodies
   pub plain : All Plain (cells_from ks d i)
   pub count : end.cells ≡ length (cells_from ks d i)
   pub written : take (n + end.cells) es ≡ take n es₀ ++ map shown (plain_entries 0 (cells_from ks d i))
 
-pub record RowWalked (ks : List Kept) (d i n : ℕ) (found : Option RowCells) (es₀ es : List Entry) : Type 0 where
+pub record TryRowPost (ks : List NodeRecord) (d i n : ℕ) (found : Option RowCells) (es₀ es : List Entry) : Type 0 where
   pub done : (end : RowCells) → found ≡ Some end → RowDone ks d i n end es₀ es
 
 -- of a table that is found plain the grid is made
-pub record TableWalked (table : List cells.Row) (found : Option Counts) (es : List Entry) (rs : List RowEnd) : Type 0 where
+pub record TryPlainPost (table : List cells.Row) (found : Option Counts) (es : List Entry) (rs : List RowEnd) : Type 0 where
   pub made : (counts : Counts) → found ≡ Some counts → TableMade table counts es rs

@@ -1,8 +1,8 @@
--- `line::calc_line` meets its contract: the text's measure is told by `calc::measured`, and each way is the definition's. Assumes nothing.
+-- `line::calc_line` meets its contract: the text's measure is told by `evaluator::measured`, and each way is the definition's.
 use borrow.Author.Rules.{rules}
 use mathlib.Core.Path.{sym, ap, ◌∙◌}
 use Rattle.std.specs.Prelude.{Ok}
-use Rattle.line.specs.Reading.{calc_read}
+use Rattle.line.specs.inner.Reading.{calc_read}
 use Rattle.line.proofs.calc_line.Goals as goal
 
 pub returns-in_err-own : goal.returns-in_err-own

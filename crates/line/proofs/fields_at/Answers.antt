@@ -1,7 +1,7 @@
 -- `line::fields_at` meets its contract: the readers are called in the definition's order, each from where the one before ended, and the first
--- that finds nothing ends the reading. Assumes nothing.
+-- that finds nothing ends the reading.
 use mathlib.Core.Path.{sym, ◌∙◌}
-use Rattle.line.specs.Reading.{fields_read}
+use Rattle.line.specs.inner.Reading.{fields_read}
 use Rattle.line.proofs.fields_at.Goals as goal
 
 pub returns-in_err-depth : goal.returns-in_err-depth

@@ -1,14 +1,14 @@
 -- `line::line_at` meets its contract. Where a field is not sound the line is unread. Where all are, the fields and the front that the scan finds
--- determine the answer (Judging): no line feed, a refused byte, a text where none may stand, a calc, or the node. Assumes nothing.
+-- determine the answer (Judging): no line feed, a refused byte, a text where none may stand, a calc, or the node.
 use mathlib.Core.Path.{sym, ap, ◌∙◌}
 use Prim.Native.Nat.{ℕ}
 use native.Mathlib.Omega.{arith}
 use Rattle.std.specs.Prelude.{◌≡◌, Ok, Err}
 use Rattle.std.specs.Result.{result_ok}
 use Rattle.std.proofs.Common.{rules}
-use Rattle.lists.proofs.Handed.{handed}
+use Rattle.common.proofs.Handed.{handed}
 use Rattle.text.proofs.Sizes.{front_size_le, text_size_le}
-use Rattle.line.specs.Reading.{node_with}
+use Rattle.line.specs.inner.Reading.{node_with}
 use Rattle.line.proofs.Judging.{reads, judged_unread, line_broken, front_open, front_refused, front_text, front_good, front_calc}
 use Rattle.line.proofs.line_at.Goals as goal
 

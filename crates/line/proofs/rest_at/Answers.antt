@@ -1,7 +1,7 @@
--- `line::rest_at` meets its contract: the three fields are 0 (`Zeros`), or their readers are called in the definition's order, each from where
--- the one before ended, and the first that finds nothing ends the reading. Assumes nothing.
+-- `line::rest_at` meets its contract: the three fields are 0 (`ZerosAtPost`), or their readers are called in the definition's order, each from where
+-- the one before ended, and the first that finds nothing ends the reading.
 use mathlib.Core.Path.{sym, ◌∙◌}
-use Rattle.line.specs.Reading.{rest_read}
+use Rattle.line.specs.inner.Reading.{rest_read}
 use Rattle.line.proofs.rest_at.Goals as goal
 
 pub returns-then-zeros_at : goal.returns-then-zeros_at

@@ -1,7 +1,6 @@
 -- `line::unreadable` meets its contract: the kind decides first; then the line feed is there where the search for one finds it.
--- Assumes nothing.
 use mathlib.Core.Path.{sym, ◌∙◌}
-use Rattle.line.specs.Reading.{refused_at}
+use Rattle.line.specs.inner.Reading.{refused_at}
 use Rattle.line.proofs.Pieces.{fed_found}
 use Rattle.line.proofs.unreadable.Goals as goal
 use Rattle.line.proofs.unreadable.Goals.{else-has_text-via-then-has_text+else-contains, else-has_text-via-else-has_text}

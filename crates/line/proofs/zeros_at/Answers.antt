@@ -1,4 +1,4 @@
--- `line::zeros_at` meets its contract: the six bytes at the place are the three fields (`zeros`). Assumes nothing.
+-- `line::zeros_at` meets its contract: the six bytes at the place are the three fields (`zeros`).
 use mathlib.Core.Path.{sym, ◌∙◌}
 use native.Mathlib.Omega.{arith}
 use Rattle.line.proofs.Zeros.{zeros}

@@ -1,5 +1,5 @@
 -- `replay::cases` is safe and ends. The invariant: there are no more cases than bytes, so that their number fits. A case and its frame have a
--- byte, so what is left of the input falls. Assumes nothing.
+-- byte, so what is left of the input falls.
 use Prim.Native.Nat.{◌+◌, ◌≤◌}
 use lib.ListN.{length}
 use Rattle.replay.proofs.cases.Given as goal

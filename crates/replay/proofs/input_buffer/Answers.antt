@@ -1,5 +1,5 @@
 -- `replay::input_buffer` meets its contract: zeros that are repeated n times are n, by the law for every n. To count so many one by one
--- goes too deep. Assumes nothing.
+-- goes too deep.
 use mathlib.Core.Path.{◌≡◌, sym}
 use Prim.Native.Nat.{ℕ}
 use lib.ListN.{length, replicate, length-replicate}

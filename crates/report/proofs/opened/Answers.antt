@@ -1,11 +1,11 @@
 -- `report::opened` meets its contract: the lines that are read are the first of their array and can be walked (`lines_front`), and a sheet that was walked can
--- be listed (`narrow`). Assumes nothing.
+-- be listed (`narrow`).
 use mathlib.Core.Path.{sym}
 use Prim.Native.Nat.{◌≤◌}
 use native.Mathlib.Omega.{arith}
 use lib.ListN.{length, take}
 use lib.Seq.{length-take-le}
-use Rattle.walking.specs.inner.Steps.{Walkable}
+use Rattle.width_walk.specs.inner.Steps.{Walkable}
 use Rattle.report.proofs.Ready.{lines_front, narrow}
 use Rattle.report.proofs.opened.Goals as goal
 use Rattle.report.proofs.opened.Goals.{In_ok-n}

@@ -1,16 +1,16 @@
--- The records that a sheet was read into, the widths of its lines, and its tables. These are definitions; nothing is assumed.
+-- The records that a sheet was read into, the widths of its lines, and its tables.
 use Rattle.std.specs.Prelude.{◌≡◌, List, ℕ, ◌≤◌, ◌<◌, length, get_or, Option, None, Some}
-use Rattle.lists.specs.Limits.{max_size}
+use Rattle.common.specs.Limits.{max_size}
 use Rattle.kinds.specs.Kinds.{kind_number, table_kind}
-use Rattle.records.specs.Kept.{no_kept}
-use Rattle.records.specs.declared.Kept.{Kept}
+use Rattle.records.specs.NodeRecord.{no_node}
+use Rattle.records.specs.declared.NodeRecord.{NodeRecord}
 
 -- the line at a place is a table
-pub record TableAt (ks : List Kept) (at : ℕ) : Type 0 where
+pub record TableAt (ks : List NodeRecord) (at : ℕ) : Type 0 where
   pub within : at < length ks
-  pub kind : kind_number (get_or ks at no_kept).kind ≡ table_kind
+  pub kind : kind_number (get_or ks at no_node).kind ≡ table_kind
 
 -- the widths of so many lines, at which tables can be laid out
 pub record WalkNarrow (n : ℕ) (walk : List (Option ℕ)) : Type 0 where
-  pub room : n ≤ length walk
+  pub capacity : n ≤ length walk
   pub small : (k width : ℕ) → k < n → get_or walk k None ≡ Some width → width ≤ max_size

@@ -1,5 +1,5 @@
 -- `settings::given_in` meets its contract: the heading is compared and the three settings are read in the definition's order, each from where
--- the one before ended, and the first that fails ends the reading (`no_heading` to `all_set`). Assumes nothing.
+-- the one before ended, and the first that fails ends the reading (`no_heading` to `all_set`).
 use mathlib.Core.Path.{sym, ◌∙◌}
 use Rattle.settings.specs.Settings.{settings_heading}
 use Rattle.fields.proofs.Words.{word_told}

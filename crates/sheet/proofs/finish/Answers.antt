@@ -1,13 +1,13 @@
 -- `sheet::finish` meets its contract. Where every table and body is seen to be filled the lines are the answer. The loop's invariant: the answer is that of the checks from the place on. A turn passes one line that is
--- not left empty. Assumes nothing.
+-- not left empty.
 use mathlib.Core.Path.{sym, ap, ◌∙◌}
 use Prim.Native.Nat.{ℕ, ◌-◌, ◌<◌}
 use lib.ListN.{length, get_or}
 use native.Mathlib.Omega.{arith}
 use Rattle.std.specs.Prelude.{◌≡◌, Ok, Err}
 use Rattle.std.proofs.Common.{rules}
-use Rattle.records.specs.Kept.{no_kept}
-use Rattle.records.specs.declared.Kept.{Kept}
+use Rattle.records.specs.NodeRecord.{no_node}
+use Rattle.records.specs.declared.NodeRecord.{NodeRecord}
 use Rattle.kinds.specs.Kinds.{needs_child}
 use Rattle.sheet.proofs.Ending.{bare_length, bare_empty, ends_none, ends_start, ends_more, ends_at, ends_all}
 use Rattle.sheet.proofs.Filling.{none_empty, filled_ends}
@@ -22,8 +22,8 @@ pub returns-then-not-needs_child : goal.returns-then-not-needs_child
 returns-then-not-needs_child c =
     let ls = c.args.lines.now in
     let some : 0 < length ls = search rules in
-    let here : get_or ls (length ls - 1) no_kept ≡ c.in-Some.last.now = search rules in
-    let childless = ap (λ (k : Kept). needs_child k.kind) here ∙ sym c.needs_child.ensures ∙ c.if-not-needs_child.true in
+    let here : get_or ls (length ls - 1) no_node ≡ c.in-Some.last.now = search rules in
+    let childless = ap (λ (k : NodeRecord). needs_child k.kind) here ∙ sym c.needs_child.ensures ∙ c.if-not-needs_child.true in
     filled_ends ls some (none_empty ls (c.requires.none_lacking c.if-filled.true) some childless)
 
 pub loop-i-init : goal.loop-i-init

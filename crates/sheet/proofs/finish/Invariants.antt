@@ -1,6 +1,6 @@
 -- `sheet::finish` meets its contract. Where every table and body is seen to be filled the lines are the answer. The loop's invariant: the answer is that of the checks from the place on. A turn passes one line that is
--- not left empty. Assumes nothing.
-use Rattle.sheet.specs.Steps.{bare}
+-- not left empty.
+use Rattle.sheet.specs.inner.Steps.{bare}
 use Rattle.sheet.proofs.Ending.{EndsFrom}
 use Rattle.sheet.proofs.finish.Given as goal
 

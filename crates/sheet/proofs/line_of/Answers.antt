@@ -1,4 +1,4 @@
--- `sheet::line_of` meets its contract: a line is told by its comparisons, or read, and then kept as its kind has it. Assumes nothing.
+-- `sheet::line_of` meets its contract: a line is told by its comparisons, or read, and then kept as its kind has it.
 use mathlib.Core.Path.{sym, ◌∙◌}
 use Rattle.line.proofs.Told.{good_line}
 use Rattle.sheet.proofs.Briefs.{sound_answers}

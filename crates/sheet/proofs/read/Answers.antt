@@ -1,5 +1,4 @@
 -- `sheet::read` meets its contract: 8 and 1 are asked here, and the lines of a sheet that begins as it should are read by `read_lines`.
--- Assumes nothing.
 use mathlib.Core.Path.{sym, ◌∙◌}
 use Rattle.sheet.proofs.Heading.{too_long_refused, unheaded_refused, refused_reads}
 use Rattle.sheet.proofs.read.Goals as goal

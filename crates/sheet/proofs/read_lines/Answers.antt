@@ -1,17 +1,17 @@
 -- `sheet::read_lines` meets its contract. The loop's invariant, `ReadingLoop`: the first n lines are kept and faultless, the chain tells what they
 -- are to the next one, and the sheet's answer is that of the checks from line n + 1 on, which starts at the place. A faulty line is the answer; a
 -- sound one is kept, and the checks go on after it. After the last line only the checks of `finish` are left. The measure is what is left of the
--- sheet: a line has at least its line feed. Assumes nothing.
+-- sheet: a line has at least its line feed.
 use mathlib.Core.Path.{◌≡◌, refl, sym, ◌∙◌}
 use Prim.Native.Nat.{◌≤◌, ◌<◌}
 use native.Mathlib.Omega.{arith}
 use lib.ListN.{length, length-set}
 use Rattle.std.specs.Prelude.{Ok}
-use Rattle.lists.specs.Limits.{max_depth}
-use Rattle.line.specs.LineAt.{line_at}
+use Rattle.common.specs.Limits.{max_depth}
+use Rattle.line.specs.inner.LineAt.{line_at}
 use Rattle.line.specs.declared.Node.{Node}
-use Rattle.eights.specs.inner.Briefs.{BriefOf}
-use Rattle.sheet.specs.Steps.{judgement_of}
+use Rattle.line_fast.specs.inner.Briefs.{BriefPost}
+use Rattle.sheet.specs.inner.Steps.{nesting_checked}
 use Rattle.sheet.proofs.Heading.{refused_reads}
 use Rattle.sheet.proofs.Filling.{none_more}
 use Rattle.sheet.proofs.Accepted.{accepted_passed}
@@ -20,8 +20,8 @@ use Rattle.sheet.proofs.read_lines.Goals as goal
 use Rattle.sheet.proofs.read_lines.Goals.{In-Ok}
 
 -- what is known of a sound line before it is kept
-known : (c : In-Ok) → (node : Node) × (judgement_of c.loop-at.chain c.loop-at.n c.loop-at.previous (line_at c.args.bytes.now c.loop-at.at) ≡ Ok node) × BriefOf node c.in-Ok.b
-known c = c.judge.ensures.kept _ c.in-Ok.is
+known : (c : In-Ok) → (node : Node) × (nesting_checked c.loop-at.chain c.loop-at.n c.loop-at.previous (line_at c.args.bytes.now c.loop-at.at) ≡ Ok node) × BriefPost node c.in-Ok.b
+known c = c.check_line.ensures.kept _ c.in-Ok.is
 
 next-line : (c : In-Ok) → (let b = c.in-Ok.b in NextLine c.args.bytes.now c.loop-at.at c.loop-at.n b.value.depth b.next)
 next-line c = turns_next c.loop-at.invariant.0 c.loop-at-test.true _ (known c)
@@ -31,7 +31,7 @@ loop-at-init c = (turns_start _ _ c.requires.begun, λ e i h. absurd (omega arit
 
 pub returns-in-Err : goal.returns-in-Err
 returns-in-Err c =
-    rw c.at.ensures (refused_reads (turns_refuse c.loop-at.invariant.0 c.loop-at-test.true _ (c.judge.ensures.refused _ c.in-Err.is)))
+    rw c.at.ensures (refused_reads (turns_refuse c.loop-at.invariant.0 c.loop-at-test.true _ (c.check_line.ensures.refused _ c.in-Err.is)))
 
 pub bounds-chain-previous : goal.bounds-chain-previous
 bounds-chain-previous c =
@@ -51,11 +51,11 @@ loop-at-smaller c =
 pub loop-at-preserved : goal.loop-at-preserved
 loop-at-preserved c =
     let l = next-line (goal.at.loop-at-preserved c).In-Ok in
-    let room : c.loop-at.n < length c.args.lines.now = omega (arith, l.few, c.requires.begun.few, c.requires.bytes_bound) in (
-      rw c.from-previous.ensures (turns_more c.loop-at.invariant.0 c.loop-at-test.true _ (known (goal.at.loop-at-preserved c).In-Ok) _ room (length-set _ _ _) refl),
+    let capacity : c.loop-at.n < length c.args.lines.now = omega (arith, l.few, c.requires.begun.few, c.requires.bytes_bound) in (
+      rw c.from-previous.ensures (turns_more c.loop-at.invariant.0 c.loop-at-test.true _ (known (goal.at.loop-at-preserved c).In-Ok) _ capacity (length-set _ _ _) refl),
       λ e.
           let s = c.still_filled-filled.ensures e in
-          none_more c.loop-at.lines c.in-Ok.b.value (c.loop-at.invariant.1 s.0) s.1 (omega (arith, room, c.loop-at.invariant.0.same)) refl,
+          none_more c.loop-at.lines c.in-Ok.b.value (c.loop-at.invariant.1 s.0) s.1 (omega (arith, capacity, c.loop-at.invariant.0.same)) refl,
     )
 
 pub returns : goal.returns

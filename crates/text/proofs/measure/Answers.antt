@@ -1,13 +1,13 @@
 -- `text::measure` meets its contract: each return is the first refusal that applies, by the tests passed on the way, or the figures, by
--- what `scan` tells. A size is at most twice the bytes, so that an img's 2 fit. Assumes nothing.
+-- what `scan` tells. A size is at most twice the bytes, so that an img's 2 fit.
 use mathlib.Core.Path.{◌≡◌, sym, ap, ◌∙◌}
 use native.Mathlib.Omega.{arith}
 use borrow.Author.Tests.{lt-ltb, le-ltb}
 use Rattle.std.specs.Prelude.{Err}
 use Rattle.std.specs.Result.{result_ok}
 use Rattle.std.proofs.Common.{rules}
-use Rattle.lists.specs.Refusals.{first_answer}
-use Rattle.lists.proofs.Handed.{handed}
+use Rattle.common.specs.Refusals.{first_answer}
+use Rattle.common.proofs.Handed.{handed}
 use Rattle.text.specs.Text.{measure_of}
 use Rattle.text.proofs.Sizes.{scan_size, scan_unreadable, scan_le}
 use Rattle.text.proofs.measure.Goals as goal

@@ -1,5 +1,5 @@
 -- `text::plain_run` meets its contract. The invariant (`Running`): what was walked holds characters and spaces alone, and the sum and the gap are theirs. The loop goes on
--- only after eight of them; the measure is what is left of the length. Assumes nothing.
+-- only after eight of them; the measure is what is left of the length.
 use native.Mathlib.Omega.{arith}
 use Rattle.text.proofs.Runs.{run_start, run_small, run_turn, run_end}
 use Rattle.text.proofs.plain_run.Goals as goal

@@ -1,5 +1,5 @@
 -- `text::plain_run` meets its contract. The invariant (`Running`): what was walked holds characters and spaces alone, and the sum and the gap are theirs. The loop goes on
--- only after eight of them; the measure is what is left of the length. Assumes nothing.
+-- only after eight of them; the measure is what is left of the length.
 use Prim.Native.Nat.{◌-◌}
 use lib.ListN.{length}
 use Rattle.text.proofs.Runs.{Running}

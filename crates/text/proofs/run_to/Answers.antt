@@ -1,4 +1,4 @@
--- `text::run_to` meets its contract: nothing is walked, or the stop, which is below 32 or above 126, is no character and no space. Assumes nothing.
+-- `text::run_to` meets its contract: nothing is walked, or the stop, which is below 32 or above 126, is no character and no space.
 use mathlib.Core.Path.{refl}
 use borrow.Author.Rules.{rules}
 use Rattle.text.proofs.Runs.{run_start, run_end}

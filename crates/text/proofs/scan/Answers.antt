@@ -1,5 +1,5 @@
 -- `text::scan` meets its contract: a front that is shorter than the text ends at a refused byte, since the stop is one too; else the front is
--- the text (`scanned`). Assumes nothing.
+-- the text (`scanned`).
 use mathlib.Core.Path.{◌≡◌, refl, ◌∙◌}
 use Rattle.text.specs.Bytes.{class_of, refused}
 use Rattle.text.proofs.Sizes.{scanned}

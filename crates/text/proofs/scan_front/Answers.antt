@@ -1,5 +1,5 @@
 -- `text::scan_front` meets its contract: the second pass tells of the front without its leading spaces, which ends where the front ends, and
--- the skipped spaces' 1 makes its size the front's. The size of what is left is at most twice its bytes, so that it fits. Assumes nothing.
+-- the skipped spaces' 1 makes its size the front's. The size of what is left is at most twice its bytes, so that it fits.
 use mathlib.Core.Path.{◌∙◌}
 use native.Mathlib.Omega.{arith}
 use Rattle.text.proofs.Sizes.{front_done, front_size_le, rest_le}

@@ -1,7 +1,7 @@
 -- `text::scan_rest` meets its contract. The invariant: the sum, with the pass over the front from i on begun with this gap, is the size of the
 -- whole front: at the start by the run of characters and spaces that was walked. At a refused byte, at the stop and at the end the front from i on is
 -- empty, and the sum is all. Of the other bytes a space (class 3, and 3 / 3 = 1) adds nothing and sets the gap, a character adds its width and the gap,
--- at most 5, and clears it. Assumes nothing.
+-- at most 5, and clears it.
 use mathlib.Core.Path.{◌∙◌, sym}
 use Prim.Native.Nat.{◌≤◌}
 use native.Mathlib.Omega.{arith}

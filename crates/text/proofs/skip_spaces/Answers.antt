@@ -1,4 +1,4 @@
--- `text::skip_spaces` meets its contract: the spaces end where the search says (`skipped`). Assumes nothing.
+-- `text::skip_spaces` meets its contract: the spaces end where the search says (`skipped`).
 use mathlib.Core.Path.{◌≡◌, ap, ◌∙◌}
 use native.Mathlib.Omega.{arith}
 use Prim.Native.Nat.{◌-◌}
@@ -6,7 +6,7 @@ use lib.ListN.{length, take, drop}
 use Rattle.std.specs.Prelude.{position}
 use Rattle.std.specs.Option.{unwrap_or}
 use Rattle.std.proofs.lemmas.List.{take_rest}
-use Rattle.text.specs.Inner.{ends}
+use Rattle.text.specs.inner.Steps.{ends}
 use Rattle.text.proofs.Scanning.{skipped, skipped_in}
 use Rattle.text.proofs.skip_spaces.Goals as goal
 

@@ -1,4 +1,4 @@
--- `widths::count_nonzero` meets its contract: at the end all columns are passed, and std's count is the definition's. Assumes nothing.
+-- `widths::count_nonzero` meets its contract: at the end all columns are passed, and std's count is the definition's.
 use mathlib.Core.Path.{sym, ap, ◌∙◌}
 use mathlib.Core.Bool.{not}
 use native.Mathlib.Omega.{arith}

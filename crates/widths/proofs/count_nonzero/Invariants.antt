@@ -1,4 +1,4 @@
--- `widths::count_nonzero` meets its contract. The loop's invariant: the count is std's of the columns passed. Assumes nothing.
+-- `widths::count_nonzero` meets its contract. The loop's invariant: the count is std's of the columns passed.
 use mathlib.Core.Path.{◌≡◌}
 use mathlib.Core.Bool.{not}
 use Prim.Native.Nat.{◌≤◌}

@@ -1,5 +1,5 @@
 -- `widths::exceeds` meets its contract. The two sides compared are the width and the sum with its gaps; the sum is small enough for the
--- addition to fit. Assumes nothing.
+-- addition to fit.
 use mathlib.Core.Path.{ap₂}
 use Prim.Native.Nat.{ℕ, ◌+◌}
 use native.Mathlib.Omega.{arith}

@@ -1,5 +1,5 @@
 -- `widths::lay_columns` meets its contract. The way says, if it is sideways, that the leasts fit, as the final widths ask; these fit the width, as
--- the table's width asks. Each fact follows from the answers before it by a law of Laying. Assumes nothing.
+-- the table's width asks. Each fact follows from the answers before it by a law of Laying.
 use Rattle.widths.proofs.Laying.{sized, fitted}
 use Rattle.widths.proofs.lay_columns.Goals as goal
 

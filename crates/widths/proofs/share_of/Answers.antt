@@ -1,5 +1,5 @@
 -- `widths::share_of` meets its contract. Two numbers of 32 bits have a product of 64. As the size is at most the total, the quotient is at most
--- the width and fits 32 bits. Where the size is 0 the share is 0, else it is the definition's other case. Assumes nothing.
+-- the width and fits 32 bits. Where the size is 0 the share is 0, else it is the definition's other case.
 use mathlib.Core.Path.{◌≡◌, ap₂}
 use Prim.Native.Nat.{ℕ, ◌*◌, ◌/◌}
 use native.Mathlib.Omega.{arith}

@@ -1,5 +1,5 @@
 -- `widths::table_width` meets its contract. Down it is the width. Sideways it is the sum and the gaps of the columns that are not 0 wide, no more
--- than all gaps: so it is at most the width, and fits. Assumes nothing.
+-- than all gaps: so it is at most the width, and fits.
 use mathlib.Core.Path.{sym}
 use native.Mathlib.Omega.{arith}
 use Rattle.widths.proofs.Whole.{nonzero_le, width_down, width_side}

@@ -1,4 +1,4 @@
--- `widths::way_of` meets its contract: a table goes down that is raw, at no width or too wide. Assumes nothing.
+-- `widths::way_of` meets its contract: a table goes down that is raw, at no width or too wide.
 use Rattle.std.proofs.Common.{arith}
 use Rattle.std.proofs.lemmas.Grind.{common_steps}
 use borrow.Author.Tests.{eq-eqb}

@@ -1,13 +1,12 @@
 -- `widths::write_shares` meets its contract. A turn stores the share of column i, whose size is at most the total. At the end all shares are written.
--- Assumes nothing.
 use mathlib.Core.Path.{◌≡◌, sym, ap, ◌∙◌}
 use mathlib.Core.Logic.{inl, inr}
 use Prim.Native.Nat.{◌≤◌}
 use native.Mathlib.Omega.{arith}
 use lib.ListN.{length}
 use Rattle.std.specs.Iterator.Adapters.{enumerate_count}
-use Rattle.lists.specs.Lists.{sum}
-use Rattle.lists.proofs.Write.{write_more, write_all}
+use Rattle.common.specs.Lists.{sum}
+use Rattle.common.proofs.Write.{write_more, write_all}
 use Rattle.cutting.proofs.Pairs.{read_next, read_all}
 use Rattle.cutting.proofs.Sums.{at_le_sum}
 use Rattle.widths.specs.Share.{share, shares}

@@ -1,5 +1,5 @@
 -- `widths::write_shares` meets its contract. The loop's invariant: the first i places have the first i shares, and the rest stands as it did; what the
--- iterator has left are the columns from i on. Assumes nothing.
+-- iterator has left are the columns from i on.
 use mathlib.Core.Path.{◌≡◌}
 use mathlib.Core.List.{◌++◌}
 use lib.ListN.{take, drop}

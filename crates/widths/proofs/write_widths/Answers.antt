@@ -1,5 +1,5 @@
 -- `widths::write_widths` meets its contract. Down every place has the width. Sideways the shares are written, none below its least, and cut where
--- they stand, which is the definition. Assumes nothing.
+-- they stand, which is the definition.
 use mathlib.Core.Path.{◌≡◌, sym, ap, ◌∙◌}
 use mathlib.Core.List.{List}
 use Prim.Native.Nat.{ℕ}

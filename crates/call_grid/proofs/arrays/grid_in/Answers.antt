@@ -1,11 +1,10 @@
 -- `call_grid::arrays::grid_in` meets its contract: the sheet has no more lines than the arrays have room for; they suffice for its tables, or nothing is found.
--- Assumes nothing.
 use Rattle.std.proofs.Common.{rules, ◌≡◌, Err}
 use mathlib.Core.Path.{refl, sym, ◌∙◌}
 use native.Mathlib.Omega.{arith}
-use Rattle.opening.proofs.Measurable.{front_table}
-use Rattle.gridding.proofs.Cut.{made_within, made_records}
-use Rattle.table.proofs.Rooms.{grid_room, asked_ready}
+use Rattle.sheet_load.proofs.Measurable.{front_table}
+use Rattle.grid_build.proofs.Cut.{made_within, made_records}
+use Rattle.table_layout.proofs.Capacities.{grid_capacity, asked_ready}
 use Rattle.sheet_figures.proofs.Openings.{opened_at, opened_front, asked_lines, most_enough}
 use Rattle.call_grid.proofs.Found.{room_still, figures_fit, records_small, grid_found, grid_refused}
 use Rattle.call_grid.proofs.arrays.grid_in.Goals as goal
@@ -17,7 +16,7 @@ returns-in_err-n-clause-tried g c =
 
 pub shared_whole_as_front-lines : goal.shared_whole_as_front-lines
 shared_whole_as_front-lines g c = (
-  omega (arith, opened_front (opened_at c.open_sheet.ensures c.in_ok-n.was) (omega (arith, c.requires.lines_room))),
+  omega (arith, opened_front (opened_at c.open_sheet.ensures c.in_ok-n.was) (omega (arith, c.requires.lines_capacity))),
   omega (arith, c.requires.sizes.0),
 )
 
@@ -27,7 +26,7 @@ overflow_sub-at g c = (front_table c.open_sheet.ensures refl _ c.in_ok-n.was).fr
 pub make-counts-requires : goal.make-counts-requires
 make-counts-requires g c =
     let a = asked_lines (opened_at c.open_sheet.ensures c.in_ok-n.was) in
-    asked_ready a (grid_room (most_enough a (c.enough.ensures.enough c.if-not-enough.false)) _ _ (omega arith) (omega arith))
+    asked_ready a (grid_capacity (most_enough a (c.enough.ensures.enough c.if-not-enough.false)) _ _ (omega arith) (omega arith))
 
 pub records-grid-requires : goal.records-grid-requires
 records-grid-requires g c = made_within c.make-counts.ensures
@@ -35,7 +34,7 @@ records-grid-requires g c = made_within c.make-counts.ensures
 pub write_grid-requires : goal.write_grid-requires
 write_grid-requires g c =
     let f = records_small (asked_lines (opened_at c.open_sheet.ensures c.in_ok-n.was)) (made_records c.make-counts.ensures c.records-grid.ensures) in
-    figures_fit f.0 f.1 (room_still refl refl refl c.open_sheet.auto.scratch refl c.requires.grid_room)
+    figures_fit f.0 f.1 (room_still refl refl refl c.open_sheet.auto.scratch refl c.requires.grid_capacity)
 
 pub answer_of-requires : goal.answer_of-requires
 answer_of-requires g c = records_small (asked_lines (opened_at c.open_sheet.ensures c.in_ok-n.was)) (made_records c.make-counts.ensures c.records-grid.ensures)

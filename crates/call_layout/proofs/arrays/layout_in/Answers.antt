@@ -1,10 +1,10 @@
 -- `call_layout::arrays::layout_in` meets its contract: the sheet has no more lines than the arrays have room for; they suffice for its tables, or nothing is
--- found. Assumes nothing.
+-- found.
 use Rattle.std.proofs.Common.{rules, ◌≡◌, Err}
 use mathlib.Core.Path.{refl, sym, ◌∙◌}
 use native.Mathlib.Omega.{arith}
-use Rattle.opening.proofs.Measurable.{front_measurable, front_table, lent_enough}
-use Rattle.table.proofs.Rooms.{grid_room}
+use Rattle.sheet_load.proofs.Measurable.{front_measurable, front_table, lent_enough}
+use Rattle.table_layout.proofs.Capacities.{grid_capacity}
 use Rattle.sheet_figures.proofs.Openings.{opened_at, opened_front, asked_lines, most_enough}
 use Rattle.sheet_figures.proofs.Tables.{lines_below, table_known}
 use Rattle.call_layout.proofs.Found.{out_still, layout_found, layout_refused}
@@ -17,7 +17,7 @@ returns-in_err-n-clause-tried g c =
 
 pub shared_whole_as_front-lines : goal.shared_whole_as_front-lines
 shared_whole_as_front-lines g c = (
-  omega (arith, opened_front (opened_at c.open_sheet.ensures c.in_ok-n.was) (omega (arith, c.requires.lines_room))),
+  omega (arith, opened_front (opened_at c.open_sheet.ensures c.in_ok-n.was) (omega (arith, c.requires.lines_capacity))),
   omega (arith, c.requires.sizes.0),
 )
 
@@ -26,22 +26,22 @@ overflow_sub-at g c = (front_table c.open_sheet.ensures refl _ c.in_ok-n.was).fr
 
 pub measure_below-requires : goal.measure_below-requires
 measure_below-requires g c =
-    let room = c.requires.lines_room in
+    let capacity = c.requires.lines_capacity in
     let t = front_table c.open_sheet.ensures refl _ c.in_ok-n.was in record {
-      lent = lent_enough (front_measurable c.open_sheet.ensures _ c.in_ok-n.was (omega (arith, room)) (omega (arith, room))).1
-          (omega (arith, c.requires.out_room.column_room, c.open_sheet.auto.scratch)) (c.enough.ensures.enough c.if-not-enough.false) (omega arith) (omega arith);
+      lent = lent_enough (front_measurable c.open_sheet.ensures _ c.in_ok-n.was (omega (arith, capacity)) (omega (arith, capacity))).1
+          (omega (arith, c.requires.out_capacity.column_capacity, c.open_sheet.auto.scratch)) (c.enough.ensures.enough c.if-not-enough.false) (omega arith) (omega arith);
       at_in_bounds = omega (arith, t.from_one, t.within);
       at_table = t.kind;
     }
 
 pub invariant_of-t : goal.invariant_of-t
-invariant_of-t g c = record { known = table_known (lines_below c.open_sheet.ensures c.in_ok-n.was c.measure_below.ensures) (omega (arith, c.requires.lines_room)) }
+invariant_of-t g c = record { known = table_known (lines_below c.open_sheet.ensures c.in_ok-n.was c.measure_below.ensures) (omega (arith, c.requires.lines_capacity)) }
 
 pub layout_of-layout-requires : goal.layout_of-layout-requires
 layout_of-layout-requires g c = record {
-  grid_room = grid_room (most_enough (asked_lines (opened_at c.open_sheet.ensures c.in_ok-n.was)) (c.enough.ensures.enough c.if-not-enough.false)) _ _ (omega arith) (omega arith);
+  grid_capacity = grid_capacity (most_enough (asked_lines (opened_at c.open_sheet.ensures c.in_ok-n.was)) (c.enough.ensures.enough c.if-not-enough.false)) _ _ (omega arith) (omega arith);
   width_le_max_size = omega (arith, c.args.settings.width_bound);
-  out_room = out_still (c.measure_below.auto.leasts ∙ c.open_sheet.auto.scratch) refl refl c.requires.out_room;
+  out_capacity = out_still (c.measure_below.auto.leasts ∙ c.open_sheet.auto.scratch) refl refl c.requires.out_capacity;
 }
 
 pub returns-clause-tried : goal.returns-clause-tried

@@ -1,4 +1,4 @@
--- `causes::tables::causes_by` meets its contract: the causes follow from the figures that are told. Assumes nothing.
+-- `causes::tables::causes_by` meets its contract: the causes follow from the figures that are told.
 use Rattle.causes.proofs.Columns.{causes_told}
 use Rattle.causes.proofs.tables.causes_by.Goals as goal
 

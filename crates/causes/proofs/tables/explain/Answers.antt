@@ -1,4 +1,4 @@
--- `causes::tables::explain` meets its contract: the entries are listed by the causes. Assumes nothing.
+-- `causes::tables::explain` meets its contract: the entries are listed by the causes.
 use Rattle.causes.proofs.Told.{listable}
 use Rattle.causes.proofs.tables.explain.Goals as goal
 

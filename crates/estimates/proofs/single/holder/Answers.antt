@@ -1,4 +1,4 @@
--- `estimates::single::holder` meets its contract: a prefix is at most 13, so that the sums fit. Assumes nothing.
+-- `estimates::single::holder` meets its contract: a prefix is at most 13, so that the sums fit.
 use native.Mathlib.Omega.{arith}
 use mathlib.Core.Path.{sym, ◌∙◌}
 use Rattle.estimates.specs.Estimates.{holder_of}

@@ -1,4 +1,4 @@
--- `estimates::single::leaf` meets its contract: the definition asks the same tests in the same order. Assumes nothing.
+-- `estimates::single::leaf` meets its contract: the definition asks the same tests in the same order.
 use mathlib.Core.Path.{sym, ◌∙◌}
 use Rattle.estimates.specs.Estimates.{leaf_of}
 use Rattle.estimates.proofs.single.leaf.Goals as goal

@@ -1,11 +1,11 @@
 -- `estimates::spread::spread_entries` meets its contract. The loop's invariant, `SpreadLoop`: what is passed, with the entries left, comes to the
--- whole, in the sum and in each column. Assumes nothing.
+-- whole, in the sum and in each column.
 use mathlib.Core.Path.{refl, ap}
 use Prim.Native.Nat.{ℕ, ◌+◌, ◌*◌, ◌/◌, ◌^◌, ◌≤◌}
 use native.Mathlib.Omega.{arith}
 use lib.ListN.{length, get_or}
-use Rattle.lists.specs.Limits.{max_position}
-use Rattle.records.specs.Kept.{no_entry}
+use Rattle.common.specs.Limits.{max_position}
+use Rattle.records.specs.inner.NodeRecord.{no_entry}
 use Rattle.estimates.specs.Estimates.{none}
 use Rattle.estimates.specs.inner.Spread.{EntryFits}
 use Rattle.estimates.proofs.Spreading.{spread_stop, spread_filler, sum_fits, spread_cell}
@@ -19,7 +19,7 @@ sum_small : (c : In-Some) → c.loop-entry.sum + (get_or c.args.entries.now c.lo
 sum_small c =
     let k = c.in-Some.ensures in
     sum_fits c.loop-entry.invariant c.loop-entry-test.true _ refl (λ z. omega (arith, k.0)) (c.requires.fit c.loop-entry.entry-index c.loop-entry-test.true)
-    (ap (λ (i : ℕ). get_or c.args.figures.now i none) k.1) c.requires.room
+    (ap (λ (i : ℕ). get_or c.args.figures.now i none) k.1) c.requires.capacity
 
 pub overflow_mul-sum : goal.overflow_mul-sum
 overflow_mul-sum c = omega (arith, sum_small (goal.at.overflow_mul-sum c).In-Some)

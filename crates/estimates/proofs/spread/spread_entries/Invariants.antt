@@ -1,5 +1,5 @@
 -- `estimates::spread::spread_entries` meets its contract. The loop's invariant, `SpreadLoop`: what is passed, with the entries left, comes to the
--- whole, in the sum and in each column. Assumes nothing.
+-- whole, in the sum and in each column.
 use lib.ListN.{length}
 use Rattle.estimates.proofs.Spreading.{SpreadLoop}
 use Rattle.estimates.proofs.spread.spread_entries.Given as goal

@@ -1,5 +1,5 @@
--- `estimates::spread::table_figures` meets its contract: the records are those of the grid, which fit. Assumes nothing.
-use Rattle.gridding.proofs.Cut.{made_within, made_records}
+-- `estimates::spread::table_figures` meets its contract: the records are those of the grid, which fit.
+use Rattle.grid_build.proofs.Cut.{made_within, made_records}
 use Rattle.estimates.proofs.Made.{tabulate_ready}
 use Rattle.estimates.proofs.spread.table_figures.Goals as goal
 

@@ -1,7 +1,7 @@
 -- `fields::naming::kind_at` meets its contract: without a field there is no kind, and else the kind that the field names, if it names one
--- (`kind_none`, `kind_some`). Assumes nothing.
+-- (`kind_none`, `kind_some`).
 use mathlib.Core.Path.{sym, ap, ◌∙◌}
-use Rattle.fields.specs.Reading.{ended_at}
+use Rattle.fields.specs.inner.Reading.{ended_at}
 use Rattle.fields.proofs.Fronts.{kind_none, kind_some}
 use Rattle.fields.proofs.naming.kind_at.Goals as goal
 

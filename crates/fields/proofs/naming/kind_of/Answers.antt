@@ -1,5 +1,5 @@
 -- `fields::naming::kind_of` meets its contract: in each arm the name has the length and the bytes of a kind's name (`named`); that it is no
--- kind's elsewhere the check finds (`no_name`). Assumes nothing.
+-- kind's elsewhere the check finds (`no_name`).
 use native.Mathlib.Omega.{arith}
 use Rattle.fields.proofs.Names.{named}
 use Rattle.fields.proofs.naming.kind_of.Goals as goal

@@ -1,9 +1,9 @@
--- `fields::numbers::digits_in` meets its contract: each way out of a turn, and the turn itself, is a law on the bytes from the place on. Assumes nothing.
+-- `fields::numbers::digits_in` meets its contract: each way out of a turn, and the turn itself, is a law on the bytes from the place on.
 use mathlib.Core.Path.{sym, ap, ◌∙◌}
 use Prim.Native.Nat.{ℕ, ◌+◌, ◌*◌}
 use native.Mathlib.Omega.{arith}
 use lib.ListN.{drop}
-use Rattle.fields.specs.Reading.{digits_in}
+use Rattle.fields.specs.inner.Reading.{digits_in}
 use Rattle.fields.proofs.Written.{digits_end, digits_other, digits_past, digits_more}
 use Rattle.fields.proofs.numbers.digits_in.Goals as goal
 

@@ -1,5 +1,5 @@
 -- `fields::numbers::natural_at` meets its contract: there is a single digit (`natural_lone`), or what is written up to the space
--- (`natural_written_at`). Assumes nothing.
+-- (`natural_written_at`).
 use mathlib.Core.Path.{sym, ◌∙◌}
 use native.Mathlib.Omega.{arith}
 use borrow.Author.Tests.{le-leb, lt-leb}

@@ -1,7 +1,7 @@
 -- `fields::numbers::number_at` meets its contract: without a stop there is no field, and else what the field before it writes, if it writes a number
--- (`written_open`, `written_ended`). Assumes nothing.
+-- (`written_open`, `written_ended`).
 use mathlib.Core.Path.{sym, ap, ◌∙◌}
-use Rattle.fields.specs.Reading.{ended_at}
+use Rattle.fields.specs.inner.Reading.{ended_at}
 use Rattle.fields.proofs.Fronts.{written_open, written_ended}
 use Rattle.fields.proofs.numbers.number_at.Goals as goal
 

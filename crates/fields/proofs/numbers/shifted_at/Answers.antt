@@ -1,6 +1,5 @@
 -- `fields::numbers::shifted_at` meets its contract: what is kept of a number from 0 to the most is shifted up, and a number below the least is
 -- left out, by one law (`raised_read`). The sum fits, since a number that was read is at most the most.
--- Assumes nothing.
 use borrow.Author.Tests.{lt-ltb, le-ltb}
 use mathlib.Core.Path.{sym, ap, ◌∙◌}
 use native.Mathlib.Omega.{arith}

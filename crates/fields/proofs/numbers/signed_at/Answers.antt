@@ -1,6 +1,5 @@
 -- `fields::numbers::signed_at` meets its contract. Without a minus the number is one from 0 on; after a minus it is what `natural_at` reads
 -- there, counted down, and no zero (`signed_plain`, `signed_minus`). The difference does not go below 0, since the number is at most the shift.
--- Assumes nothing.
 use borrow.Author.Tests.{eq-eqb, ne_eqb, ltb-true, ltb-false}
 use mathlib.Core.Path.{sym, ap, ◌∙◌}
 use native.Mathlib.Omega.{arith}

@@ -1,4 +1,4 @@
--- `fields::numbers::written_in` meets its contract: a field is empty, goes on after a 0, or is what its digits write. Assumes nothing.
+-- `fields::numbers::written_in` meets its contract: a field is empty, goes on after a 0, or is what its digits write.
 use mathlib.Core.Path.{sym, ◌∙◌}
 use borrow.Author.Tests.{eqb-true, eqb-false}
 use Rattle.fields.proofs.Written.{written_none, written_led, written_digits}

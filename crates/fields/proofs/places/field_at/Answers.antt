@@ -1,5 +1,5 @@
 -- `fields::places::field_at` meets its contract: past the end there is no field, nor where the search finds no stop; else the field ends where
--- the search does (`front_out`, `front_none`, `front_some`). Assumes nothing.
+-- the search does (`front_out`, `front_none`, `front_some`).
 use mathlib.Core.Path.{sym, ◌∙◌}
 use native.Mathlib.Omega.{arith}
 use Rattle.fields.proofs.Fronts.{front_out, front_none, front_some}

@@ -1,4 +1,4 @@
--- `grid_bounds::whole::sheet_fits` meets its contract. The loop's invariant is `SheetLoop`. Assumes nothing.
+-- `grid_bounds::whole::sheet_fits` meets its contract. The loop's invariant is `SheetLoop`.
 use Rattle.grid_bounds.proofs.SheetLoop.{SheetLoop}
 use Rattle.grid_bounds.proofs.whole.sheet_fits.Given as goal
 

@@ -1,5 +1,4 @@
 -- `line::ranges::n_at` meets its contract: for each kind the numbers that are allowed are those of the reader that it calls.
--- Assumes nothing.
 use mathlib.Core.Path.{◌≡◌, sym, ap, ◌∙◌}
 use mathlib.Core.Bool.{false}
 use lib.Dec.{eqb}

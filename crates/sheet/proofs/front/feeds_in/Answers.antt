@@ -1,4 +1,4 @@
--- `sheet::front::feeds_in` meets its contract: a byte counts 1 if it is a line feed. Assumes nothing.
+-- `sheet::front::feeds_in` meets its contract: a byte counts 1 if it is a line feed.
 use mathlib.Core.Path.{refl}
 use borrow.Author.Rules.{rules}
 use lib.Dec.{eqb}

@@ -1,4 +1,4 @@
--- `sheet::front::feeds_of` meets its contract: a turn counts the line feeds of one block (`blocks_add`). Assumes nothing.
+-- `sheet::front::feeds_of` meets its contract: a turn counts the line feeds of one block (`blocks_add`).
 use borrow.Author.Rules.{rules}
 use native.Mathlib.Omega.{arith}
 use mathlib.Core.Path.{ap, ◌∙◌}

@@ -1,4 +1,4 @@
--- `sheet::front::is_headed` meets its contract: the comparison is the definition's. Assumes nothing.
+-- `sheet::front::is_headed` meets its contract: the comparison is the definition's.
 use mathlib.Core.Path.{refl, sym}
 use Rattle.fields.specs.Lines.{heading, headed}
 use Rattle.fields.proofs.Words.{word_told}

@@ -1,4 +1,4 @@
--- `sheet::front::too_long` meets its contract: the line feeds are counted where the bytes are few enough. Assumes nothing.
+-- `sheet::front::too_long` meets its contract: the line feeds are counted where the bytes are few enough.
 use mathlib.Core.Path.{refl}
 use borrow.Author.Tests.{le-ltb}
 use Rattle.sheet.proofs.front.too_long.Goals as goal

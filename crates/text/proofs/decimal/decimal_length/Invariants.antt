@@ -1,6 +1,6 @@
 -- `text::decimal::decimal_length` meets its contract. The invariant: the count and the digits of what is left make the digits of n and one.
 -- A division by ten moves one digit over to the count; what is below ten has one digit. A 64-bit number has at most 20 digits, so that
--- the count is no overflow. The measure is what is left. Assumes nothing.
+-- the count is no overflow. The measure is what is left.
 use mathlib.Core.Path.{◌≡◌}
 use Prim.Native.Nat.{◌+◌}
 use Rattle.text.specs.Decimal.{digits}

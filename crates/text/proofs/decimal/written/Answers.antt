@@ -1,5 +1,5 @@
 -- `text::decimal::written` meets its contract: each side of the base is the definition's. A 32-bit number has at most
--- 10 digits, so that the sign is no overflow. Assumes nothing.
+-- 10 digits, so that the sign is no overflow.
 use mathlib.Core.Path.{◌≡◌, refl, ap, ◌∙◌}
 use mathlib.Core.Bool.{Bool, true, false}
 use mir.Val.{bool_byte}
@@ -7,7 +7,7 @@ use Prim.Native.Nat.{◌+◌}
 use native.Mathlib.Omega.{arith}
 use lib.Dec.{ltb}
 use borrow.Author.Tests.{ltb-true, ltb-false}
-use Rattle.text.specs.Inner.{writing_from}
+use Rattle.text.specs.inner.Steps.{writing_from}
 use Rattle.text.proofs.Prefixes.{from_above, from_below, from_le}
 use Rattle.text.proofs.decimal.written.Goals as goal
 use Rattle.text.proofs.decimal.written.Goals.{After-from-2}

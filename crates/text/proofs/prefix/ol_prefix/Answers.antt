@@ -1,5 +1,5 @@
 -- `text::prefix::ol_prefix` meets its contract: counted from the shift, and from one past it, the two numbers that are written are
--- the first and the last. Assumes nothing.
+-- the first and the last.
 use native.Mathlib.Omega.{arith}
 use Rattle.text.proofs.Prefixes.{ol_prefix_written, ol_prefix_le}
 use Rattle.text.proofs.prefix.ol_prefix.Goals as goal

@@ -1,4 +1,4 @@
--- `text::bytes::Classes::class` meets its contract: no class is above 4. Assumes nothing.
+-- `text::bytes::Classes::class` meets its contract: no class is above 4.
 use native.Mathlib.Omega.{arith}
 use Rattle.text.proofs.Tables.{class_le}
 use Rattle.text.proofs.bytes.Classes.class.Goals as goal

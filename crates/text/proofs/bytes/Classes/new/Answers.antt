@@ -1,4 +1,4 @@
--- `text::bytes::Classes::new` meets its contract: one test over all 256 entries, which antt computes. Assumes nothing.
+-- `text::bytes::Classes::new` meets its contract: one test over all 256 entries, which antt computes.
 use Rattle.text.specs.Bytes.{class_of}
 use Rattle.text.proofs.Tables.{class_each}
 use Rattle.text.proofs.bytes.Classes.new.Goals as goal

@@ -1,8 +1,0 @@
--- `cells::resolve_rows` meets its contract. The loop's invariant (`Sofar`): the cells before `from` are resolved and those from there on are as they
--- were; with the rows from row j on resolved they are the whole body resolved. No row's sum passes `most`, so the difference is one. Assumes nothing.
-use Rattle.records.specs.Figures.{row_ends_of}
-use Rattle.cells.proofs.Resolving.{Sofar}
-use Rattle.cells.proofs.resolve_rows.Given as goal
-
-abbrev pub invariant-loop-j : goal.invariant-loop-j
-invariant-loop-j l = Sofar l.first (row_ends_of l.rows) l.initial.cells l.cells l.most l.from l.j

@@ -1,0 +1,3 @@
+-- What only code and proofs need.
+pub mod Lookup
+pub mod Edges

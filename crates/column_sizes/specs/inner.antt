@@ -1,0 +1,3 @@
+-- How the code goes about it: what is asked for and left in slices.
+pub mod Capacity
+pub mod Sizing

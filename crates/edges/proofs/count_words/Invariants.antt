@@ -1,7 +1,0 @@
--- `count_words` meets its contract. The loop's invariant (`Counting`): n is the count of the ones in the words passed, and each of these has its
--- count. Each edge's word is passed in the end, since no edge lies above `top`. Assumes nothing.
-use Rattle.edges.proofs.CountLoop.{Counting}
-use Rattle.edges.proofs.count_words.Given as goal
-
-abbrev pub invariant-loop-i : goal.invariant-loop-i
-invariant-loop-i l = Counting l.words l.counts l.n l.i

@@ -1,7 +1,0 @@
--- `eights::cell_line` meets its contract: the number is that of ` 0 C R ` and a line feed. Assumes nothing.
-use native.Mathlib.Omega.{arith}
-use Rattle.eights.proofs.Told.{cell_ends}
-use Rattle.eights.proofs.cell_line.Goals as goal
-
-pub returns : goal.returns
-returns c b e = cell_ends c.eight-end.ensures c.from_le_bytes-zeros.ensures c.if-end-zeros.false c.if-more-ne0.false (omega arith) (omega arith) _ c.cell.ensures b e

@@ -1,0 +1,3 @@
+-- What only code and proofs need.
+pub mod Bound
+pub mod Sheets

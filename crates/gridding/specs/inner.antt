@@ -1,2 +1,0 @@
--- How the code goes about it: where a table's lines end, and the room that is lent.
-pub mod Making

@@ -1,6 +1,0 @@
--- `octets::after_of` meets its contract: the digits of what is no character, one place on. Assumes nothing.
-use Rattle.octets.proofs.Answers.{after_answer}
-use Rattle.octets.proofs.after_of.Goals as goal
-
-pub returns : goal.returns
-returns c = λ cs o e. rw c.from.ensures (after_answer c.args.chars c.args.gap cs o e)

@@ -1,6 +1,0 @@
--- `octets::chars_of` meets its contract: 95 more make 128 of 33. Assumes nothing.
-use Rattle.octets.proofs.Answers.{chars_answer}
-use Rattle.octets.proofs.chars_of.Goals as goal
-
-pub returns : goal.returns
-returns c = chars_answer _ _ c.tops.ensures

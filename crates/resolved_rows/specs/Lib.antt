@@ -1,0 +1,4 @@
+pub mod Cells
+pub mod Listed
+pub mod Facts
+pub mod inner

@@ -1,0 +1,4 @@
+-- What only code and proofs need.
+pub mod Held
+pub mod Spans
+pub mod Listed

@@ -1,0 +1,2 @@
+-- What the functions of this crate take and promise.
+pub mod Ranges

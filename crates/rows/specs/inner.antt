@@ -1,3 +1,0 @@
--- How the code goes about it: what hangs in slices.
-pub mod Overhangs
-pub mod Carrying

@@ -1,2 +1,0 @@
-pub mod Sizing
-pub mod inner

@@ -1,2 +1,0 @@
--- What the functions of this crate take and promise.
-pub mod Spots

@@ -1,7 +1,0 @@
-pub mod Boxes
-pub mod Table
-pub mod Steps
-pub mod Grids
-pub mod Rooms
-pub mod LayoutFitted
-pub mod Cells

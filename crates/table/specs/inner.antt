@@ -1,4 +1,0 @@
--- How the code goes about it: what is asked for and left in slices, and a grid as its records.
-pub mod Grids
-pub mod Room
-pub mod Asked

@@ -1,0 +1,3 @@
+-- What only code and proofs need.
+pub mod Fronts
+pub mod Steps

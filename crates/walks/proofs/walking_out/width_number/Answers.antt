@@ -1,7 +1,0 @@
--- `walks::walking_out::width_number` meets its contract: the number, as the functions of `Option` say it. Assumes nothing.
-use mathlib.Core.Path.{◌∙◌}
-use Rattle.walks.proofs.WalkCall.{width_is}
-use Rattle.walks.proofs.walking_out.width_number.Goals as goal
-
-pub returns : goal.returns
-returns c = c.unwrap_or.ensures ∙ width_is _
