@@ -1,12 +1,13 @@
 //! Both sides in one process, on the same sheets: compared first, then measured.
 //!
-//!   driver compare            every figure of both sides on every sheet; any difference ends the run
+//!   driver compare            every figure of both sides on every sheet, `window` at 1,024 widths too; any difference ends the run
 //!   driver times [NAME..]     compare, then warm times
 //!   driver cold [NAME..]      with 64 MB walked before each call, and as the first call on a new stack
+//!   driver window [NAME..]    compare, then warm times of `window` over lists of widths, and of what stands for it
 //!   driver counts [NAME..]    one warm call of each, for valgrind --tool=callgrind --collect-atstart=no
 //!   driver loop NAME CALL     one call again and again for two seconds, for a profiler
 //!
-//! NAMEs are sheets or texts; without any, all are taken (cold: a few). Lines of output, times in nanoseconds:
+//! NAMEs are sheets or texts; without any, all are taken (cold, window: a few). Lines of output, times in nanoseconds:
 //!   sheet NAME lines bytes tables entries columns wrap width cuts
 //!   warm|cold|stack NAME CALL TIME
 //!   clock TIME                what an empty call is measured to take
@@ -266,6 +267,41 @@ fn step_calls(r: &Ready) -> Vec<Call<'_>> {
     ]
 }
 
+/// So many widths from 0 to 1,023, equally far apart.
+fn widths(count: usize) -> Vec<u32> {
+    (0..ours::WIDTHS as u32).step_by(ours::WIDTHS / count).collect()
+}
+
+/// The asked table at 1,024 widths: by one call of `window`, by as many calls of `layout`, and by the Rust, its render tree made once
+/// (`rust.window`) or for each width anew (`rust.window-layouts`), as by a caller that keeps the document tree alone. With fewer widths to see
+/// whether the time grows by the width.
+fn window_calls<'a>(r: &'a Ready, buffers: &'a mut [Buffers; 3]) -> Vec<Call<'a>> {
+    let [b0, b1, b2] = buffers;
+    let (all, half, eighth) = (widths(ours::WIDTHS), widths(ours::WIDTHS / 2), widths(ours::WIDTHS / 8));
+    let (by_layout, theirs, by_their_layout) = (all.clone(), all.clone(), all.clone());
+    let mut one = Buffers::new();
+    vec![
+        call("ours.window", move |m| drop(m.run(|| black_box(b0.window(black_box(&r.bytes), r.line, r.wrap, RAW, &all))))),
+        call("ours.window-512", move |m| drop(m.run(|| black_box(b1.window(black_box(&r.bytes), r.line, r.wrap, RAW, &half))))),
+        call("ours.window-128", move |m| drop(m.run(|| black_box(b2.window(black_box(&r.bytes), r.line, r.wrap, RAW, &eighth))))),
+        call("ours.window-layouts", move |m| {
+            m.run(|| {
+                for width in &by_layout {
+                    black_box(one.layout(black_box(&r.bytes), r.line, r.wrap, RAW, *width));
+                }
+            })
+        }),
+        call("rust.window", move |m| drop(m.run(|| black_box(rust_side::window(&r.dom, r.lines.len(), r.line, r.wrap, RAW, &theirs))))),
+        call("rust.window-layouts", move |m| {
+            m.run(|| {
+                for width in &by_their_layout {
+                    black_box(rust_side::layout(&r.dom, r.line, r.wrap, RAW, *width));
+                }
+            })
+        }),
+    ]
+}
+
 const TEXT_WRAP: u32 = 3;
 
 fn text_calls(name: &str, bytes: &[u8], run: fn(&str, &mut [Call])) {
@@ -340,6 +376,22 @@ fn compare(sheet: &Sheet, cuts: u32) {
     println!("sheet {name} {lines} {bytes} {tables} {entries} {columns} {} {} {cuts}", r.wrap, r.width);
 }
 
+/// Every line of the report, against the Rust's layouts and our own.
+fn compare_window(sheet: &Sheet) {
+    let name = &sheet.name;
+    let r = Ready::new(sheet);
+    let (mut buffers, mut one) = (Buffers::new(), Buffers::new());
+    let widths = widths(ours::WIDTHS);
+    let w = buffers.window(&r.bytes, r.line, r.wrap, RAW, &widths);
+    assert_eq!([w.number, w.line, w.count], [0, 0, widths.len() as u32], "{name}: window");
+    let theirs = rust_side::window(&r.dom, r.lines.len(), r.line, r.wrap, RAW, &widths);
+    for (i, (&width, theirs)) in widths.iter().zip(theirs).enumerate() {
+        assert_eq!([buffers.way[i], buffers.table_wide[i], buffers.missing[i]], theirs, "{name}: window at {width}");
+        let l = one.layout(&r.bytes, r.line, r.wrap, RAW, width);
+        assert_eq!([buffers.way[i], buffers.table_wide[i]], [l.way, l.width], "{name}: window and layout at {width}");
+    }
+}
+
 // -------------------------------------------------------------------- modes
 
 /// glibc gives the top of the heap back where a large tree is dropped, and the next call pays for the pages again: by where things happen to lie,
@@ -359,6 +411,12 @@ fn all_sheets() -> Vec<(Sheet, u32)> {
     let plain = sheets::all().into_iter().map(|s| (s, 0));
     let cut = sheets::cuttings().into_iter().flat_map(|c| [(c.tight, c.cuts), (c.loose, 0)]);
     plain.chain(cut).collect()
+}
+
+fn measure_window(sheet: &Sheet) {
+    let r = Ready::new(sheet);
+    let mut buffers = [Buffers::new(), Buffers::new(), Buffers::new()];
+    warm_times(&sheet.name, &mut window_calls(&r, &mut buffers));
 }
 
 fn measure_sheet(sheet: &Sheet, run: fn(&str, &mut [Call])) {
@@ -392,6 +450,9 @@ fn stack_times(sheet: &Sheet) {
 /// Where cold caches and new stacks are measured unless sheets are named.
 const COLD: [&str; 7] = ["1x2", "8x6", "300-lines", "texts:150x12", "tables:1365", "one-text", "hanging:511"];
 
+/// Where `window` is measured unless sheets are named: three sizes, and a series that grows in rows.
+const WINDOW: [&str; 6] = ["8x6", "texts:20x12", "texts:40x12", "texts:80x12", "texts:150x12", "1x1900-at-7000"];
+
 fn main() {
     keep_heap();
     let mut arguments = std::env::args().skip(1);
@@ -401,14 +462,28 @@ fn main() {
         let sheets = all_sheets();
         return repeat(&sheets.iter().find(|s| s.0.name == *sheet).expect("a sheet's name").0, call);
     }
-    let asked = |name: &str| if names.is_empty() { mode != "cold" || COLD.contains(&name) } else { names.iter().any(|n| n == name) };
+    let few: Option<&[&str]> = match mode.as_str() {
+        "cold" => Some(&COLD),
+        "window" => Some(&WINDOW),
+        _ => None,
+    };
+    let asked = |name: &str| if names.is_empty() { few.is_none_or(|few| few.contains(&name)) } else { names.iter().any(|n| n == name) };
+    if mode == "window" {
+        clock_cost();
+        for (sheet, cuts) in all_sheets().iter().filter(|s| asked(&s.0.name)) {
+            compare(sheet, *cuts);
+            compare_window(sheet);
+            measure_window(sheet);
+        }
+        return;
+    }
     let run = match mode.as_str() {
         "compare" => |_: &str, _: &mut [Call]| {},
         "times" => warm_times,
         "cold" => cold_times,
         "counts" => count,
         _ => {
-            eprintln!("driver compare|times|cold|counts [NAME..], driver loop NAME CALL");
+            eprintln!("driver compare|times|cold|counts|window [NAME..], driver loop NAME CALL");
             std::process::exit(2)
         }
     };
@@ -418,6 +493,9 @@ fn main() {
     for (sheet, cuts) in all_sheets().iter().filter(|s| asked(&s.0.name)) {
         if mode != "counts" {
             compare(sheet, *cuts);
+        }
+        if mode == "compare" {
+            compare_window(sheet);
         }
         if mode != "compare" {
             measure_sheet(sheet, run);

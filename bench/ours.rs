@@ -40,6 +40,13 @@ pub struct LayoutResult {
     pub width: u32,
 }
 
+#[repr(C)]
+pub struct WindowResult {
+    pub number: u32,
+    pub line: u32,
+    pub count: u32,
+}
+
 /// A lent slice crosses as a pointer and a length.
 type Bytes = *const u8;
 type Lent = *mut u32;
@@ -87,12 +94,29 @@ unsafe extern "C" {
         wide: Lent,
         wide_n: usize,
     ) -> LayoutResult;
+    fn tables_window(
+        sheet: Bytes,
+        n: usize,
+        line: u32,
+        wrap: u32,
+        raw: u32,
+        widths: *const u32,
+        widths_n: usize,
+        way: Lent,
+        way_n: usize,
+        wide: Lent,
+        wide_n: usize,
+        missing: Lent,
+        missing_n: usize,
+    ) -> WindowResult;
 }
 
 const LINES: usize = 4096;
 const ENTRIES: usize = 8192;
+/// The most widths of one call of `window`.
+pub const WIDTHS: usize = 1024;
 
-/// The least places that the calls ask for. They are made of ones, so that every page is there before the first call.
+/// The least places that the calls ask for, and of a report of `window` those of the longest list. They are made of ones, so that every page is there before the first call.
 pub struct Buffers {
     pub size: Vec<u32>,
     pub least: Vec<u32>,
@@ -105,12 +129,16 @@ pub struct Buffers {
     pub column: Vec<u32>,
     pub x: Vec<u32>,
     pub wide: Vec<u32>,
+    pub way: Vec<u32>,
+    pub table_wide: Vec<u32>,
+    pub missing: Vec<u32>,
 }
 
 impl Buffers {
     pub fn new() -> Buffers {
         let lines = || vec![1; LINES];
         let entries = || vec![1; ENTRIES];
+        let widths = || vec![1; WIDTHS];
         Buffers {
             size: lines(),
             least: lines(),
@@ -123,6 +151,9 @@ impl Buffers {
             column: lines(),
             x: entries(),
             wide: entries(),
+            way: widths(),
+            table_wide: widths(),
+            missing: widths(),
         }
     }
 
@@ -168,6 +199,27 @@ impl Buffers {
                 x.len(),
                 w.as_mut_ptr(),
                 w.len(),
+            )
+        }
+    }
+
+    pub fn window(&mut self, sheet: &[u8], line: u32, wrap: u32, raw: u32, widths: &[u32]) -> WindowResult {
+        let (a, w, m) = (&mut self.way, &mut self.table_wide, &mut self.missing);
+        unsafe {
+            tables_window(
+                sheet.as_ptr(),
+                sheet.len(),
+                line,
+                wrap,
+                raw,
+                widths.as_ptr(),
+                widths.len(),
+                a.as_mut_ptr(),
+                a.len(),
+                w.as_mut_ptr(),
+                w.len(),
+                m.as_mut_ptr(),
+                m.len(),
             )
         }
     }

@@ -108,6 +108,7 @@ class Report:
     def targets(self):
         rows = [self.target_lines(False), self.target_lines(True), self.target_two_cells(), self.target_text_sheet(), self.target_text_alone()]
         rows += [self.target_cut(12, "cut-12"), self.target_cut(12, "cut-12-long"), self.target_cut(4000, "cut-4000"), self.target_growth()]
+        rows += [self.target_window("8x6", 20), self.target_window("texts:150x12", 10)]
         return table(["target", "found", ""], [r for r in rows if r])
 
     @staticmethod
@@ -210,6 +211,14 @@ class Report:
         text += "; not measured: " + ", ".join(sorted(set(left))) if left else ""
         return ["growth linear in lines plus entries, cutting and clearing apart", text, self.verdict(max(worst.values()) < 1.25, left)]
 
+    def target_window(self, name, bound):
+        mine, layouts = self.warm(name, "ours.window"), self.warm(name, "ours.window-layouts")
+        if not mine or not layouts:
+            return None
+        gain = layouts / mine
+        return ["%s at 1,024 widths in one call: %d times as fast as 1,024 calls of `layout`" % (name, bound),
+                "%.1f times (%s us, %s us)" % (gain, micro(mine), micro(layouts)), self.not_slower(gain / bound)]
+
     # -------------------------------------------------------------- tables
 
     def layouts(self):
@@ -275,6 +284,19 @@ class Report:
         heads = ["from, to", "ours ns", "instr.", "Rust ns", "instr.", "check ns", "instr.", "estimates ns", "instr.", "grid ns", "instr."]
         return table(heads, rows)
 
+    def window(self):
+        calls = ["ours.window", "ours.window-layouts", "rust.window", "rust.window-layouts", "ours.window-128", "ours.window-512"]
+        rows = []
+        for name in self.plain:
+            figures = [self.warm(name, c) for c in calls]
+            if None not in figures:
+                mine, few, half = figures[0], figures[4], figures[5]
+                others = [cell for figure in figures[1:4] for cell in (micro(figure), ratio(figure, mine))]
+                steps = ["%.0f" % ((half - few) / 384), "%.0f" % ((mine - half) / 512)]
+                rows.append([name, self.sheets[name].entries, self.sheets[name].columns, micro(mine), *others, *steps])
+        heads = ["sheet", "entries", "columns", "one call us", "by `layout` us", "ratio", "Rust us", "ratio", "Rust, render tree anew us", "ratio"]
+        return table(heads + ["a width more: ns, from 128 to 512", "from 512 to 1,024"], rows)
+
     def cold(self):
         rows = []
         for name, call in self.times["cold"]:
@@ -303,6 +325,7 @@ def main():
         ("Cutting: a tight width less a loose one", r.cuttings()),
         ("One text", r.texts()),
         ("Growth: what each line or entry more takes", r.growth()),
+        ("A table at 1,024 widths, 0 to 1,023", r.window()),
         ("Cold caches, new stack", r.cold()),
     ]
     print("# Results\n\nREADME.md says what is included on each side and how to read this.\n")

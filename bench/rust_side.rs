@@ -355,6 +355,23 @@ pub fn layout(dom: &Handle, line: u32, wrap: u32, raw: u32, width: u32) -> Total
     total
 }
 
+/// One table, which stands in no other, at each of a list of widths: 1 if it goes down, its own width, how many of its entries are not printed. The
+/// render tree and its estimates are made once; the table is copied for each width, since laying it out uses it up.
+#[inline(never)]
+pub fn window(dom: &Handle, lines: usize, line: u32, wrap: u32, raw: u32, widths: &[u32]) -> Vec<[u32; 3]> {
+    let tree = estimated(dom, wrap);
+    let mut found = Vec::new();
+    visit(&tree.0, &mut vec![SizeEstimate::default(); lines], &mut found);
+    let table = found.iter().find(|t| t.0 == line as usize).unwrap().1;
+    let entries = table.rows().flat_map(|row| row.cells()).count();
+    let at = |width: &u32| {
+        let (down, _, own, rows) = lay_one(table.clone(), raw, *width);
+        let printed: usize = rows.into_iter().map(|row| cells_of(row).len()).sum();
+        [down as u32, own as u32, (entries - printed) as u32]
+    };
+    widths.iter().map(at).collect()
+}
+
 /// A text node, to be measured again and again.
 pub fn text_node(text: &[u8]) -> Tree {
     Tree(RenderNode::new(RenderNodeInfo::Text(text_of(text))))

@@ -10,13 +10,13 @@
  *   where it is not. What is lent for writing need not be cleared before. (Not null even where the
  *   number is 0: the library as it is compiled does not follow such a pointer, but what is proved
  *   is about pointers that are not null.)
- * - A buffer that is lent for writing overlaps neither another buffer of the call nor the sheet,
- *   and nothing else touches it during the call.
+ * - A buffer that is lent for writing overlaps neither another buffer of the call nor the sheet
+ *   nor the list of widths, and nothing else touches it during the call.
  * - There is room on the stack. The most that was measured, on sheets that need the longest arrays:
  *   tables_nested 676,000 bytes, tables_walk 545,000, tables_at, tables_within and tables_joining
- *   512,000, tables_missing 462,000, tables_layout 430,000, tables_estimates 400,000, tables_grid
- *   348,000, tables_check 86,000, tables_measure 300; TABLES_STACK is enough for any call. Without
- *   it a call ends in the system's stack overflow. Nothing is allocated.
+ *   512,000, tables_window 482,000, tables_missing 462,000, tables_layout 430,000, tables_estimates
+ *   400,000, tables_grid 348,000, tables_check 86,000, tables_measure 300; TABLES_STACK is enough
+ *   for any call. Without it a call ends in the system's stack overflow. Nothing is allocated.
  *
  * There is no state outside the arguments: calls may run in several threads at once, each with
  * buffers of its own, and a sheet may be shared.
@@ -34,7 +34,7 @@
 #include <stddef.h>
 #include <stdint.h>
 
-#define TABLES_VERSION "0.8.0"
+#define TABLES_VERSION "0.9.0"
 
 #define TABLES_MAX_BYTES 65536    /* bytes of a sheet, and of a text that is measured */
 /* lines of a sheet after its heading: least places of a buffer with one for each line or row */
@@ -45,11 +45,12 @@
 #define TABLES_MAX_COLUMNS 4096
 #define TABLES_MAX_WRAP 1000      /* largest wrap */
 #define TABLES_MAX_WIDTH 65535    /* largest width */
+#define TABLES_MAX_WIDTHS 1024    /* widths of one call of tables_window */
 #define TABLES_STACK 800000       /* bytes of stack that are enough for any call */
 
-/* In the order in which they are looked for: 9, 11, 8, 1; then line by line 2, 3, 13, 14, 4; then 4
- * for no node, an empty table or an empty body; 10; then table by table 5, 6; then 10 for a row;
- * then 12. */
+/* In the order in which they are looked for: 16, 9, 11, 8, 1; then line by line 2, 3, 13, 14, 4;
+ * then 4 for no node, an empty table or an empty body; 10; then table by table 5, 6; then 10 for a
+ * row; then 12. */
 enum tables_refusal {
     TABLES_ACCEPTED = 0,
     /* the first line is not exactly the heading with its line feed; line 0 */
@@ -67,7 +68,7 @@ enum tables_refusal {
     /* more than 65,536 bytes, or more than 4,097 line feeds (tables_measure: bytes alone);
      * line 0 */
     TABLES_TOO_LONG = 8,
-    /* wrap above 1,000, width above 65,535, or raw or overflow above 1; line 0 */
+    /* wrap above 1,000, a width above 65,535, or raw or overflow above 1; line 0 */
     TABLES_BAD_SETTING = 9,
     /* the line given is not a table of the sheet, or goes down or has no such row where a row of it
      * is asked for; line 0 */
@@ -78,7 +79,9 @@ enum tables_refusal {
     TABLES_TOO_NARROW = 12,
     TABLES_NO_SUM = 13,          /* the text of a calc is not a sum; the line */
     /* a divisor of zero, or a step outside plus or minus 1,000,000,000,000; the line */
-    TABLES_OUT_OF_BOUNDS = 14
+    TABLES_OUT_OF_BOUNDS = 14,
+    /* no width or more than 1,024 in the list of tables_window; line 0 */
+    TABLES_BAD_WIDTHS = 16
 };
 
 typedef struct tables_check_result {
@@ -151,6 +154,11 @@ typedef struct tables_nested_result {
     uint32_t columns;
     uint32_t width;   /* of the table */
 } tables_nested_result;
+
+typedef struct tables_window_result {
+    uint32_t number, line;
+    uint32_t count; /* so many lines has the report: as many figures stand in each buffer */
+} tables_window_result;
 
 enum tables_way { TABLES_SIDEWAYS = 0, TABLES_DOWN = 1 };
 
@@ -262,6 +270,18 @@ tables_nested_result tables_nested(
     uint32_t *column, size_t column_len,
     uint32_t *x, size_t x_len,
     uint32_t *wide, size_t wide_len);
+
+/* The table in a line at each of 1 to TABLES_MAX_WIDTHS widths; raw is 0 or 1. For each width of
+ * the list, in its order, what tables_layout says at it: the way (enum tables_way) and the table's
+ * width; and how many entries are missing, as tables_missing counts them. Each buffer has at least
+ * as many places as there are widths. */
+tables_window_result tables_window(
+    const uint8_t *sheet, size_t sheet_len,
+    uint32_t line, uint32_t wrap, uint32_t raw,
+    const uint32_t *widths, size_t widths_len,
+    uint32_t *way, size_t way_len,
+    uint32_t *wide, size_t wide_len,
+    uint32_t *missing, size_t missing_len);
 
 #ifdef __cplusplus
 }

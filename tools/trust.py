@@ -28,6 +28,7 @@ CALLS = [
     ("joining", "call_preview", "lib.rt"),
     ("walk", "call_walk", "lib.rt"),
     ("nested", "call_nested", "lib.rt"),
+    ("window", "call_window", "lib.rt"),
 ]
 
 USE = re.compile(r"^(?:ghost )?(?:pub )?use Rattle\.(\w+)\.specs\.([\w.]+?)(?:\.\{([^}]*)\})?(?: as (\w+))?;?\s*$", re.M)
@@ -78,6 +79,7 @@ STATED = [
     ("why a column is 0 wide", "placement/specs/Why"),
     ("which cells can go missing", "missing_theorems/specs/Missing"),
     ("what holds of every walk", "walk_theorems/specs/Descent"),
+    ("what holds of every report of `window`", "window_theorems/specs/Window"),
     ("pointing, without a search", "hit_test/specs/Exact"),
     ("the calls that point, without a search", "call_preview/specs/Exact"),
     ("the settings of a program's input", "settings/specs/Settings"),
@@ -91,7 +93,7 @@ CASES = re.compile(r"/(Cases|Lib|inner)\.antt$|^crates/(cases|fields/specs/Headi
 ORDER = """common text kinds fields expression evaluator line records sheet sheet_load resolved_rows columns
 grid_row grid_positions column_edges grid estimates cutting widths placement table_layout sheet_figures
 answers arguments call_estimates call_grid call_layout causes call_missing row_lookup hit_test
-call_preview available_width sheet_walk call_walk call_nested settings c_results""".split()
+call_preview available_width sheet_walk call_walk call_nested call_window settings c_results""".split()
 
 files = {}
 

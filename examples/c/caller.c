@@ -15,6 +15,7 @@ _Static_assert(sizeof(tables_within_result) == 12 && offsetof(tables_within_resu
 _Static_assert(sizeof(tables_joining_result) == 12 && offsetof(tables_joining_result, joint) == 8, "tables_joining_result");
 _Static_assert(sizeof(tables_walk_result) == 12 && offsetof(tables_walk_result, lines) == 8, "tables_walk_result");
 _Static_assert(sizeof(tables_nested_result) == 28 && offsetof(tables_nested_result, given) == 8 && offsetof(tables_nested_result, way) == 16 && offsetof(tables_nested_result, width) == 24, "tables_nested_result");
+_Static_assert(sizeof(tables_window_result) == 12 && offsetof(tables_window_result, count) == 8, "tables_window_result");
 
 static uint8_t input[TABLES_MAX_BYTES + 100];
 static uint32_t size[TABLES_MAX_LINES], least[TABLES_MAX_LINES], prefix[TABLES_MAX_LINES];
@@ -23,6 +24,8 @@ static uint32_t row[TABLES_MAX_LINES], row_end[TABLES_MAX_LINES];
 static uint32_t column[TABLES_MAX_COLUMNS], x[TABLES_MAX_ENTRIES], wide[TABLES_MAX_ENTRIES];
 static uint32_t entry[TABLES_MAX_ENTRIES], cause[TABLES_MAX_COLUMNS];
 static uint32_t given[TABLES_MAX_LINES], line_wide[TABLES_MAX_LINES];
+static const uint32_t widths[] = {0, 5, 6, 40};
+static uint32_t ways[4], totals[4], counts[4];
 #define PLACES(a) (a), sizeof(a) / sizeof *(a)
 
 static int refused(uint32_t number, uint32_t line) {
@@ -100,5 +103,11 @@ int main(int argc, char **argv) {
     tables_nested_result n = tables_nested(sheet, len, line, wrap, raw, width, 0, PLACES(column), PLACES(x), PLACES(wide));
     if (refused(n.number, n.line)) return 1;
     printf("nested: given %u, at %u, %s, %u columns, %u wide\n", n.given, n.at, n.way == TABLES_DOWN ? "down" : "sideways", n.columns, n.width);
+
+    tables_window_result p = tables_window(sheet, len, line, wrap, raw, PLACES(widths), PLACES(ways), PLACES(totals), PLACES(counts));
+    if (refused(p.number, p.line)) return 1;
+    printf("window: %u widths\n", p.count);
+    for (uint32_t i = 0; i < p.count; i++)
+        printf("at %u: %s, %u wide, %u missing\n", widths[i], ways[i] == TABLES_DOWN ? "down" : "sideways", totals[i], counts[i]);
     return 0;
 }

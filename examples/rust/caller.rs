@@ -45,6 +45,13 @@ fn show(settings: [u32; 3], sheet: &[u8]) -> Result<(), tables::Refusal> {
     println!("walk: {lines} lines, {with} with a width; line {lines} is {} wide", line_wide[lines as usize - 1]);
     let [given, at, way, columns, width] = tables::nested(sheet, line, settings, false, [&mut column, &mut x, &mut wide])?;
     println!("nested: given {given}, at {at}, {}, {columns} columns, {width} wide", if way == 1 { "down" } else { "sideways" });
+    let widths = [0, 5, 6, 40];
+    let [mut ways, mut totals, mut counts] = [[0; 4]; 3];
+    let [lines] = tables::window(sheet, line, [settings[0], settings[1]], &widths, [&mut ways, &mut totals, &mut counts])?;
+    println!("window: {lines} widths");
+    for i in 0..lines as usize {
+        println!("at {}: {}, {} wide, {} missing", widths[i], if ways[i] == 1 { "down" } else { "sideways" }, totals[i], counts[i]);
+    }
     Ok(())
 }
 

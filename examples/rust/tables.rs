@@ -1,7 +1,7 @@
 //! The calls of libtables_c.a, safe: a reference is never null and is aligned, and what is lent with `&mut` overlaps nothing, which is all that
 //! they ask beside 1 MB of stack. What they answer, and what the refusals mean, stands in include/tables.h.
 
-/// The least places of a lent buffer with one for each line or row, each entry, each column.
+/// The least places of a lent buffer with one for each line or row, each entry, each column; those of `window` have one for each width.
 pub const LINES: usize = 4096;
 pub const ENTRIES: usize = 8192;
 pub const COLUMNS: usize = 4096;
@@ -31,6 +31,7 @@ impl<const N: usize> Answer<N> {
 }
 
 type In = *const u8;
+type Listed = *const u32;
 type Out = *mut u32;
 extern "C" {
     fn tables_check(s: In, n: usize) -> Answer<0>;
@@ -44,6 +45,7 @@ extern "C" {
     fn tables_joining(s: In, n: usize, line: u32, wrap: u32, raw: u32, width: u32, row: u32, x: u32) -> Answer<1>;
     fn tables_walk(s: In, n: usize, wrap: u32, raw: u32, width: u32, overflow: u32, a: Out, al: usize, b: Out, bl: usize) -> Answer<1>;
     fn tables_nested(s: In, n: usize, line: u32, wrap: u32, raw: u32, width: u32, overflow: u32, a: Out, al: usize, b: Out, bl: usize, c: Out, cl: usize) -> Answer<5>;
+    fn tables_window(s: In, n: usize, line: u32, wrap: u32, raw: u32, w: Listed, wl: usize, a: Out, al: usize, b: Out, bl: usize, c: Out, cl: usize) -> Answer<1>;
 }
 
 pub fn check(s: &[u8]) -> Result<[u32; 0], Refusal> {
@@ -104,4 +106,11 @@ pub fn nested(s: &[u8], line: u32, [wrap, raw, width]: [u32; 3], overflow: bool,
     let (al, bl, cl) = (a.len(), b.len(), c.len());
     let (a, b, c) = (a.as_mut_ptr(), b.as_mut_ptr(), c.as_mut_ptr());
     unsafe { tables_nested(s.as_ptr(), s.len(), line, wrap, raw, width, overflow as u32, a, al, b, bl, c, cl) }.result()
+}
+
+/// count; settings: wrap, raw; lent: way (0 sideways, 1 down), wide, missing, each with a place for each width
+pub fn window(s: &[u8], line: u32, [wrap, raw]: [u32; 2], w: &[u32], [a, b, c]: [&mut [u32]; 3]) -> Result<[u32; 1], Refusal> {
+    let (al, bl, cl) = (a.len(), b.len(), c.len());
+    let (a, b, c) = (a.as_mut_ptr(), b.as_mut_ptr(), c.as_mut_ptr());
+    unsafe { tables_window(s.as_ptr(), s.len(), line, wrap, raw, w.as_ptr(), w.len(), a, al, b, bl, c, cl) }.result()
 }

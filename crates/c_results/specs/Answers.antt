@@ -22,6 +22,7 @@ use Rattle.c_results.specs.declared.WithinResult.{WithinResult}
 use Rattle.c_results.specs.declared.JoiningResult.{JoiningResult}
 use Rattle.c_results.specs.declared.WalkResult.{WalkResult}
 use Rattle.c_results.specs.declared.NestedResult.{NestedResult}
+use Rattle.c_results.specs.declared.WindowResult.{WindowResult}
 
 -- 0 is text or svg, any other number img
 abbrev pub as_img : ℕ → Bool
@@ -74,3 +75,8 @@ unfoldable pub nested_result : Result (Option Nested) Refusal → NestedResult
 nested_result (Ok (Some t)) = record { number = 0; line = 0; given = 1; at = t.at; way = way_number t.layout.way; columns = t.layout.columns; width = t.layout.width }
 nested_result (Ok None) = record { number = 0; line = 0; given = 0; at = 0; way = 0; columns = 0; width = 0 }
 nested_result (Err why) = record { number = reason_number why.reason; line = why.line; given = 0; at = 0; way = 0; columns = 0; width = 0 }
+
+-- how many lines the report has
+unfoldable pub window_result : Result ℕ Refusal → WindowResult
+window_result (Ok count) = record { number = 0; line = 0; count = count }
+window_result (Err why) = record { number = reason_number why.reason; line = why.line; count = 0 }

@@ -1,9 +1,9 @@
 // What crosses to C: `#[repr(C)]` structs of numbers alone, each made from what the call inside answers: number 0 and line 0 if it is accepted; else the
 // refusal's number and line, and zeros.
-#![tactic(auto, unfolding(crate::specs::Answers::check_result, crate::specs::Answers::measure_result, crate::specs::Answers::estimates_result, crate::specs::Answers::grid_result, crate::specs::Answers::layout_result, crate::specs::Answers::missing_result, crate::specs::Answers::at_result, crate::specs::Answers::within_result, crate::specs::Answers::joining_result, crate::specs::Answers::walk_result, crate::specs::Answers::nested_result, answers::specs::Numbers::under_number))]
+#![tactic(auto, unfolding(crate::specs::Answers::check_result, crate::specs::Answers::measure_result, crate::specs::Answers::estimates_result, crate::specs::Answers::grid_result, crate::specs::Answers::layout_result, crate::specs::Answers::missing_result, crate::specs::Answers::at_result, crate::specs::Answers::within_result, crate::specs::Answers::joining_result, crate::specs::Answers::walk_result, crate::specs::Answers::nested_result, crate::specs::Answers::window_result, answers::specs::Numbers::under_number))]
 
 ghost use Rattle.std.specs.Prelude.{◌≡◌};
-ghost use Rattle.c_results.specs.Answers.{as_img, check_result, measure_result, estimates_result, grid_result, layout_result, missing_result, at_result, within_result, joining_result, walk_result, nested_result};
+ghost use Rattle.c_results.specs.Answers.{as_img, check_result, measure_result, estimates_result, grid_result, layout_result, missing_result, at_result, within_result, joining_result, walk_result, nested_result, window_result};
 
 use answers::{Causes, Grid, Joint, Layout, Nested, Under};
 use common::Refusal;
@@ -112,6 +112,14 @@ pub struct NestedResult {
     pub width: u32,
 }
 
+#[repr(C)]
+#[derive(Clone, Copy, Debug, Default, PartialEq, Eq)]
+pub struct WindowResult {
+    pub number: u32,
+    pub line: u32,
+    pub count: u32,
+}
+
 // Whether a number says img: every one but 0 does.
 pub fn as_img(img: u32) -> bool
     ensures { result ≡ as_img img }
@@ -119,7 +127,7 @@ pub fn as_img(img: u32) -> bool
     img != 0
 }
 
-// Each impl writes a refusal's two fields itself: a type parameter has no fields, so that a helper would need an impl for each of the eleven structs, which
+// Each impl writes a refusal's two fields itself: a type parameter has no fields, so that a helper would need an impl for each of the twelve structs, which
 // the C interface has, and each would be as long as the arm.
 
 // The answer of `check`.
@@ -337,6 +345,25 @@ impl From<Result<Option<Nested>, Refusal>> for NestedResult {
             },
             Ok(None) => NestedResult::default(),
             Err(why) => NestedResult {
+                number: why.reason.number(),
+                line: why.line,
+                ..Default::default()
+            },
+        }
+    }
+}
+
+// The answer of `window`.
+impl From<Result<u32, Refusal>> for WindowResult {
+    ghost from_gives = { λ told r. r ≡ window_result told };
+
+    fn from(told: Result<u32, Refusal>) -> WindowResult {
+        match told {
+            Ok(count) => WindowResult {
+                count,
+                ..Default::default()
+            },
+            Err(why) => WindowResult {
                 number: why.reason.number(),
                 line: why.line,
                 ..Default::default()

@@ -178,7 +178,7 @@ module _ (n : ℕ) (cs zs ls : List ℕ) (width : ℕ) (z : length zs ≡ n) (c 
       let ws = final_widths Down zs ls width in
       missed_down n width cs (hidden_down n cs ws c (length_final Down zs ls width ∙ z) t width (ap (λ (m : ℕ). replicate m width) z)) k 0 r h
 
-  missed_rows : (way : Way) → ((j : ℕ) → j < n → Tied (get_or cs j 0) (get_or (final_widths way zs ls width) j 0)) → (k : ℕ) (rows : List (List Box)) → TilesAll n rows
+  pub missed_rows : (way : Way) → ((j : ℕ) → j < n → Tied (get_or cs j 0) (get_or (final_widths way zs ls width) j 0)) → (k : ℕ) (rows : List (List Box)) → TilesAll n rows
       → missing_from k (place_rows way (final_widths way zs ls width) width rows) ≡ hidden_from k (flat rows) cs
   unfolding place_rows flat TilesAll missing_from hidden_from
   missed_rows way t k [] h = refl

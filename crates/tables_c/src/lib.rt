@@ -1,4 +1,4 @@
-// The eleven calls for C and Rust: numbers, lent slices and `#[repr(C)]` structs of numbers alone. A slice crosses as a pointer and a length.
+// The twelve calls for C and Rust: numbers, lent slices and `#[repr(C)]` structs of numbers alone. A slice crosses as a pointer and a length.
 // The settings and the buffers are a parameter each: C hands them over so, and the calls that these make take them so.
 #![tactic(auto)]
 
@@ -13,11 +13,12 @@ ghost use Rattle.call_missing.specs.Missing.{explained_of, for_one, MissingLeft}
 ghost use Rattle.call_preview.specs.Preview.{pointed_of, listed_of, for_one as for_listed, WithinLeft, joined_of};
 ghost use Rattle.call_walk.specs.Walks.{walked_of, for_walk, WalkLeft};
 ghost use Rattle.call_nested.specs.Nested.{nested_of, NestedLeft};
-ghost use Rattle.c_results.specs.Answers.{check_result, as_img, measure_result, estimates_result, grid_result, layout_result, missing_result, at_result, within_result, joining_result, walk_result, nested_result};
+ghost use Rattle.call_window.specs.Window.{window_of, for_report, WindowBuffers};
+ghost use Rattle.c_results.specs.Answers.{check_result, as_img, measure_result, estimates_result, grid_result, layout_result, missing_result, at_result, within_result, joining_result, walk_result, nested_result, window_result};
 
 use c_results::{
     AtResult, CheckResult, EstimatesResult, GridResult, JoiningResult, LayoutResult, MeasureResult,
-    MissingResult, NestedResult, WalkResult, WithinResult,
+    MissingResult, NestedResult, WalkResult, WindowResult, WithinResult,
 };
 
 // Whether a sheet is accepted.
@@ -197,4 +198,23 @@ pub extern "C" fn tables_nested(
     NestedResult::from(call_nested::nested(
         sheet, line, wrap, raw, width, overflow, column, x, wide,
     ))
+}
+
+// The way, the width and how many entries are missing, of the table in a line at each of a list of widths.
+#[unsafe(no_mangle)]
+pub extern "C" fn tables_window(
+    sheet: &[u8],
+    line: u32,
+    wrap: u32,
+    raw: u32,
+    widths: &[u32],
+    way: &mut [u32],
+    wide: &mut [u32],
+    missing: &mut [u32],
+) -> WindowResult
+    ensures value { result ≡ window_result (window_of sheet.now line wrap raw widths.now (for_report way.old wide.old missing.old)) }
+    ensures window_buffers { WindowBuffers sheet.now line wrap raw widths.now way.old wide.old missing.old
+        way.new wide.new missing.new }
+{
+    WindowResult::from(call_window::window(sheet, line, wrap, raw, widths, way, wide, missing))
 }

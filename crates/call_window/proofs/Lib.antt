@@ -1,0 +1,4 @@
+pub mod Made
+pub mod Read
+pub mod Calls
+pub mod Never

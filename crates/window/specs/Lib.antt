@@ -1,0 +1,2 @@
+-- A table at each of a list of widths.
+pub mod inner

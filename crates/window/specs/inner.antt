@@ -1,0 +1,4 @@
+-- What only code and proofs need.
+pub mod Counting
+pub mod Lines
+pub mod Report
