@@ -13,10 +13,11 @@
  * - A buffer that is lent for writing overlaps neither another buffer of the call nor the sheet
  *   nor the list of widths, and nothing else touches it during the call.
  * - There is room on the stack. The most that was measured, on sheets that need the longest arrays:
- *   tables_nested 676,000 bytes, tables_walk 545,000, tables_at, tables_within and tables_joining
- *   512,000, tables_window 482,000, tables_missing 462,000, tables_layout 430,000, tables_estimates
- *   400,000, tables_grid 348,000, tables_check 86,000, tables_measure 300; TABLES_STACK is enough
- *   for any call. Without it a call ends in the system's stack overflow. Nothing is allocated.
+ *   tables_nested 676,000 bytes, tables_walk 545,000, tables_spoken 519,000, tables_at,
+ *   tables_within and tables_joining 512,000, tables_window 482,000, tables_missing 462,000,
+ *   tables_layout 430,000, tables_estimates 400,000, tables_grid 348,000, tables_check 86,000,
+ *   tables_measure 300; TABLES_STACK is enough for any call. Without it a call ends in the system's
+ *   stack overflow. Nothing is allocated.
  *
  * There is no state outside the arguments: calls may run in several threads at once, each with
  * buffers of its own, and a sheet may be shared.
@@ -34,7 +35,7 @@
 #include <stddef.h>
 #include <stdint.h>
 
-#define TABLES_VERSION "0.9.0"
+#define TABLES_VERSION "0.10.0"
 
 #define TABLES_MAX_BYTES 65536    /* bytes of a sheet, and of a text that is measured */
 /* lines of a sheet after its heading: least places of a buffer with one for each line or row */
@@ -50,7 +51,7 @@
 
 /* In the order in which they are looked for: 16, 9, 11, 8, 1; then line by line 2, 3, 13, 14, 4;
  * then 4 for no node, an empty table or an empty body; 10; then table by table 5, 6; then 10 for a
- * row; then 12. */
+ * row, and for an entry; then 12. */
 enum tables_refusal {
     TABLES_ACCEPTED = 0,
     /* the first line is not exactly the heading with its line feed; line 0 */
@@ -71,7 +72,7 @@ enum tables_refusal {
     /* wrap above 1,000, a width above 65,535, or raw or overflow above 1; line 0 */
     TABLES_BAD_SETTING = 9,
     /* the line given is not a table of the sheet, or goes down or has no such row where a row of it
-     * is asked for; line 0 */
+     * is asked for, or has no filler with the number that is asked for in tables_spoken; line 0 */
     TABLES_NO_TABLE = 10,
     TABLES_SHORT_BUFFER = 11,    /* a lent buffer has fewer than its least places; line 0 */
     /* a heading, quote, list or definition is too narrow for what it holds, in tables_walk and
@@ -159,6 +160,16 @@ typedef struct tables_window_result {
     uint32_t number, line;
     uint32_t count; /* so many lines has the report: as many figures stand in each buffer */
 } tables_window_result;
+
+typedef struct tables_spoken_result {
+    uint32_t number, line;
+    /* 1: the text spoken is the bytes from to from + length, the last not counted, of the sheet;
+     * 0: it is the whole wording, from is 0 and length the wording's, or 4,294,967,295 if that is
+     * larger */
+    uint32_t of_sheet;
+    uint32_t from;
+    uint32_t length; /* in bytes */
+} tables_spoken_result;
 
 enum tables_way { TABLES_SIDEWAYS = 0, TABLES_DOWN = 1 };
 
@@ -282,6 +293,15 @@ tables_window_result tables_window(
     uint32_t *way, size_t way_len,
     uint32_t *wide, size_t wide_len,
     uint32_t *missing, size_t missing_len);
+
+/* The text that is spoken at a filler of the table in a line. entry is its number in the grid's
+ * order, the first is 0. Spoken is the whole text of the first line of kind text inside the cell
+ * that the filler continues, those of tables in the cell included; or the wording, where there is
+ * no such line or its text is empty. Nothing is copied: the reply says which bytes of which of the
+ * two. The wording may have any bytes, and any length. */
+tables_spoken_result tables_spoken(
+    const uint8_t *sheet, size_t sheet_len, uint32_t line, uint32_t entry,
+    const uint8_t *wording, size_t wording_len);
 
 #ifdef __cplusplus
 }

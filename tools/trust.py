@@ -29,6 +29,7 @@ CALLS = [
     ("walk", "call_walk", "lib.rt"),
     ("nested", "call_nested", "lib.rt"),
     ("window", "call_window", "lib.rt"),
+    ("spoken", "call_spoken", "lib.rt"),
 ]
 
 USE = re.compile(r"^(?:ghost )?(?:pub )?use Rattle\.(\w+)\.specs\.([\w.]+?)(?:\.\{([^}]*)\})?(?: as (\w+))?;?\s*$", re.M)
@@ -76,10 +77,12 @@ STATED = [
     ("what holds of the resolved rows of every table", "resolved_rows/specs/Facts"),
     ("cutting by one level gives the same widths", "cutting/specs/Level"),
     ("where the grid is the one of before spans ended with their body", "grid/specs/Before"),
+    ("whose cell a filler's owner is", "grid/specs/Owners"),
     ("why a column is 0 wide", "placement/specs/Why"),
     ("which cells can go missing", "missing_theorems/specs/Missing"),
     ("what holds of every walk", "walk_theorems/specs/Descent"),
     ("what holds of every report of `window`", "window_theorems/specs/Window"),
+    ("what is spoken at every filler", "spoken_theorems/specs/Spoken"),
     ("pointing, without a search", "hit_test/specs/Exact"),
     ("the calls that point, without a search", "call_preview/specs/Exact"),
     ("the settings of a program's input", "settings/specs/Settings"),
@@ -93,7 +96,8 @@ CASES = re.compile(r"/(Cases|Lib|inner)\.antt$|^crates/(cases|fields/specs/Headi
 ORDER = """common text kinds fields expression evaluator line records sheet sheet_load resolved_rows columns
 grid_row grid_positions column_edges grid estimates cutting widths placement table_layout sheet_figures
 answers arguments call_estimates call_grid call_layout causes call_missing row_lookup hit_test
-call_preview available_width sheet_walk call_walk call_nested call_window settings c_results""".split()
+call_preview available_width sheet_walk call_walk call_nested call_window owners spoken_text call_spoken settings
+c_results""".split()
 
 files = {}
 

@@ -16,6 +16,7 @@ _Static_assert(sizeof(tables_joining_result) == 12 && offsetof(tables_joining_re
 _Static_assert(sizeof(tables_walk_result) == 12 && offsetof(tables_walk_result, lines) == 8, "tables_walk_result");
 _Static_assert(sizeof(tables_nested_result) == 28 && offsetof(tables_nested_result, given) == 8 && offsetof(tables_nested_result, way) == 16 && offsetof(tables_nested_result, width) == 24, "tables_nested_result");
 _Static_assert(sizeof(tables_window_result) == 12 && offsetof(tables_window_result, count) == 8, "tables_window_result");
+_Static_assert(sizeof(tables_spoken_result) == 20 && offsetof(tables_spoken_result, of_sheet) == 8 && offsetof(tables_spoken_result, length) == 16, "tables_spoken_result");
 
 static uint8_t input[TABLES_MAX_BYTES + 100];
 static uint32_t size[TABLES_MAX_LINES], least[TABLES_MAX_LINES], prefix[TABLES_MAX_LINES];
@@ -109,5 +110,8 @@ int main(int argc, char **argv) {
     printf("window: %u widths\n", p.count);
     for (uint32_t i = 0; i < p.count; i++)
         printf("at %u: %s, %u wide, %u missing\n", widths[i], ways[i] == TABLES_DOWN ? "down" : "sideways", totals[i], counts[i]);
+    tables_spoken_result o = tables_spoken(sheet, len, line, 0, (const uint8_t *)"blank", 5);
+    if (o.number) printf("spoken at entry 0: refusal %u, line %u\n", o.number, o.line);
+    else printf("spoken at entry 0: %u bytes\n", o.length);
     return 0;
 }

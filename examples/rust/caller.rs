@@ -52,6 +52,10 @@ fn show(settings: [u32; 3], sheet: &[u8]) -> Result<(), tables::Refusal> {
     for i in 0..lines as usize {
         println!("at {}: {}, {} wide, {} missing", widths[i], if ways[i] == 1 { "down" } else { "sideways" }, totals[i], counts[i]);
     }
+    match tables::spoken(sheet, line, 0, b"blank") {
+        Ok(text) => println!("spoken at entry 0: {} bytes", text.len()),
+        Err(refusal) => println!("spoken at entry 0: refusal {}, line {}", refusal.number, refusal.line),
+    }
     Ok(())
 }
 

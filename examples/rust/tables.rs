@@ -46,6 +46,7 @@ extern "C" {
     fn tables_walk(s: In, n: usize, wrap: u32, raw: u32, width: u32, overflow: u32, a: Out, al: usize, b: Out, bl: usize) -> Answer<1>;
     fn tables_nested(s: In, n: usize, line: u32, wrap: u32, raw: u32, width: u32, overflow: u32, a: Out, al: usize, b: Out, bl: usize, c: Out, cl: usize) -> Answer<5>;
     fn tables_window(s: In, n: usize, line: u32, wrap: u32, raw: u32, w: Listed, wl: usize, a: Out, al: usize, b: Out, bl: usize, c: Out, cl: usize) -> Answer<1>;
+    fn tables_spoken(s: In, n: usize, line: u32, entry: u32, w: In, wl: usize) -> Answer<3>;
 }
 
 pub fn check(s: &[u8]) -> Result<[u32; 0], Refusal> {
@@ -113,4 +114,10 @@ pub fn window(s: &[u8], line: u32, [wrap, raw]: [u32; 2], w: &[u32], [a, b, c]: 
     let (al, bl, cl) = (a.len(), b.len(), c.len());
     let (a, b, c) = (a.as_mut_ptr(), b.as_mut_ptr(), c.as_mut_ptr());
     unsafe { tables_window(s.as_ptr(), s.len(), line, wrap, raw, w.as_ptr(), w.len(), a, al, b, bl, c, cl) }.result()
+}
+
+/// the text that is spoken at a filler: a part of the sheet, or the whole wording
+pub fn spoken<'a>(s: &'a [u8], line: u32, entry: u32, wording: &'a [u8]) -> Result<&'a [u8], Refusal> {
+    let [of_sheet, from, length] = unsafe { tables_spoken(s.as_ptr(), s.len(), line, entry, wording.as_ptr(), wording.len()) }.result()?;
+    Ok(if of_sheet == 1 { &s[from as usize..][..length as usize] } else { wording })
 }

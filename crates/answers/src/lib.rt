@@ -80,3 +80,10 @@ pub struct Nested {
     pub at: u32,
     pub layout: Layout,
 }
+
+// Where the answer of `spoken` stands in the sheet: from a byte on, so many bytes.
+#[derive(Clone, Copy, Debug, PartialEq, Eq)]
+pub struct Part {
+    pub from: u32,
+    pub length: u32,
+}

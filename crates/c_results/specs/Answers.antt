@@ -1,5 +1,5 @@
 -- What crosses to C, by the answer inside: number 0 and line 0 if the call is accepted, and the refusal with zeros if it is not.
-use Rattle.std.specs.Prelude.{Bool, not, ℕ, eqb, Option, Some, None, Result, Ok, Err}
+use Rattle.std.specs.Prelude.{Bool, not, ℕ, min, eqb, Option, Some, None, Result, Ok, Err}
 use Rattle.common.specs.declared.Refusal.{Refusal}
 use Rattle.common.specs.Refusals.{reason_number}
 use Rattle.text.specs.declared.Estimate.{Estimate}
@@ -11,6 +11,7 @@ use Rattle.answers.specs.declared.Under.{Under}
 use Rattle.answers.specs.declared.Under.TheVariants.{Cell, Gap, Nothing}
 use Rattle.answers.specs.declared.Joint.{Joint}
 use Rattle.answers.specs.declared.Nested.{Nested}
+use Rattle.answers.specs.declared.Part.{Part}
 use Rattle.c_results.specs.declared.CheckResult.{CheckResult}
 use Rattle.c_results.specs.declared.MeasureResult.{MeasureResult}
 use Rattle.c_results.specs.declared.EstimatesResult.{EstimatesResult}
@@ -23,6 +24,7 @@ use Rattle.c_results.specs.declared.JoiningResult.{JoiningResult}
 use Rattle.c_results.specs.declared.WalkResult.{WalkResult}
 use Rattle.c_results.specs.declared.NestedResult.{NestedResult}
 use Rattle.c_results.specs.declared.WindowResult.{WindowResult}
+use Rattle.c_results.specs.declared.SpokenResult.{SpokenResult}
 
 -- 0 is text or svg, any other number img
 abbrev pub as_img : ℕ → Bool
@@ -80,3 +82,13 @@ nested_result (Err why) = record { number = reason_number why.reason; line = why
 unfoldable pub window_result : Result ℕ Refusal → WindowResult
 window_result (Ok count) = record { number = 0; line = 0; count = count }
 window_result (Err why) = record { number = reason_number why.reason; line = why.line; count = 0 }
+
+-- the largest length that is answer
+abbrev pub max_length : ℕ
+max_length = 4294967295
+
+-- the place and the length of a part of the sheet, or the length of the wording, as far as 32 bits say it
+unfoldable pub spoken_result : Result (Option Part) Refusal → ℕ → SpokenResult
+spoken_result (Ok (Some p)) wording = record { number = 0; line = 0; of_sheet = 1; from = p.from; length = p.length }
+spoken_result (Ok None) wording = record { number = 0; line = 0; of_sheet = 0; from = 0; length = min wording max_length }
+spoken_result (Err why) wording = record { number = reason_number why.reason; line = why.line; of_sheet = 0; from = 0; length = 0 }

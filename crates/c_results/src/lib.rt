@@ -3,9 +3,9 @@
 #![tactic(auto, unfolding(crate::specs::Answers::check_result, crate::specs::Answers::measure_result, crate::specs::Answers::estimates_result, crate::specs::Answers::grid_result, crate::specs::Answers::layout_result, crate::specs::Answers::missing_result, crate::specs::Answers::at_result, crate::specs::Answers::within_result, crate::specs::Answers::joining_result, crate::specs::Answers::walk_result, crate::specs::Answers::nested_result, crate::specs::Answers::window_result, answers::specs::Numbers::under_number))]
 
 ghost use Rattle.std.specs.Prelude.{◌≡◌};
-ghost use Rattle.c_results.specs.Answers.{as_img, check_result, measure_result, estimates_result, grid_result, layout_result, missing_result, at_result, within_result, joining_result, walk_result, nested_result, window_result};
+ghost use Rattle.c_results.specs.Answers.{as_img, check_result, measure_result, estimates_result, grid_result, layout_result, missing_result, at_result, within_result, joining_result, walk_result, nested_result, window_result, spoken_result};
 
-use answers::{Causes, Grid, Joint, Layout, Nested, Under};
+use answers::{Causes, Grid, Joint, Layout, Nested, Part, Under};
 use common::Refusal;
 use text::Estimate;
 
@@ -120,6 +120,21 @@ pub struct WindowResult {
     pub count: u32,
 }
 
+// of_sheet: 1 if the text is a part of the sheet, so long and from there on; 0 if it is the whole wording, from 0 on, and where the call is refused. A
+// wording may be longer than 32 bits say: then length is the largest number that they do.
+#[repr(C)]
+#[derive(Clone, Copy, Debug, Default, PartialEq, Eq)]
+pub struct SpokenResult {
+    pub number: u32,
+    pub line: u32,
+    pub of_sheet: u32,
+    pub from: u32,
+    pub length: u32,
+}
+
+// The largest length that is answer: `as`, since there is no `From` of a `u32` for a `usize`.
+const MAX_LENGTH: usize = u32::MAX as usize;
+
 // Whether a number says img: every one but 0 does.
 pub fn as_img(img: u32) -> bool
     ensures { result ≡ as_img img }
@@ -132,10 +147,10 @@ pub fn as_img(img: u32) -> bool
 
 // The answer of `check`.
 impl From<Result<(), Refusal>> for CheckResult {
-    ghost from_gives = { λ told r. r ≡ check_result told };
+    ghost from_gives = { λ answer r. r ≡ check_result answer };
 
-    fn from(told: Result<(), Refusal>) -> CheckResult {
-        match told {
+    fn from(answer: Result<(), Refusal>) -> CheckResult {
+        match answer {
             Ok(()) => CheckResult::default(),
             Err(why) => CheckResult {
                 number: why.reason.number(),
@@ -147,10 +162,10 @@ impl From<Result<(), Refusal>> for CheckResult {
 
 // The answer of `measure`.
 impl From<Result<Estimate, Refusal>> for MeasureResult {
-    ghost from_gives = { λ told r. r ≡ measure_result told };
+    ghost from_gives = { λ answer r. r ≡ measure_result answer };
 
-    fn from(told: Result<Estimate, Refusal>) -> MeasureResult {
-        match told {
+    fn from(answer: Result<Estimate, Refusal>) -> MeasureResult {
+        match answer {
             Ok(e) => MeasureResult {
                 size: e.size,
                 least: e.least,
@@ -168,10 +183,10 @@ impl From<Result<Estimate, Refusal>> for MeasureResult {
 
 // The answer of `estimates`.
 impl From<Result<u32, Refusal>> for EstimatesResult {
-    ghost from_gives = { λ told r. r ≡ estimates_result told };
+    ghost from_gives = { λ answer r. r ≡ estimates_result answer };
 
-    fn from(told: Result<u32, Refusal>) -> EstimatesResult {
-        match told {
+    fn from(answer: Result<u32, Refusal>) -> EstimatesResult {
+        match answer {
             Ok(lines) => EstimatesResult {
                 lines,
                 ..Default::default()
@@ -187,10 +202,10 @@ impl From<Result<u32, Refusal>> for EstimatesResult {
 
 // The answer of `grid`.
 impl From<Result<Grid, Refusal>> for GridResult {
-    ghost from_gives = { λ told r. r ≡ grid_result told };
+    ghost from_gives = { λ answer r. r ≡ grid_result answer };
 
-    fn from(told: Result<Grid, Refusal>) -> GridResult {
-        match told {
+    fn from(answer: Result<Grid, Refusal>) -> GridResult {
+        match answer {
             Ok(grid) => GridResult {
                 rows: grid.rows,
                 entries: grid.entries,
@@ -208,10 +223,10 @@ impl From<Result<Grid, Refusal>> for GridResult {
 
 // The answer of `layout`.
 impl From<Result<Layout, Refusal>> for LayoutResult {
-    ghost from_gives = { λ told r. r ≡ layout_result told };
+    ghost from_gives = { λ answer r. r ≡ layout_result answer };
 
-    fn from(told: Result<Layout, Refusal>) -> LayoutResult {
-        match told {
+    fn from(answer: Result<Layout, Refusal>) -> LayoutResult {
+        match answer {
             Ok(layout) => LayoutResult {
                 way: layout.way.number(),
                 columns: layout.columns,
@@ -229,10 +244,10 @@ impl From<Result<Layout, Refusal>> for LayoutResult {
 
 // The answer of `missing`.
 impl From<Result<Causes, Refusal>> for MissingResult {
-    ghost from_gives = { λ told r. r ≡ missing_result told };
+    ghost from_gives = { λ answer r. r ≡ missing_result answer };
 
-    fn from(told: Result<Causes, Refusal>) -> MissingResult {
-        match told {
+    fn from(answer: Result<Causes, Refusal>) -> MissingResult {
+        match answer {
             Ok(causes) => MissingResult {
                 count: causes.count,
                 columns: causes.columns,
@@ -249,10 +264,10 @@ impl From<Result<Causes, Refusal>> for MissingResult {
 
 // The answer of `at`.
 impl From<Result<Under<u32>, Refusal>> for AtResult {
-    ghost from_gives = { λ told r. r ≡ at_result told };
+    ghost from_gives = { λ answer r. r ≡ at_result answer };
 
-    fn from(told: Result<Under<u32>, Refusal>) -> AtResult {
-        match told {
+    fn from(answer: Result<Under<u32>, Refusal>) -> AtResult {
+        match answer {
             Ok(Under::Cell(entry)) => AtResult {
                 what: 2,
                 entry,
@@ -274,10 +289,10 @@ impl From<Result<Under<u32>, Refusal>> for AtResult {
 
 // The answer of `within`.
 impl From<Result<u32, Refusal>> for WithinResult {
-    ghost from_gives = { λ told r. r ≡ within_result told };
+    ghost from_gives = { λ answer r. r ≡ within_result answer };
 
-    fn from(told: Result<u32, Refusal>) -> WithinResult {
-        match told {
+    fn from(answer: Result<u32, Refusal>) -> WithinResult {
+        match answer {
             Ok(count) => WithinResult {
                 count,
                 ..Default::default()
@@ -293,10 +308,10 @@ impl From<Result<u32, Refusal>> for WithinResult {
 
 // The answer of `joining`.
 impl From<Result<Joint, Refusal>> for JoiningResult {
-    ghost from_gives = { λ told r. r ≡ joining_result told };
+    ghost from_gives = { λ answer r. r ≡ joining_result answer };
 
-    fn from(told: Result<Joint, Refusal>) -> JoiningResult {
-        match told {
+    fn from(answer: Result<Joint, Refusal>) -> JoiningResult {
+        match answer {
             Ok(joint) => JoiningResult {
                 joint: joint.number(),
                 ..Default::default()
@@ -312,10 +327,10 @@ impl From<Result<Joint, Refusal>> for JoiningResult {
 
 // The answer of `walk`.
 impl From<Result<u32, Refusal>> for WalkResult {
-    ghost from_gives = { λ told r. r ≡ walk_result told };
+    ghost from_gives = { λ answer r. r ≡ walk_result answer };
 
-    fn from(told: Result<u32, Refusal>) -> WalkResult {
-        match told {
+    fn from(answer: Result<u32, Refusal>) -> WalkResult {
+        match answer {
             Ok(lines) => WalkResult {
                 lines,
                 ..Default::default()
@@ -331,10 +346,10 @@ impl From<Result<u32, Refusal>> for WalkResult {
 
 // The answer of `nested`.
 impl From<Result<Option<Nested>, Refusal>> for NestedResult {
-    ghost from_gives = { λ told r. r ≡ nested_result told };
+    ghost from_gives = { λ answer r. r ≡ nested_result answer };
 
-    fn from(told: Result<Option<Nested>, Refusal>) -> NestedResult {
-        match told {
+    fn from(answer: Result<Option<Nested>, Refusal>) -> NestedResult {
+        match answer {
             Ok(Some(nested)) => NestedResult {
                 given: 1,
                 at: nested.at,
@@ -355,15 +370,41 @@ impl From<Result<Option<Nested>, Refusal>> for NestedResult {
 
 // The answer of `window`.
 impl From<Result<u32, Refusal>> for WindowResult {
-    ghost from_gives = { λ told r. r ≡ window_result told };
+    ghost from_gives = { λ answer r. r ≡ window_result answer };
 
-    fn from(told: Result<u32, Refusal>) -> WindowResult {
-        match told {
+    fn from(answer: Result<u32, Refusal>) -> WindowResult {
+        match answer {
             Ok(count) => WindowResult {
                 count,
                 ..Default::default()
             },
             Err(why) => WindowResult {
+                number: why.reason.number(),
+                line: why.line,
+                ..Default::default()
+            },
+        }
+    }
+}
+
+impl SpokenResult {
+    // The answer of `spoken`, by the length of the wording. No `From`: the length is a second value.
+    #[tactic(auto, unfolding(crate::specs::Answers::spoken_result))]
+    pub fn of(answer: Result<Option<Part>, Refusal>, wording: usize) -> SpokenResult
+        ensures { result ≡ spoken_result answer wording }
+    {
+        match answer {
+            Ok(Some(part)) => SpokenResult {
+                of_sheet: 1,
+                from: part.from,
+                length: part.length,
+                ..Default::default()
+            },
+            Ok(None) => SpokenResult {
+                length: wording.min(MAX_LENGTH) as u32,
+                ..Default::default()
+            },
+            Err(why) => SpokenResult {
                 number: why.reason.number(),
                 line: why.line,
                 ..Default::default()

@@ -11,7 +11,7 @@ use sheet_load::{FEW_LINES, MANY_LINES, SMALL_LINES};
 use text::Estimate;
 
 // What reading a sheet and checking its tables answers, in arrays of L lines. It is never taken into its caller's
-// frame: so a small sheet does not pay for the room of a large one.
+// frame: so a small sheet does not pay for the arrays of a large one.
 #[inline(never)]
 fn check_in<const L: usize>(sheet: &[u8]) -> Result<usize, Refusal>
     requires capacity { line_bound sheet.now ≤ L }

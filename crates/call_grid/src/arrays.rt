@@ -12,7 +12,7 @@ use common::{MAX_ENTRIES, MAX_LINES, Refusal};
 use sheet_load::{FEW_LINES, MANY_LINES, SMALL_LINES};
 
 // The grid of the table in a line of a sheet, in arrays of L lines and rows and E entries; none, if they do not suffice for the sheet's tables. `row` is scratch
-// until it is written. It is never taken into its caller's frame: so a small sheet does not pay for the room of a large one.
+// until it is written. It is never taken into its caller's frame: so a small sheet does not pay for the arrays of a large one.
 #[inline(never)]
 fn grid_in<const L: usize, const E: usize>(
     sheet: &[u8],

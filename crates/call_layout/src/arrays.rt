@@ -16,7 +16,7 @@ use table_layout::MeasuredTable;
 
 // The layout of the table in a line of a sheet, in arrays of L lines, estimates and rows and E entries; none, if they do not suffice for the sheet's
 // tables. `column` is scratch until it is written. It is never taken into its caller's frame: so a small sheet does
-// not pay for the room of a large one.
+// not pay for the arrays of a large one.
 #[inline(never)]
 fn layout_in<const L: usize, const E: usize>(
     sheet: &[u8],

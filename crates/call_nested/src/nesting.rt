@@ -36,7 +36,7 @@ fn nest(
     Some(Nested { at, layout })
 }
 
-// That of the table in a line of a sheet. The columns' widths are written last, and until then their buffer is room to work in.
+// That of the table in a line of a sheet. The columns' widths are written last, and until then their buffer is scratch.
 // The arrays are declared here: no function can hand out slices of its own.
 fn nest_sheet(
     sheet: &[u8],

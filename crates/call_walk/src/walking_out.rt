@@ -31,7 +31,7 @@ fn write_widths(walk: &[Option<u32>], given: &mut [u32], wide: &mut [u32])
     common::write_front(walk, |w| width_number(*w), wide);
 }
 
-// The walk of a sheet. The first buffer is written last, and until then it is room to work in.
+// The walk of a sheet. The first buffer is written last, and until then it is scratch.
 // The arrays are declared here: no function can hand out slices of its own.
 fn walk_out(
     sheet: &[u8],

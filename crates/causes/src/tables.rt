@@ -29,7 +29,7 @@ fn causes_by(
     crate::write_causes(width, sizes, shares, column, cause);
 }
 
-// The causes of any number of columns. The room is cleared with each call. The four arrays are cut here, as the two of `lay_sized` are, and not by one
+// The causes of any number of columns. The scratch is cleared with each call. The four arrays are cut here, as the two of `lay_sized` are, and not by one
 // function with a closure: that would ask of it that it may be called with slices so long, and promise again what it leaves.
 fn tell_causes(entries: &[Entry], figures: &[Estimate], raw: u32, width: u32, cause: &mut [u32])
     requires entered { Entered entries.now figures.now (length cause.old) }

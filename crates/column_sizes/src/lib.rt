@@ -1,4 +1,4 @@
-// The figures of a table's columns, from the records of its entries and of the estimates, and the columns laid out, with room of two sizes.
+// The figures of a table's columns, from the records of its entries and of the estimates, and the columns laid out, with scratch of two sizes.
 // raw and width are two parameters, as the definitions have them, and raw a number. Sizes and leasts are a slice each, as there is a list of each.
 // `as` where a line becomes a `usize`, for which there is no `From`.
 #![tactic(auto)]
@@ -16,7 +16,7 @@ use widths::Laid;
 
 const FEW_COLUMNS: usize = 64;
 
-// The figures of the cell in a line: lines are counted from 1. A filler, whose line is 0, takes no room whatever it continues.
+// The figures of the cell in a line: lines are counted from 1. A filler, whose line is 0, takes no width whatever it continues.
 fn figures_of(figures: &[Estimate], cell: u32) -> Estimate
     requires { cell ≤ length figures.now }
     ensures { result ≡ figure_at figures.now cell }
@@ -64,7 +64,7 @@ fn lay_in(
     widths::lay_columns(sizes, leasts, raw, width, column)
 }
 
-// The same in room of N places of its own. The arrays are cut here, two of them, and in `causes` four: one function that makes and cuts them would ask
+// The same in scratch of N places of its own. The arrays are cut here, two of them, and in `causes` four: one function that makes and cuts them would ask
 // of a closure that it may be called with slices so long, and promise again what it leaves.
 fn lay_sized<const N: usize>(
     entries: &[Entry],
@@ -92,7 +92,7 @@ fn lay_sized<const N: usize>(
     )
 }
 
-// Lays out a table's columns. The room is cleared with each call, and for few columns a short one does.
+// Lays out a table's columns. The scratch is cleared with each call, and for few columns a short one does.
 pub fn lay_columns(
     entries: &[Entry],
     figures: &[Estimate],

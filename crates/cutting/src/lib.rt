@@ -1,6 +1,6 @@
 // Cutting widths until they fit: one by one where little is to be cut, else by one level.
 // leasts and shares stand in a slice each, as the definitions have a list of each: the shares are cut in place against the leasts.
-// `as` where a number of columns, a place or a room is known to fit the other type: a `TryFrom` would never fail.
+// `as` where a number of columns, a place or a capacity is known to fit the other type: a `TryFrom` would never fail.
 #![tactic(auto)]
 
 ghost use Rattle.std.specs.Prelude.{◌≡◌, ◌||◌, ◌&&◌, ◌+◌, ◌-◌, ◌≤◌, ◌<◌, ltb, eqb, length};
@@ -59,7 +59,7 @@ fn pick_column(leasts: &[u32], wide: &[u32]) -> usize
     best
 }
 
-// The loop of `render_table_tree` that takes one character at a time until the widths, whose sum is given, fit the room beside their gaps.
+// The loop of `render_table_tree` that takes one character at a time until the widths, whose sum is given, fit the capacity beside their gaps.
 fn cut_one_by_one(leasts: &[u32], capacity: u64, all: u64, wide: &mut [u32])
     requires holds_leasts { HoldsLeasts leasts.now wide.old capacity }
     requires summed { Summed wide.old all }
@@ -94,7 +94,7 @@ fn width_at(i: usize, least: u32, share: u32, level: u32, bound: u64) -> u32
     least + level
 }
 
-// Columns whose shares overflow the room: the least and the share of each, and the room without the gaps.
+// Columns whose shares overflow the capacity: the least and the share of each, and the capacity without the gaps.
 #[derive(Clone, Copy)]
 struct Tight<'a> {
     leasts: &'a [u32],
@@ -117,7 +117,7 @@ impl Tight<'_> {
             .sum()
     }
 
-    // The level, by halving: at lo nothing overflows the room, above hi something does. No level above the room fits it.
+    // The level, by halving: at lo nothing overflows the capacity, above hi something does. No level above the capacity fits it.
     fn level(&self) -> u32
         ensures { result ≡ level_of self.now.leasts.now self.now.shares.now (self.now.capacity + gaps (length self.now.shares.now)) }
     {
@@ -135,7 +135,7 @@ impl Tight<'_> {
         lo
     }
 
-    // The bound at which the widths fill the room, by halving. From one bound to the next at most one column has one more, so none is skipped.
+    // The bound at which the widths fill the capacity, by halving. From one bound to the next at most one column has one more, so none is skipped.
     fn bound(&self, level: u32) -> u64
         requires { level ≡ level_of self.now.leasts.now self.now.shares.now (self.now.capacity + gaps (length self.now.shares.now)) }
         ensures { sum (filled self.now.leasts.now self.now.shares.now level result) ≡ self.now.capacity }
@@ -143,7 +143,7 @@ impl Tight<'_> {
         let full = u64::from(self.capacity);
         let mut lo: u64 = 0;
         let mut hi = full * 4096 + 4096;
-        // A while: it halves too, and it can end where the room is met.
+        // A while: it halves too, and it can end where the capacity is met.
         while lo + 1 < hi {
             let mid = lo + (hi - lo) / 2;
             let t = self.total_at(level, mid);
@@ -169,7 +169,7 @@ fn fill_widths(leasts: &[u32], level: u32, bound: u64, wide: &mut [u32])
     }
 }
 
-// The widths by the level, where the shares overflow the room: a number of looks at the columns that does not grow with what is to be cut.
+// The widths by the level, where the shares overflow the capacity: a number of looks at the columns that does not grow with what is to be cut.
 fn cut_by_level(leasts: &[u32], capacity: u32, wide: &mut [u32])
     requires holds_leasts { HoldsLeasts leasts.now wide.old capacity }
     requires room_bound { capacity < sum wide.old }

@@ -18,7 +18,7 @@ use Rattle.resolved_rows.specs.Cells.{bodies_of, fill_body, resolved}
 use Rattle.resolved_rows.specs.Cells as cells
 use Rattle.resolved_rows.specs.Facts.{Ending}
 use Rattle.resolved_rows.proofs.Facts.{filled_rows}
-use Rattle.grid_positions.specs.Positions.{Row, hang_below, all_rows, ends_past, entry_count}
+use Rattle.grid_positions.specs.Positions.{PositionRow, hang_below, all_rows, ends_past, entry_count}
 use Rattle.grid_positions.proofs.Bodies.{table_none, rows_same}
 use Rattle.grid.specs.Grid.{is_column_edge, ends_of, grid_row, longest, grid_of, columns_of, table_checks, tables_checks}
 use Rattle.grid.specs.Before.{resolved_before, extras_in, extras, extra_rows, grid_before, columns_before, checks_before, tables_before, AllEnding}
@@ -48,19 +48,19 @@ module _ (bs : List (List cells.Row)) (e : All Ending bs) where
   pub grid_same : grid_before (resolved_before bs) ≡ grid_of (resolved bs)
   unfolding grid_before grid_of
   grid_same =
-      ap₂ (λ (rs qs : List Row). map (grid_row rs) (rs ++ qs)) rows_before none_before
+      ap₂ (λ (rs qs : List PositionRow). map (grid_row rs) (rs ++ qs)) rows_before none_before
       ∙ ap (map (grid_row (all_rows (resolved bs)))) (append-nil (all_rows (resolved bs)))
 
   pub columns_same : columns_before (resolved_before bs) ≡ columns_of (resolved bs)
   unfolding columns_before columns_of
-  columns_same = ap (λ (rs : List Row). longest rs rs) rows_before
+  columns_same = ap (λ (rs : List PositionRow). longest rs rs) rows_before
 
   pub checks_same : (t : ℕ) (rest : List Check) → verdict_of (checks_before t (resolved_before bs) ++ rest) ≡ verdict_of (table_checks t (resolved bs) ++ rest)
   unfolding verdict_of first_answer checks_before table_checks ends_of all_at
   checks_same t rest =
-      ap₂ (λ (rs qs : List Row). first_answer Err (Ok tt)
+      ap₂ (λ (rs qs : List PositionRow). first_answer Err (Ok tt)
       (check (ends_past rs) RowEnd t ∷ check (ltb max_entries (entry_count (rs ++ qs))) TooManyEntries t ∷ check (not (all_at (is_column_edge rs) (ends_of qs))) ColumnEdge t ∷ rest)) rows_before none_before
-      ∙ ap (λ (rs : List Row). first_answer Err (Ok tt) (check (ends_past (all_rows (resolved bs))) RowEnd t ∷ check (ltb max_entries (entry_count rs)) TooManyEntries t ∷ rest)) (append-nil (all_rows (resolved bs)))
+      ∙ ap (λ (rs : List PositionRow). first_answer Err (Ok tt) (check (ends_past (all_rows (resolved bs))) RowEnd t ∷ check (ltb max_entries (entry_count rs)) TooManyEntries t ∷ rest)) (append-nil (all_rows (resolved bs)))
 
 -- ---- every table of a sheet
 

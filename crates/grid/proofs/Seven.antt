@@ -12,14 +12,14 @@ use Rattle.column_edges.specs.inner.Edges.{rows_ends}
 use Rattle.std.specs.Prelude.{Option, Some, None}
 use Rattle.column_edges.proofs.Columns.{all_mem}
 use Rattle.resolved_rows.specs.Cells as cells
-use Rattle.grid_positions.specs.Positions.{Row, all_rows}
+use Rattle.grid_positions.specs.Positions.{PositionRow, all_rows}
 use Rattle.grid.specs.Grid.{is_column_edge, ends_of}
 use Rattle.grid.specs.inner.Numbering.{most_columns, numbered_rows, RowsNumbered}
 use Rattle.grid.specs.inner.Placing.{edge_of_rows}
 use Rattle.common.proofs.Tests.{or_right}
 
 -- the entries of rows end at their own edges
-own_edges : (rs : List Row) → all_at (is_column_edge rs) (ends_of rs) ≡ true
+own_edges : (rs : List PositionRow) → all_at (is_column_edge rs) (ends_of rs) ≡ true
 unfolding mem
 own_edges rs = all_mem (is_column_edge rs) (ends_of rs) (λ q e. or_right (eqb q 0) (mem q (ends_of rs)) e)
 

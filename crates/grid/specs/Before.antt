@@ -12,7 +12,7 @@ use Rattle.resolved_rows.specs.Cells.{bodies_of, fill_body}
 use Rattle.resolved_rows.specs.Cells as cells
 use Rattle.resolved_rows.specs.Facts.{Ending}
 use Rattle.grid_row.specs.Row.{Item, item, nexts}
-use Rattle.grid_positions.specs.Positions.{Row, row, originals, hang_below, ends_past, entry_count}
+use Rattle.grid_positions.specs.Positions.{PositionRow, row, originals, hang_below, ends_past, entry_count}
 use Rattle.grid.specs.Grid.{GridRow, is_column_edge, ends_of, grid_row, longest}
 
 -- all bodies' rows in order, their cols alone resolved
@@ -31,20 +31,20 @@ lowered n x = item x.owner x.filler (x.left - (n - 1)) x.pos x.span
 
 -- extra rows held only fillers, packed from 0; each took the smallest remaining count off all, until none hung. Each ended at least one that hung,
 -- so there were at most as many as hung: the first argument
-unfoldable pub extras_in : ℕ → List Item → List Row
+unfoldable pub extras_in : ℕ → List Item → List PositionRow
 extras_in zero hs = []
 extras_in (suc k) [] = []
 extras_in (suc k) (h ∷ hs) =
     row 0 (map (lowered (least_left h hs)) (h ∷ hs)) ∷ extras_in k (nexts (map (lowered (least_left h hs)) (h ∷ hs)))
 
-unfoldable pub extras : List Item → List Row
+unfoldable pub extras : List Item → List PositionRow
 extras hs = extras_in (length hs) hs
 
 -- the original rows, and the extra rows of what hung below the last
-abbrev pub original_rows : List cells.Row → List Row
+abbrev pub original_rows : List cells.Row → List PositionRow
 original_rows table = originals [] table
 
-abbrev pub extra_rows : List cells.Row → List Row
+abbrev pub extra_rows : List cells.Row → List PositionRow
 extra_rows table = extras (hang_below [] table)
 
 -- the grid and its columns: the edges were those of the original rows

@@ -64,7 +64,7 @@ fn end_of(lines: &[NodeRecord], at: usize) -> usize
         .map_or(lines.len(), |k| at + 1 + k)
 }
 
-// The grid of a table in room that does for it: for its cells, for what hangs into a row, and for what hangs into the next.
+// The grid of a table in scratch that does for it: for its cells, for what hangs into a row, and for what hangs into the next.
 fn make_in(
     lines: &[NodeRecord],
     at: usize,
@@ -88,7 +88,7 @@ fn make_in(
 }
 
 // The grid of a table in arrays for L lines: of three numbers and of a record for each. It is never taken into its caller's frame: so a small table
-// does not pay for the room of a large one. Three arrays of L numbers are lent as one slice, since the language has no computed const argument; L
+// does not pay for the arrays of a large one. Three arrays of L numbers are lent as one slice, since the language has no computed const argument; L
 // arrays of three would be filled one by one, which takes up to 55 % more instructions.
 #[inline(never)]
 fn make_sized<const L: usize>(

@@ -44,10 +44,10 @@ unfolding nexts hang_of
 none_hang p [] = refl
 none_hang p (c ∷ cs) = none_hang (p + 1) cs
 
-abbrev placed_row : Row → positions.Row
+abbrev placed_row : Row → positions.PositionRow
 placed_row r = positions.row r.line (items 0 r.cells)
 
-abbrev placed_rows : List Row → List positions.Row
+abbrev placed_rows : List Row → List positions.PositionRow
 placed_rows rs = map placed_row rs
 
 rows_placed : (rs : List Row) → PlainTable rs → all_rows rs ≡ placed_rows rs
@@ -56,7 +56,7 @@ rows_placed [] h = refl
 rows_placed (r ∷ rs) h =
     ap (λ (l : List Item). positions.row r.line l ∷ originals (nexts l) rs) (row_items 0 r.cells h.0)
     ∙ ap (λ (l : List Item). placed_row r ∷ originals l rs) (none_hang 0 r.cells)
-    ∙ ap (λ (l : List positions.Row). placed_row r ∷ l) (rows_placed rs h.1)
+    ∙ ap (λ (l : List positions.PositionRow). placed_row r ∷ l) (rows_placed rs h.1)
 
 -- ---- the edges: every position up to the end of the longest row
 
@@ -135,6 +135,6 @@ longest_plain rs (q ∷ qs) h =
 pub plain_grid_lem : (rs : List Row) → PlainTable rs → IsPlainGrid rs
 unfolding grid_of columns_of plain_grid
 plain_grid_lem rs h = record {
-  grid = ap (λ (l : List positions.Row). map (grid_row l) l) (rows_placed rs h) ∙ grid_plain rs rs (omega arith);
-  columns = ap (λ (l : List positions.Row). longest l l) (rows_placed rs h) ∙ longest_plain rs rs (omega arith);
+  grid = ap (λ (l : List positions.PositionRow). map (grid_row l) l) (rows_placed rs h) ∙ grid_plain rs rs (omega arith);
+  columns = ap (λ (l : List positions.PositionRow). longest l l) (rows_placed rs h) ∙ longest_plain rs rs (omega arith);
 }

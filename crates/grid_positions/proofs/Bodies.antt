@@ -21,7 +21,7 @@ use Rattle.resolved_rows.specs.Facts.{Ending}
 use Rattle.resolved_rows.proofs.Facts.{body_ends, filled_rows, resolved_same}
 use Rattle.grid_row.specs.Row.{Item, item_of, nexts}
 use Rattle.grid_row.proofs.Merging.{Filler, Hangs, row_each, nexts_each, nexts_fillers, nexts_hang}
-use Rattle.grid_positions.specs.Positions.{Row, row, originals, hang_below, all_rows}
+use Rattle.grid_positions.specs.Positions.{PositionRow, row, originals, hang_below, all_rows}
 use Rattle.grid_positions.proofs.Written.{written}
 use Rattle.grid_positions.proofs.TableFacts.{entries, owner_of, entries_owners}
 
@@ -66,7 +66,7 @@ below_append hs (r ∷ rs) ss = below_append (nexts (entries hs r)) rs ss
 pub originals_append : (hs : List Item) (rs ss : List cells.Row) → originals hs (rs ++ ss) ≡ originals hs rs ++ originals (hang_below hs rs) ss
 unfolding originals hang_below
 originals_append hs [] ss = refl
-originals_append hs (r ∷ rs) ss = ap (λ (l : List Row). row r.line (entries hs r) ∷ l) (originals_append (nexts (entries hs r)) rs ss)
+originals_append hs (r ∷ rs) ss = ap (λ (l : List PositionRow). row r.line (entries hs r) ∷ l) (originals_append (nexts (entries hs r)) rs ss)
 
 -- nothing hangs below a table: extra rows never arise
 pub table_none : (bs : List (List cells.Row)) → hang_below [] (resolved bs) ≡ []
@@ -75,11 +75,11 @@ table_none [] = refl
 table_none (b ∷ bs) = below_append [] (resolve_body b) (resolved bs) ∙ ap (λ (hs : List Item). hang_below hs (resolved bs)) (body_none b) ∙ table_none bs
 
 -- the rows of each body, one body after the other
-unfoldable pub body_rows : List (List cells.Row) → List (List Row)
+unfoldable pub body_rows : List (List cells.Row) → List (List PositionRow)
 body_rows [] = []
 body_rows (b ∷ bs) = all_rows (resolve_body b) ∷ body_rows bs
 
-unfoldable pub together : List (List Row) → List Row
+unfoldable pub together : List (List PositionRow) → List PositionRow
 together [] = []
 together (rs ∷ rss) = rs ++ together rss
 
@@ -89,12 +89,12 @@ unfolding resolved originals body_rows together
 rows_together [] = refl
 rows_together (b ∷ bs) =
     originals_append [] (resolve_body b) (resolved bs) ∙ ap (λ (hs : List Item). all_rows (resolve_body b) ++ originals hs (resolved bs)) (body_none b)
-    ∙ ap (λ (l : List Row). all_rows (resolve_body b) ++ l) (rows_together bs)
+    ∙ ap (λ (l : List PositionRow). all_rows (resolve_body b) ++ l) (rows_together bs)
 
 -- ---- a filler's owner
 
 -- every filler's owner is one of the cells of the rows before it; `above` are the lines of those before the first row
-abbrev pub Owned : List ℕ → List Row → Type 0
+abbrev pub Owned : List ℕ → List PositionRow → Type 0
 Owned above [] = Unit {0}
 Owned above (r ∷ rs) = All (λ x. Filler x → mem x.owner above ≡ true) r.items × Owned (map owner_of (written r.items) ++ above) rs
 
@@ -162,11 +162,11 @@ rows_same bs e =
 
 -- ---- the same by place: a filler of the row at place i, and a cell of the row at a place before i
 
-abbrev no_row : Row
+abbrev no_row : PositionRow
 no_row = row 0 []
 
 -- a cell of a row before row i has this owner's line
-pub record Earlier (rs : List Row) (i owner : ℕ) : Type 0 where
+pub record Earlier (rs : List PositionRow) (i owner : ℕ) : Type 0 where
   pub place : ℕ
   pub before : place < i
   pub there : mem owner (map owner_of (written (get_or rs place no_row).items)) ≡ true
@@ -180,7 +180,7 @@ mem_split x (y ∷ xs) ys e = go (eqb x y) (mem_split x xs ys) e
     go true ih h = inl refl
     go false ih h = ih h
 
-earlier_found : (r : Row) (rs : List Row) (i o : ℕ) (above : List ℕ) → (mem o (map owner_of (written r.items) ++ above) ≡ true) ⊎ Earlier rs i o → (mem o above ≡ true) ⊎ Earlier (r ∷ rs) (suc i) o
+earlier_found : (r : PositionRow) (rs : List PositionRow) (i o : ℕ) (above : List ℕ) → (mem o (map owner_of (written r.items) ++ above) ≡ true) ⊎ Earlier rs i o → (mem o above ≡ true) ⊎ Earlier (r ∷ rs) (suc i) o
 earlier_found r rs i o above (inl h) = by (mem_split o (map owner_of (written r.items)) above h)
   where
     by : (mem o (map owner_of (written r.items)) ≡ true) ⊎ (mem o above ≡ true) → (mem o above ≡ true) ⊎ Earlier (r ∷ rs) (suc i) o
@@ -188,7 +188,7 @@ earlier_found r rs i o above (inl h) = by (mem_split o (map owner_of (written r.
     by (inr m) = inl m
 earlier_found r rs i o above (inr e) = inr (record { place = suc e.place; before = omega (arith, e.before); there = e.there })
 
-owned_at : (above : List ℕ) (rs : List Row) → Owned above rs → (i : ℕ) → i < length rs
+owned_at : (above : List ℕ) (rs : List PositionRow) → Owned above rs → (i : ℕ) → i < length rs
     → All (λ x. Filler x → (mem x.owner above ≡ true) ⊎ Earlier rs i x.owner) (get_or rs i no_row).items
 owned_at above [] w i h = absurd (not-suc-le-zero h)
 owned_at above (r ∷ rs) w zero h = all_weaken (Shown above) (λ x. Filler x → (mem x.owner above ≡ true) ⊎ Earlier (r ∷ rs) 0 x.owner) (λ x s f. inl (s f)) r.items w.0

@@ -25,7 +25,7 @@ use Rattle.grid_row.proofs.Steps.{nexts_length}
 use Rattle.grid_row.proofs.Merging.{Filler, row_length, nexts_fillers}
 use Rattle.grid_row.proofs.Owners.{bare, Slices, row_lines, row_spans, row_nexts}
 use Rattle.grid_positions.proofs.Thirds.{Front}
-use Rattle.grid_positions.specs.Positions.{Row, row, originals, all_rows, ends_past, entry_count}
+use Rattle.grid_positions.specs.Positions.{PositionRow, row, originals, all_rows, ends_past, entry_count}
 use Rattle.resolved_rows.specs.inner.Spans.{part}
 use Rattle.grid_row.specs.inner.Overhangs.{lefts_in, ats_in, wides_in}
 use Rattle.grid_positions.specs.inner.Slices.{cells_in, table_of, Rising, all_items, entry_ends, over_at, row_at, OneRowPost, OneRowPre, Stored, PositionRowsPre, PositionRowsPost}
@@ -70,7 +70,7 @@ pub record Bounds (lines ends l₀ s₀ e₀ left₀ at₀ wide₀ nl₀ na₀ n
 -- of the rows, whatever their lines are: `done` are those so far, hs hang into the next, and they go on as
 -- the original rows from there
 pub record Sofar (lines spans rows ends rl l₀ s₀ e₀ l s e left at wide : List ℕ) (first r n k : ℕ) : Type 0 where
-  pub done : List Row
+  pub done : List PositionRow
   pub hs : List Item
   pub is : done ++ originals hs (table_of lines spans rows (drop r rl) first (drop r ends)) ≡ originals [] (table_of lines spans rows rl 0 ends)
   pub ends_in : ends_past (originals hs (table_of lines spans rows (drop r rl) first (drop r ends))) ≡ false
@@ -162,8 +162,8 @@ module _ {lines spans rows ends l₀ s₀ e₀ left₀ at₀ wide₀ nl₀ na₀
         rows_are = is ∙ sym (table_count lines spans rows rl 0 ends);
         entries_are = z.entries_are ∙ ap entry_count all_rows_lem;
         positioned = record {
-          stored = subst (λ (rs : List Row). Stored (all_items rs) l₀ s₀ l s) all_rows_lem z.stored;
-          ends = z.ends_are ∙ ap (λ (rs : List Row). over (entry_ends 0 rs) e₀) all_rows_lem;
+          stored = subst (λ (rs : List PositionRow). Stored (all_items rs) l₀ s₀ l s) all_rows_lem z.stored;
+          ends = z.ends_are ∙ ap (λ (rs : List PositionRow). over (entry_ends 0 rs) e₀) all_rows_lem;
         };
       }
 
@@ -319,7 +319,7 @@ module _ {lines spans rows ends l₀ s₀ e₀ left₀ at₀ wide₀ nl₀ na₀
               record {
                 done = z.done ++ (row line R ∷ []);
                 hs = nexts R;
-                is = append_assoc z.done (row line R ∷ []) (originals (nexts R) rest) ∙ ap (λ (rs : List Row). z.done ++ rs) (sym next) ∙ z.is;
+                is = append_assoc z.done (row line R ∷ []) (originals (nexts R) rest) ∙ ap (λ (rs : List PositionRow). z.done ++ rs) (sym next) ∙ z.is;
                 ends_in = past_later z.hs (cells.row line C) rest row_ends_fits ∙ ap (λ (x : List cells.Row). ends_past (originals z.hs x)) (sym here) ∙ z.ends_in;
                 rows_are = omega (arith, z.rows_are, length-append z.done (row line R ∷ []));
                 entries_are = omega (arith, z.entries_are, count_more);

@@ -19,7 +19,7 @@ use Rattle.resolved_rows.specs.inner.Listed.{all_cells}
 use Rattle.grid_row.specs.Row.{Item, item_of, items_end, row_from, nexts}
 use Rattle.grid_row.proofs.Steps.{nexts_length}
 use Rattle.grid_row.proofs.Merging.{Wide, Filler, Ascends, row_length, row_wide, nexts_wide, nexts_fillers, row_ascends, nexts_ascends}
-use Rattle.grid_positions.specs.Positions.{Row, originals, all_rows, ends_past, entry_count}
+use Rattle.grid_positions.specs.Positions.{PositionRow, originals, all_rows, ends_past, entry_count}
 use Rattle.grid_positions.specs.inner.Slices.{placed_line, all_items}
 use Rattle.grid_positions.proofs.Written.{written, unplaced, NoFiller, written_append, row_written}
 
@@ -83,7 +83,7 @@ rows_wide table f = originals_wide [] table tt f
 
 -- ---- where they end
 
-pub not_past : (rs : List Row) → ends_past rs ≡ false → All (λ r. items_end r.items ≤ max_position) rs
+pub not_past : (rs : List PositionRow) → ends_past rs ≡ false → All (λ r. items_end r.items ≤ max_position) rs
 unfolding All ends_past
 not_past [] p = tt
 not_past (r ∷ rs) p = go (ltb max_position (items_end r.items)) refl (not_past rs)

@@ -20,7 +20,7 @@ use Rattle.resolved_rows.specs.inner.Held.{cells_of as held_cells}
 use Rattle.resolved_rows.proofs.Figures.{length_figures, figure_at_lem}
 use Rattle.grid_row.specs.declared.Overhang.{Overhang}
 use Rattle.grid_row.specs.inner.Overhangs.{overhang_in}
-use Rattle.grid_row.specs.Row.{Item, item, item_span, items_end, hangs, row_from, hang_of, nexts}
+use Rattle.grid_row.specs.Row.{Item, item, item_span, items_end, rows_below, row_from, hang_of, nexts}
 use Rattle.grid_row.specs.inner.Row.{item_line, item_left, item_pos, cells_of, hanging, due_at, Written, MergeRowPre, PutPost}
 use Rattle.grid_row.proofs.Steps.{due_none, due_some, nexts_snoc, nexts_length, end_append, row_due, row_free, row_first, cells_length, cells_cut, hanging_length, hanging_cut}
 
@@ -143,7 +143,7 @@ module _ (lines spans rows left at wide : List ℕ) (ea : length at ≡ length l
 
   -- the cell at i and the hanging one at h
   abbrev pub cell_at : Item
-  cell_at = item (get_or lines i 0) false (suc (hangs (get_or rows i 0))) pos (get_or spans i 0)
+  cell_at = item (get_or lines i 0) false (suc (rows_below (get_or rows i 0))) pos (get_or spans i 0)
 
   abbrev pub hang_at : Item
   hang_at = item 0 true (get_or left h 0) (get_or at h 0) (get_or wide h 0)
@@ -183,7 +183,7 @@ module _ (lines spans rows left at wide : List ℕ) (ea : length at ≡ length l
         ∙ ap (λ (m : ℕ). cell_at ∷ row_from (pos + get_or spans i 0) (drop h H) (drop m C)) (sym (add-one i))
       where
         c : Item
-        c = item (get_or lines i 0) false (suc (hangs (get_or rows i 0))) 0 (get_or spans i 0)
+        c = item (get_or lines i 0) false (suc (rows_below (get_or rows i 0))) 0 (get_or spans i 0)
 
         go : Dec (h < length left) → row_from pos (drop h H) (c ∷ drop (suc i) C) ≡ cell_at ∷ row_from (pos + get_or spans i 0) (drop h H) (drop (suc i) C)
         go (yes v) =
@@ -206,7 +206,7 @@ roomy cells left at wide r = rw (cells_length (lines_of cells) (spans_of cells) 
 
 -- a cell at a position, and one that hangs
 abbrev pub held : ℕ → Cell → Item
-held pos c = item c.line false (suc (hangs c.rows)) pos c.span
+held pos c = item c.line false (suc (rows_below c.rows)) pos c.span
 
 abbrev pub hung : Overhang → Item
 hung o = item 0 true o.left o.at o.span
@@ -242,5 +242,5 @@ module _ (cells left at wide : List ℕ) (ea : length at ≡ length left) (pos i
         let r : get_or (rowspans_of cells) i 0 ≡ c.rows = figure_at_lem 3 cell_by held_rows cells i held_there ∙ sym (ap held_rows q) in
         let w : get_or (spans_of cells) i 0 ≡ c.span = figure_at_lem 3 cell_by held_span cells i held_there ∙ sym (ap held_span q) in
         subst (λ (x : Item). row_from pos (drop h (hanging left at wide)) (drop i (cells_in cells)) ≡ x ∷ row_from (pos + x.span) (drop h (hanging left at wide)) (drop (i + 1) (cells_in cells)))
-        (λ j. item (l j) false (suc (hangs (r j))) pos (w j))
+        (λ j. item (l j) false (suc (rows_below (r j))) pos (w j))
         (cell_next (lines_of cells) (spans_of cells) (rowspans_of cells) left at wide ea pos i h inside more_lines (due_here ∙ f))

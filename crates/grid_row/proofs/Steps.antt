@@ -12,7 +12,7 @@ use lib.Dec.{leb, ltb}
 use borrow.Author.Tests.{lt-ltb, le-ltb}
 use Rattle.common.specs.Lists.{sum}
 use Rattle.common.proofs.Sum.{sum_append}
-use Rattle.grid_row.specs.Row.{Item, item, item_span, items_end, hangs, fillers, later, placed, row_from, hang_of, nexts}
+use Rattle.grid_row.specs.Row.{Item, item, item_span, items_end, rows_below, fillers, later, placed, row_from, hang_of, nexts}
 use Rattle.grid_row.specs.inner.Row.{item_line, cells_of, hanging, due_at, PutPost}
 
 -- ---- which hanging one is due
@@ -110,13 +110,13 @@ cells_length [] ss rs = refl
 cells_length (l ∷ ls) ss rs = ap suc (cells_length ls (drop 1 ss) (drop 1 rs))
 
 pub cells_cut : (ls ss rs : List ℕ) (i : ℕ) → i < length ls
-    → drop i (cells_of ls ss rs) ≡ item (get_or ls i 0) false (suc (hangs (get_or rs i 0))) 0 (get_or ss i 0) ∷ drop (suc i) (cells_of ls ss rs)
+    → drop i (cells_of ls ss rs) ≡ item (get_or ls i 0) false (suc (rows_below (get_or rs i 0))) 0 (get_or ss i 0) ∷ drop (suc i) (cells_of ls ss rs)
 unfolding cells_of
 cells_cut [] ss rs i h = absurd (not-suc-le-zero h)
 cells_cut (l ∷ ls) ss rs zero h = refl
 cells_cut (l ∷ ls) ss rs (suc i) h =
     cells_cut ls (drop 1 ss) (drop 1 rs) i (le_of_suc-le-suc h)
-    ∙ ap₂ (λ (r s : ℕ). item (get_or ls i 0) false (suc (hangs r)) 0 s ∷ drop (suc i) (cells_of ls (drop 1 ss) (drop 1 rs))) (get_d_tail rs i) (get_d_tail ss i)
+    ∙ ap₂ (λ (r s : ℕ). item (get_or ls i 0) false (suc (rows_below r)) 0 s ∷ drop (suc i) (cells_of ls (drop 1 ss) (drop 1 rs))) (get_d_tail rs i) (get_d_tail ss i)
 
 pub hanging_length : (ls ps ss : List ℕ) → length (hanging ls ps ss) ≡ length ls
 unfolding hanging

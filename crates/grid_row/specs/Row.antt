@@ -23,12 +23,12 @@ abbrev pub items_end : List Item → ℕ
 items_end xs = sum (map item_span xs)
 
 -- how many more rows a cell hangs
-abbrev pub hangs : ℕ → ℕ
-hangs rows = rows - 1
+abbrev pub rows_below : ℕ → ℕ
+rows_below rows = rows - 1
 
 -- a cell of resolved cols
 abbrev pub item_of : Cell → Item
-item_of c = item c.line false (suc (hangs c.rows)) 0 c.cols
+item_of c = item c.line false (suc (rows_below c.rows)) 0 c.cols
 
 -- the hanging ones that go in before a cell at position p: while the first has a position that is at most the current one
 unfoldable pub fillers : ℕ → List Item → List Item

@@ -7,7 +7,7 @@ ghost use Rattle.std.specs.Prelude.{◌≡◌, false, suc, ◌+◌, ◌*◌, ◌
 ghost use Rattle.common.specs.Limits.{max_position};
 ghost use Rattle.resolved_rows.specs.inner.Held.{lines_of, spans_of, rowspans_of};
 ghost use Rattle.records.specs.inner.Figures.{entry_cells_of, entry_spans_of};
-ghost use Rattle.grid_row.specs.Row.{item, hangs, items_end};
+ghost use Rattle.grid_row.specs.Row.{item, rows_below, items_end};
 ghost use Rattle.grid_row.specs.inner.Row.{due_at, row_of, MergeRowPre, PutPost, MergeRowPost};
 ghost use Rattle.grid_row.specs.inner.Overhangs.{lefts_of, ats_of, wides_of, overhang_in};
 ghost use Rattle.grid_row.specs.inner.Carrying.{CarryPost};
@@ -44,7 +44,7 @@ fn overhang_in(left: &[u32], at: &[u32], wide: &[u32], i: usize) -> Overhang
 
 // How many rows a cell takes from its own on.
 fn rows_taken(rows: u32) -> u32
-    ensures { result ≡ suc (hangs rows) }
+    ensures { result ≡ suc (rows_below rows) }
 {
     rows.max(1)
 }

@@ -1,4 +1,4 @@
-// The commonest lines of a sheet, told by comparing eight bytes at once, in the form in which lines are kept. Every other line is left to the
+// The commonest lines of a sheet, recognized by comparing eight bytes at once, in the form in which lines are kept. Every other line is left to the
 // crate line, which reads all.
 // The bytes and a place in them are two parameters, as in fields: the place where the next line starts goes into the answer. That a place lies in the
 // bytes is asked where it is read, of other parameters each time.

@@ -22,7 +22,7 @@ fn own_width(total: u32, span: u32) -> u32
     if total == 0 { 0 } else { total + span - 1 }
 }
 
-// Where the next entry starts: a missing one takes no room, another its width and one character column more.
+// Where the next entry starts: a missing one takes no width, another its width and one character column more.
 fn next_start(x: u32, total: u32, span: u32) -> u32
     requires { x + (total + span) ≤ max_size + 1 }
     ensures { result ≡ next x total span }

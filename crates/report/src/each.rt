@@ -115,7 +115,7 @@ fn walked_table(
     table(out, place, asked, w.measured, s);
 }
 
-// Puts every table of a sheet that has a width, in the order of their lines. Every table is laid out in the same room, of which nothing is cleared in
+// Puts every table of a sheet that has a width, in the order of their lines. Every table is laid out in the same scratch, of which nothing is cleared in
 // between.
 pub fn all_tables(out: &mut Listing<'_>, form: Form, raw: u32, w: Walked<'_>, s: &mut Scratch<'_>) {
     for (i, line) in w.measured.lines.iter().enumerate() {

@@ -102,7 +102,7 @@ fn resolve_row(cells: &mut [u32], instead: u32, left: u32)
 }
 
 // The largest sum of a body's rows: `max_columns` of `tbody_to_render_tree`. The first row's cells begin at `first`, and each row says where its
-// cells end. That is told by a number among all cells, and so the cells are not cut to the body, here and below.
+// cells end. That is found by a number among all cells, and so the cells are not cut to the body, here and below.
 fn widest_row(cells: &[u32], rows: &[RowEnd], first: usize) -> u32
     requires { BodyHeld first (row_ends_of rows.now) (spans_of cells.now) }
     ensures { LargestSum (rows_at first (row_ends_of rows.now) (spans_of cells.now)) result }

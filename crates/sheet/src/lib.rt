@@ -43,7 +43,7 @@ fn brief(node: Node) -> Scanned<NodeRecord>
     }
 }
 
-// The line that starts at a place, by itself: 2, 3, 13, 14. The commonest lines are told by few comparisons.
+// The line that starts at a place, by itself: 2, 3, 13, 14. The commonest lines are recognized by few comparisons.
 fn line_of(classes: &Classes, bytes: &[u8], at: usize) -> Result<Scanned<NodeRecord>, Reason>
     requires { AtLine bytes.now at }
     ensures { Answers (line_at bytes.now at) result }

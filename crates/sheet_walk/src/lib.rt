@@ -71,7 +71,7 @@ fn walk_lines(m: Measured<'_>, settings: Settings, walk: &mut [Option<u32>]) -> 
     )
 }
 
-// Opens, measures and walks a sheet. The last slice is room to work in.
+// Opens, measures and walks a sheet. The last slice is scratch.
 pub fn walk_sheet(
     sheet: &[u8],
     asked: Option<u32>,

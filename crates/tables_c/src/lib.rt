@@ -1,8 +1,8 @@
-// The twelve calls for C and Rust: numbers, lent slices and `#[repr(C)]` structs of numbers alone. A slice crosses as a pointer and a length.
+// The thirteen calls for C and Rust: numbers, lent slices and `#[repr(C)]` structs of numbers alone. A slice crosses as a pointer and a length.
 // The settings and the buffers are a parameter each: C hands them over so, and the calls that these make take them so.
 #![tactic(auto)]
 
-ghost use Rattle.std.specs.Prelude.{◌≡◌};
+ghost use Rattle.std.specs.Prelude.{◌≡◌, length};
 ghost use Rattle.common.specs.Refusals.{verdict_of};
 ghost use Rattle.text.specs.Text.{measure_of};
 ghost use Rattle.sheet_figures.specs.Calls.{check_checks};
@@ -13,12 +13,13 @@ ghost use Rattle.call_missing.specs.Missing.{explained_of, for_one, MissingLeft}
 ghost use Rattle.call_preview.specs.Preview.{pointed_of, listed_of, for_one as for_listed, WithinLeft, joined_of};
 ghost use Rattle.call_walk.specs.Walks.{walked_of, for_walk, WalkLeft};
 ghost use Rattle.call_nested.specs.Nested.{nested_of, NestedLeft};
+ghost use Rattle.call_spoken.specs.Spoken.{place_of};
 ghost use Rattle.call_window.specs.Window.{window_of, for_report, WindowBuffers};
-ghost use Rattle.c_results.specs.Answers.{check_result, as_img, measure_result, estimates_result, grid_result, layout_result, missing_result, at_result, within_result, joining_result, walk_result, nested_result, window_result};
+ghost use Rattle.c_results.specs.Answers.{check_result, as_img, measure_result, estimates_result, grid_result, layout_result, missing_result, at_result, within_result, joining_result, walk_result, nested_result, window_result, spoken_result};
 
 use c_results::{
     AtResult, CheckResult, EstimatesResult, GridResult, JoiningResult, LayoutResult, MeasureResult,
-    MissingResult, NestedResult, WalkResult, WindowResult, WithinResult,
+    MissingResult, NestedResult, SpokenResult, WalkResult, WindowResult, WithinResult,
 };
 
 // Whether a sheet is accepted.
@@ -217,4 +218,12 @@ pub extern "C" fn tables_window(
         way.new wide.new missing.new }
 {
     WindowResult::from(call_window::window(sheet, line, wrap, raw, widths, way, wide, missing))
+}
+
+// Where the text stands that is spoken at an entry of the table in a line: in the sheet, or it is the whole wording.
+#[unsafe(no_mangle)]
+pub extern "C" fn tables_spoken(sheet: &[u8], line: u32, entry: u32, wording: &[u8]) -> SpokenResult
+    ensures { result ≡ spoken_result (place_of sheet.now line entry) (length wording.now) }
+{
+    SpokenResult::of(call_spoken::spoken_place(sheet, line, entry), wording.len())
 }

@@ -21,7 +21,7 @@ pub struct Measured<'a> {
     pub ghost walkable: { ∥ Walkable lines.now figures.now ∥₁ },
 }
 
-// The slices that every table is laid out in, which have the room for any: its entries and rows, its columns, and two figures of each entry.
+// The slices that every table is laid out in, which suffice for any: its entries and rows, its columns, and two figures of each entry.
 // A struct of `&mut` slices all the same: its ghost field states the lengths, and all five are lent out at once.
 #[derive(Drop)]
 pub struct Scratch<'a> {

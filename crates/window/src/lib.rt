@@ -116,7 +116,7 @@ fn write_lines(
     }
 }
 
-// The report on a table, of its records. The room is cleared with each call.
+// The report on a table, of its records. The scratch is cleared with each call.
 pub fn write_report(
     grid: Records<'_>,
     figures: &[Estimate],

@@ -8,7 +8,7 @@ use Rattle.resolved_rows.specs.inner.Spans.{part}
 use Rattle.grid_row.specs.Row.{Item, item_span, items_end, nexts}
 use Rattle.grid_row.specs.inner.Row.{item_line, item_left, item_pos, row_of}
 use Rattle.grid_positions.specs.declared.Positions.{Positions}
-use Rattle.grid_positions.specs.Positions.{Row, all_rows, ends_past, entry_count}
+use Rattle.grid_positions.specs.Positions.{PositionRow, all_rows, ends_past, entry_count}
 
 -- ---- the table
 
@@ -30,16 +30,16 @@ Rising a (e ∷ ends) m = (a ≤ e) × (e ≤ m) × Rising e ends m
 
 -- ---- rows by positions
 
-abbrev pub placed_line : Row → ℕ
+abbrev pub placed_line : PositionRow → ℕ
 placed_line r = r.line
 
 -- the entries of all rows, one after the other
-unfoldable pub all_items : List Row → List Item
+unfoldable pub all_items : List PositionRow → List Item
 all_items [] = []
 all_items (r ∷ rs) = r.items ++ all_items rs
 
 -- for each row the number of entries up to and including it; n stand before
-unfoldable pub entry_ends : ℕ → List Row → List ℕ
+unfoldable pub entry_ends : ℕ → List PositionRow → List ℕ
 entry_ends n [] = []
 entry_ends n (r ∷ rs) = (n + length r.items) ∷ entry_ends (n + length r.items) rs
 

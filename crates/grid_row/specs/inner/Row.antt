@@ -2,7 +2,7 @@
 use Rattle.std.specs.Prelude.{◌≡◌, Bool, true, false, cond, ◌||◌, List, [], ◌∷◌, map, ℕ, suc, ◌+◌, ◌≤◌, length, drop, get_or, set, leb}
 use Rattle.std.proofs.lemmas.List.Edits.{sets}
 use Rattle.common.specs.inner.Lists.{over}
-use Rattle.grid_row.specs.Row.{Item, hang_of, hangs, item, item_span, nexts, row_from}
+use Rattle.grid_row.specs.Row.{Item, hang_of, rows_below, item, item_span, nexts, row_from}
 
 -- the line that a listing shows: 0 for a filler
 abbrev pub item_line : Item → ℕ
@@ -19,7 +19,7 @@ item_pos x = x.pos
 unfoldable pub cells_of : List ℕ → List ℕ → List ℕ → List Item
 cells_of [] spans rows = []
 cells_of (l ∷ lines) spans rows =
-    item l false (suc (hangs (get_or rows 0 0))) 0 (get_or spans 0 0) ∷ cells_of lines (drop 1 spans) (drop 1 rows)
+    item l false (suc (rows_below (get_or rows 0 0))) 0 (get_or spans 0 0) ∷ cells_of lines (drop 1 spans) (drop 1 rows)
 
 unfoldable pub hanging : List ℕ → List ℕ → List ℕ → List Item
 hanging [] poss spans = []
@@ -42,7 +42,7 @@ pub record Written (xs : List Item) (l₀ s₀ nl₀ na₀ nw₀ l s nl na nw : 
   pub ats : na ≡ over (map item_pos (nexts xs)) na₀
   pub wides : nw ≡ over (map item_span (nexts xs)) nw₀
 
--- each of the lent slices has room for n
+-- each of the lent slices has n places
 pub record MergeRowPre (n : ℕ) (l s nl na nw : List ℕ) : Type 0 where
   pub lines : n ≤ length l
   pub spans : n ≤ length s

@@ -1,0 +1,2 @@
+-- What the functions within the call take and promise.
+pub mod Found

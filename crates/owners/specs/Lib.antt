@@ -1,0 +1,4 @@
+-- The cell that a filler continues.
+pub mod Owner
+pub mod Cases
+pub mod inner

@@ -1,0 +1,3 @@
+-- What holds of every reply of the call `spoken`, and its cases.
+pub mod Spoken
+pub mod Cases
