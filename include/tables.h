@@ -13,7 +13,8 @@
  * - A buffer that is lent for writing overlaps neither another buffer of the call nor the sheet
  *   nor the list of widths, and nothing else touches it during the call.
  * - There is room on the stack. The most that was measured, on sheets that need the longest arrays:
- *   tables_nested 676,000 bytes, tables_walk 545,000, tables_spoken 519,000, tables_at,
+ *   tables_nested 676,000 bytes, tables_joined_layout 663,000, tables_joined_spoken 647,000,
+ *   tables_joined_grid 617,000, tables_walk 545,000, tables_spoken 519,000, tables_at,
  *   tables_within and tables_joining 512,000, tables_window 482,000, tables_missing 462,000,
  *   tables_layout 430,000, tables_estimates 400,000, tables_grid 348,000, tables_check 86,000,
  *   tables_measure 300; TABLES_STACK is enough for any call. Without it a call ends in the system's
@@ -35,7 +36,7 @@
 #include <stddef.h>
 #include <stdint.h>
 
-#define TABLES_VERSION "0.10.0"
+#define TABLES_VERSION "0.11.0"
 
 #define TABLES_MAX_BYTES 65536    /* bytes of a sheet, and of a text that is measured */
 /* lines of a sheet after its heading: least places of a buffer with one for each line or row */
@@ -50,8 +51,8 @@
 #define TABLES_STACK 800000       /* bytes of stack that are enough for any call */
 
 /* In the order in which they are looked for: 16, 9, 11, 8, 1; then line by line 2, 3, 13, 14, 4;
- * then 4 for no node, an empty table or an empty body; 10; then table by table 5, 6; then 10 for a
- * row, and for an entry; then 12. */
+ * then 4 for no node, an empty table or an empty body; 10; then table by table 5, 6; then 5, 6 of
+ * two tables joined; then 10 for a row, and for an entry; then 12. */
 enum tables_refusal {
     TABLES_ACCEPTED = 0,
     /* the first line is not exactly the heading with its line feed; line 0 */
@@ -64,15 +65,18 @@ enum tables_refusal {
     /* the depth or the place of a line breaks the nesting, or a table or a body is empty: the line;
      * no node: 0 */
     TABLES_BAD_NESTING = 4,
-    TABLES_ROW_TOO_LONG = 5,     /* a row of a table ends past position 4,096; the table's line */
-    TABLES_TOO_MANY_ENTRIES = 6, /* a table has more than 8,192 entries; the table's line */
+    /* a row of a table ends past position 4,096; the table's line; or two tables joined have more
+     * than 4,096 columns; the left one's line */
+    TABLES_ROW_TOO_LONG = 5,
+    /* a table has more than 8,192 entries; the table's line; or two joined have; the left one's */
+    TABLES_TOO_MANY_ENTRIES = 6,
     /* more than 65,536 bytes, or more than 4,097 line feeds (tables_measure: bytes alone);
      * line 0 */
     TABLES_TOO_LONG = 8,
     /* wrap above 1,000, a width above 65,535, or raw or overflow above 1; line 0 */
     TABLES_BAD_SETTING = 9,
     /* the line given is not a table of the sheet, or goes down or has no such row where a row of it
-     * is asked for, or has no filler with the number that is asked for in tables_spoken; line 0 */
+     * is asked for, or has no filler with the number that is asked for, as the joined grid; line 0 */
     TABLES_NO_TABLE = 10,
     TABLES_SHORT_BUFFER = 11,    /* a lent buffer has fewer than its least places; line 0 */
     /* a heading, quote, list or definition is too narrow for what it holds, in tables_walk and
@@ -301,6 +305,40 @@ tables_window_result tables_window(
  * two. The wording may have any bytes, and any length. */
 tables_spoken_result tables_spoken(
     const uint8_t *sheet, size_t sheet_len, uint32_t line, uint32_t entry,
+    const uint8_t *wording, size_t wording_len);
+
+/* The tables in two lines of a sheet side by side, as one grid. Row i holds the left table's row i,
+ * then the right table's row i with its columns moved by the number of the left table's columns. A
+ * left row that is short gets one empty entry over the columns that it lacks; where a table has no
+ * row any more, an empty entry stands over all its columns, unless it has none. An empty entry is a
+ * filler that continues no cell: its line is 0, and its size. A row's line is the left row's, or
+ * the right's where there is no left row. 10: either line is no table. left and right may be the
+ * same, or one table inside the other. 5 and 6 of the joined grid, more than TABLES_MAX_COLUMNS
+ * columns or TABLES_MAX_ENTRIES entries, come after those of all tables, on the left table's
+ * line. */
+
+/* The joined grid. The buffers are those of tables_grid. */
+tables_grid_result tables_joined_grid(
+    const uint8_t *sheet, size_t sheet_len, uint32_t left, uint32_t right,
+    uint32_t *cell, size_t cell_len,
+    uint32_t *first, size_t first_len,
+    uint32_t *span, size_t span_len,
+    uint32_t *row, size_t row_len,
+    uint32_t *row_end, size_t row_end_len);
+
+/* The layout of the joined grid, as that of any other. The buffers are those of tables_layout. */
+tables_layout_result tables_joined_layout(
+    const uint8_t *sheet, size_t sheet_len, uint32_t left, uint32_t right,
+    uint32_t wrap, uint32_t raw, uint32_t width,
+    uint32_t *column, size_t column_len,
+    uint32_t *x, size_t x_len,
+    uint32_t *wide, size_t wide_len);
+
+/* The text that is spoken at a filler of the joined grid: the tables in the lines left and right
+ * side by side. entry is its number in that grid's order, the first is 0. As tables_spoken; an empty
+ * entry, which stands where one of the tables has no cell, is spoken with the wording. */
+tables_spoken_result tables_joined_spoken(
+    const uint8_t *sheet, size_t sheet_len, uint32_t left, uint32_t right, uint32_t entry,
     const uint8_t *wording, size_t wording_len);
 
 #ifdef __cplusplus

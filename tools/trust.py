@@ -30,6 +30,9 @@ CALLS = [
     ("nested", "call_nested", "lib.rt"),
     ("window", "call_window", "lib.rt"),
     ("spoken", "call_spoken", "lib.rt"),
+    ("joined_grid", "call_joined", "gridding.rt"),
+    ("joined_layout", "call_joined", "laying.rt"),
+    ("joined_spoken", "call_joined", "speaking.rt"),
 ]
 
 USE = re.compile(r"^(?:ghost )?(?:pub )?use Rattle\.(\w+)\.specs\.([\w.]+?)(?:\.\{([^}]*)\})?(?: as (\w+))?;?\s*$", re.M)
@@ -83,6 +86,8 @@ STATED = [
     ("what holds of every walk", "walk_theorems/specs/Descent"),
     ("what holds of every report of `window`", "window_theorems/specs/Window"),
     ("what is spoken at every filler", "spoken_theorems/specs/Spoken"),
+    ("what holds of two grids joined", "grid_join/specs/Facts"),
+    ("what holds of two tables side by side", "joined_tables/specs/Side"),
     ("pointing, without a search", "hit_test/specs/Exact"),
     ("the calls that point, without a search", "call_preview/specs/Exact"),
     ("the settings of a program's input", "settings/specs/Settings"),
@@ -96,8 +101,8 @@ CASES = re.compile(r"/(Cases|Lib|inner)\.antt$|^crates/(cases|fields/specs/Headi
 ORDER = """common text kinds fields expression evaluator line records sheet sheet_load resolved_rows columns
 grid_row grid_positions column_edges grid estimates cutting widths placement table_layout sheet_figures
 answers arguments call_estimates call_grid call_layout causes call_missing row_lookup hit_test
-call_preview available_width sheet_walk call_walk call_nested call_window owners spoken_text call_spoken settings
-c_results""".split()
+call_preview available_width sheet_walk call_walk call_nested call_window owners spoken_text call_spoken
+grid_join joined_tables call_joined settings c_results""".split()
 
 files = {}
 

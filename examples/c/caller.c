@@ -113,5 +113,16 @@ int main(int argc, char **argv) {
     tables_spoken_result o = tables_spoken(sheet, len, line, 0, (const uint8_t *)"blank", 5);
     if (o.number) printf("spoken at entry 0: refusal %u, line %u\n", o.number, o.line);
     else printf("spoken at entry 0: %u bytes\n", o.length);
+
+    // the table beside itself
+    tables_grid_result b = tables_joined_grid(sheet, len, line, line, PLACES(cell), PLACES(first), PLACES(span), PLACES(row), PLACES(row_end));
+    if (refused(b.number, b.line)) return 1;
+    printf("joined with itself: %u rows, %u entries, %u columns\n", b.rows, b.entries, b.columns);
+    tables_layout_result d = tables_joined_layout(sheet, len, line, line, wrap, raw, width, PLACES(column), PLACES(x), PLACES(wide));
+    if (refused(d.number, d.line)) return 1;
+    printf("joined layout: %s, %u columns, %u wide\n", d.way == TABLES_DOWN ? "down" : "sideways", d.columns, d.width);
+    tables_spoken_result q = tables_joined_spoken(sheet, len, line, line, 0, (const uint8_t *)"blank", 5);
+    if (q.number) printf("joined, spoken at entry 0: refusal %u, line %u\n", q.number, q.line);
+    else printf("joined, spoken at entry 0: %u bytes\n", q.length);
     return 0;
 }

@@ -56,6 +56,18 @@ fn show(settings: [u32; 3], sheet: &[u8]) -> Result<(), tables::Refusal> {
         Ok(text) => println!("spoken at entry 0: {} bytes", text.len()),
         Err(refusal) => println!("spoken at entry 0: refusal {}, line {}", refusal.number, refusal.line),
     }
+
+    // the table beside itself
+    let both = [line, line];
+    let mut cell = [0; tables::ENTRIES];
+    let [rows, entries, columns] = tables::joined_grid(sheet, both, [&mut cell, &mut first, &mut span, &mut row, &mut row_end])?;
+    println!("joined with itself: {rows} rows, {entries} entries, {columns} columns");
+    let [way, columns, width] = tables::joined_layout(sheet, both, settings, [&mut column, &mut x, &mut wide])?;
+    println!("joined layout: {}, {columns} columns, {width} wide", if way == 1 { "down" } else { "sideways" });
+    match tables::joined_spoken(sheet, both, 0, b"blank") {
+        Ok(text) => println!("joined, spoken at entry 0: {} bytes", text.len()),
+        Err(refusal) => println!("joined, spoken at entry 0: refusal {}, line {}", refusal.number, refusal.line),
+    }
     Ok(())
 }
 

@@ -47,6 +47,9 @@ extern "C" {
     fn tables_nested(s: In, n: usize, line: u32, wrap: u32, raw: u32, width: u32, overflow: u32, a: Out, al: usize, b: Out, bl: usize, c: Out, cl: usize) -> Answer<5>;
     fn tables_window(s: In, n: usize, line: u32, wrap: u32, raw: u32, w: Listed, wl: usize, a: Out, al: usize, b: Out, bl: usize, c: Out, cl: usize) -> Answer<1>;
     fn tables_spoken(s: In, n: usize, line: u32, entry: u32, w: In, wl: usize) -> Answer<3>;
+    fn tables_joined_grid(s: In, n: usize, l: u32, r: u32, a: Out, al: usize, b: Out, bl: usize, c: Out, cl: usize, d: Out, dl: usize, e: Out, el: usize) -> Answer<3>;
+    fn tables_joined_layout(s: In, n: usize, l: u32, r: u32, wrap: u32, raw: u32, width: u32, a: Out, al: usize, b: Out, bl: usize, c: Out, cl: usize) -> Answer<3>;
+    fn tables_joined_spoken(s: In, n: usize, l: u32, r: u32, entry: u32, w: In, wl: usize) -> Answer<3>;
 }
 
 pub fn check(s: &[u8]) -> Result<[u32; 0], Refusal> {
@@ -119,5 +122,25 @@ pub fn window(s: &[u8], line: u32, [wrap, raw]: [u32; 2], w: &[u32], [a, b, c]: 
 /// the text that is spoken at a filler: a part of the sheet, or the whole wording
 pub fn spoken<'a>(s: &'a [u8], line: u32, entry: u32, wording: &'a [u8]) -> Result<&'a [u8], Refusal> {
     let [of_sheet, from, length] = unsafe { tables_spoken(s.as_ptr(), s.len(), line, entry, wording.as_ptr(), wording.len()) }.result()?;
+    Ok(if of_sheet == 1 { &s[from as usize..][..length as usize] } else { wording })
+}
+
+/// rows, entries, columns of two tables side by side; lent as those of `grid`
+pub fn joined_grid(s: &[u8], [left, right]: [u32; 2], [a, b, c, d, e]: [&mut [u32]; 5]) -> Result<[u32; 3], Refusal> {
+    let (n, al, bl, cl, dl, el) = (s.len(), a.len(), b.len(), c.len(), d.len(), e.len());
+    let (a, b, c, d, e) = (a.as_mut_ptr(), b.as_mut_ptr(), c.as_mut_ptr(), d.as_mut_ptr(), e.as_mut_ptr());
+    unsafe { tables_joined_grid(s.as_ptr(), n, left, right, a, al, b, bl, c, cl, d, dl, e, el) }.result()
+}
+
+/// way, columns, width of two tables side by side; settings and lent as those of `layout`
+pub fn joined_layout(s: &[u8], [left, right]: [u32; 2], [wrap, raw, width]: [u32; 3], [a, b, c]: [&mut [u32]; 3]) -> Result<[u32; 3], Refusal> {
+    let (al, bl, cl) = (a.len(), b.len(), c.len());
+    let (a, b, c) = (a.as_mut_ptr(), b.as_mut_ptr(), c.as_mut_ptr());
+    unsafe { tables_joined_layout(s.as_ptr(), s.len(), left, right, wrap, raw, width, a, al, b, bl, c, cl) }.result()
+}
+
+/// the text that is spoken at a filler of two tables side by side
+pub fn joined_spoken<'a>(s: &'a [u8], [left, right]: [u32; 2], entry: u32, wording: &'a [u8]) -> Result<&'a [u8], Refusal> {
+    let [of_sheet, from, length] = unsafe { tables_joined_spoken(s.as_ptr(), s.len(), left, right, entry, wording.as_ptr(), wording.len()) }.result()?;
     Ok(if of_sheet == 1 { &s[from as usize..][..length as usize] } else { wording })
 }

@@ -6,7 +6,7 @@
 #![tactic(auto)]
 
 mod arrays; // the arrays to work in, by the size of the sheet
-mod made; // the records of a grid as the call answers them
+pub mod made; // the records of a grid as the call answers them
 
 ghost use Rattle.std.specs.Prelude.{◌≡◌, ◌∷◌, Some};
 ghost use Rattle.sheet_load.specs.Opening.{open_checks};

@@ -1,10 +1,11 @@
--- `layout`: what is found in the sheet is what the call answers and leaves, and of it the third demand holds.
+-- A layout that is found is what a call answers and leaves, and of it the third demand holds.
+use Rattle.answers.specs.Answers.{layout_with}
 use Rattle.answers.specs.declared.Layout.{Layout}
 use Rattle.common.specs.declared.Refusal.{Refusal}
-use Rattle.std.specs.Prelude.{Err, Ok, Result, MatchResult, Some}
+use Rattle.std.specs.Prelude.{Err, Ok, Result, MatchResult}
 use mathlib.Core.Path.{◌≡◌, refl, sym, ◌∙◌}
 use mathlib.Core.Bool.{true, false, ◌||◌}
-use mathlib.Core.List.{List, [], ◌∷◌}
+use mathlib.Core.List.{List, [], ◌∷◌, ◌++◌, map}
 use Prim.Native.Nat.{ℕ, ◌≤◌}
 use native.Mathlib.Omega.{arith}
 use lib.Dec.{ltb}
@@ -14,11 +15,16 @@ use Rattle.common.specs.Lists.{padded}
 use Rattle.common.specs.Limits.{max_lines, max_entries, max_wrap, max_width}
 use Rattle.common.specs.Refusals.{Check, first_answer, verdict_of, passes, if_passes}
 use Rattle.sheet.proofs.First.{neither, passes_both}
-use Rattle.sheet_load.specs.Opening.{after_reading, open_checks}
+use Rattle.columns.specs.Boxes.{Box}
+use Rattle.widths.specs.Widths.{table_width}
+use Rattle.placement.specs.Promise.{Promised}
+use Rattle.table_layout.specs.Laying.{way_in, widths_in, places_in}
+use Rattle.sheet_figures.specs.Figures.{x_of, width_of}
+use Rattle.sheet_figures.specs.Calls.{leaves}
 use Rattle.table_layout.specs.inner.Asked.{OutCapacity}
-use Rattle.call_layout.specs.inner.Found.{columns_in, entries_in, LayoutFound}
+use Rattle.call_layout.specs.inner.Found.{columns_in, entries_in, LayoutOf}
 use Rattle.arguments.specs.Arguments.{settings_check, layout_arguments}
-use Rattle.call_layout.specs.Layout.{layout_checks, laid_out_of, LayoutAnswer}
+use Rattle.call_layout.specs.Layout.{for_columns, for_places}
 use Rattle.sheet_figures.specs.inner.Early.{early}
 use Rattle.arguments.specs.declared.Settings.{Settings}
 use Rattle.arguments.specs.inner.Asked.{Asks, verdict_in}
@@ -29,10 +35,10 @@ use Rattle.sheet_figures.proofs.Early.{early_nines, none_nines, fits, leaving}
 -- ---- before the sheet is read
 
 -- refused for the arguments
-layout_early : (why : Refusal) (cs : List Check) (s : List ℕ) (line wrap raw width : ℕ) (column x wide : List ℕ)
-    → LayoutFound (early (Err why) ∷ cs) s line wrap raw width (Err why) column x wide
+layout_early : (why : Refusal) (cs : List Check) (entries columns : ℕ) (boxes : List (List Box)) (raw width : ℕ) (column x wide : List ℕ)
+    → LayoutOf (early (Err why) ∷ cs) entries columns boxes raw width (Err why) column x wide
 unfolding first_answer early passes if_passes columns_in entries_in
-layout_early why cs s line wrap raw width column x wide =
+layout_early why cs entries columns boxes raw width column x wide =
     record {
       answer = refl;
       few_columns = omega arith;
@@ -44,8 +50,8 @@ layout_early why cs s line wrap raw width column x wide =
     }
 
 -- not refused for the arguments
-layout_late : {cs : List Check} {s : List ℕ} {line wrap raw width : ℕ} {r : Result Layout Refusal} {column x wide : List ℕ}
-    → LayoutFound cs s line wrap raw width r column x wide → LayoutFound (early (Ok tt) ∷ cs) s line wrap raw width r column x wide
+layout_late : {cs : List Check} {entries columns : ℕ} {boxes : List (List Box)} {raw width : ℕ} {r : Result Layout Refusal} {column x wide : List ℕ}
+    → LayoutOf cs entries columns boxes raw width r column x wide → LayoutOf (early (Ok tt) ∷ cs) entries columns boxes raw width r column x wide
 unfolding first_answer early passes if_passes
 layout_late f =
     record {
@@ -58,12 +64,12 @@ layout_late f =
       promised = f.promised;
     }
 
-pub layout_opened : {asked : Result Settings Refusal} {cs : List Check} {s : List ℕ} {line wrap raw width : ℕ} {r : Result Layout Refusal} {column x wide : List ℕ}
-    → Asks asked wrap raw width 0 → MatchResult asked (λ g. LayoutFound cs s line g.wrap g.raw g.width r column x wide) (λ why. r ≡ Err why)
-    → LayoutFound (early (verdict_in asked) ∷ cs) s line wrap raw width r column x wide
-layout_opened {asked} {cs} {s} {line} {wrap} {raw} {width} {r} {column} {x} {wide} =
-    opened (λ v q. LayoutFound (early v ∷ cs) s line wrap raw width q column x wide) (λ p q l o. LayoutFound cs s line p q l r column x wide)
-    asked (λ why. layout_early why cs s line wrap raw width column x wide) layout_late
+pub layout_opened : {asked : Result Settings Refusal} {cs : List Check} (entries columns : ℕ) (boxes : ℕ → List (List Box)) (wrap raw width : ℕ) {r : Result Layout Refusal} {column x wide : List ℕ}
+    → Asks asked wrap raw width 0 → MatchResult asked (λ g. LayoutOf cs entries columns (boxes g.wrap) g.raw g.width r column x wide) (λ why. r ≡ Err why)
+    → LayoutOf (early (verdict_in asked) ∷ cs) entries columns (boxes wrap) raw width r column x wide
+layout_opened {asked} {cs} entries columns boxes wrap raw width {r} {column} {x} {wide} =
+    opened (λ v q. LayoutOf (early v ∷ cs) entries columns (boxes wrap) raw width q column x wide) (λ p q l o. LayoutOf cs entries columns (boxes p) q l r column x wide)
+    asked (λ why. layout_early why cs entries columns (boxes wrap) raw width column x wide) layout_late
 
 -- ---- the call
 
@@ -90,34 +96,48 @@ layout_fit wrap raw width v column x wide judged z =
     let (a, b, c) = layout_fits (length column) (length x) (length wide) (none_nines _ _ (sym judged ∙ z)).1 in
     record { column_capacity = a; x_capacity = b; wide_capacity = c }
 
-module _ {s : List ℕ} {line wrap raw width : ℕ} {v : Result (Unit {0}) Refusal} {a b c : ℕ} {r : Result Layout Refusal} {column x wide : List ℕ}
+module _ {ds : List Check} {entries columns : ℕ} {boxes : List (List Box)} (wrap raw width : ℕ) {v : Result (Unit {0}) Refusal} {a b c : ℕ} {r : Result Layout Refusal} {column x wide : List ℕ}
     (judged : v ≡ verdict_of (layout_arguments wrap raw width (a ∷ []) (b ∷ c ∷ [])))
-    (found : LayoutFound (early v ∷ open_checks (Some line) s) s line wrap raw width r column x wide) where
+    (found : LayoutOf (early v ∷ ds) entries columns boxes raw width r column x wide) where
   -- and so for the figures
   pub layout_rooms : (columns_in r ≤ a) × (entries_in r ≤ b) × (entries_in r ≤ c)
   unfolding columns_in entries_in
   layout_rooms =
-      counts_fit columns_in entries_in (λ why. refl) (λ why. refl) _ v (open_checks (Some line) s) r found.answer found.few_columns found.few_entries
+      counts_fit columns_in entries_in (λ why. refl) (λ why. refl) _ v ds r found.answer found.few_columns found.few_entries
       (λ z. layout_fits a b c (none_nines _ _ (sym judged ∙ z)).1)
 
-module _ {s : List ℕ} {line wrap raw width : ℕ} {v : Result (Unit {0}) Refusal} {column₀ x₀ wide₀ : List ℕ} {r : Result Layout Refusal} {column x wide : List ℕ}
-    (judged : v ≡ verdict_of (layout_arguments wrap raw width (length column₀ ∷ []) (length x₀ ∷ length wide₀ ∷ [])))
-    (found : LayoutFound (early v ∷ open_checks (Some line) s) s line wrap raw width r column x wide) where
-  pub layout_answered : {n m : ℕ} {a b c : List ℕ} → n ≡ columns_in r → m ≡ entries_in r
+module _ {ds : List Check} (entries columns : ℕ) (boxes : List (List Box)) (wrap raw width : ℕ) {v : Result (Unit {0}) Refusal} (a b c : ℕ) {r : Result Layout Refusal} {column x wide : List ℕ}
+    (judged : v ≡ verdict_of (layout_arguments wrap raw width (a ∷ []) (b ∷ c ∷ [])))
+    (found : LayoutOf (early v ∷ ds) entries columns boxes raw width r column x wide) where
+  -- what is answered
+  pub layout_told :
+      r
+      ≡ first_answer Err (Ok (layout_with (way_in columns boxes raw width) entries columns (table_width (way_in columns boxes raw width) (widths_in columns boxes raw width) width)))
+      (layout_arguments wrap raw width (a ∷ []) (b ∷ c ∷ []) ++ ds)
+  layout_told = found.answer ∙ early_nines Err _ v ds _ _ judged
+
+-- what the three buffers hold afterwards
+pub record LayoutLeaves (cs : List Check) (columns : ℕ) (boxes : List (List Box)) (raw width : ℕ) (column₀ x₀ wide₀ column x wide : List ℕ) : Type 0 where
+  pub widths : column ≡ leaves cs column₀ (widths_in columns boxes raw width)
+  pub xs : x ≡ leaves cs x₀ (map x_of (places_in columns boxes raw width))
+  pub wides : wide ≡ leaves cs wide₀ (map width_of (places_in columns boxes raw width))
+  pub promised : passes cs ≡ true → Promised columns boxes raw width (way_in columns boxes raw width) (widths_in columns boxes raw width)
+
+module _ {ds : List Check} {entries columns : ℕ} {boxes : List (List Box)} (wrap raw width : ℕ) {v : Result (Unit {0}) Refusal} {column₀ x₀ wide₀ : List ℕ} {r : Result Layout Refusal}
+    {column x wide : List ℕ}
+    (judged : v ≡ verdict_of (layout_arguments wrap raw width (for_columns column₀) (for_places x₀ wide₀)))
+    (found : LayoutOf (early v ∷ ds) entries columns boxes raw width r column x wide) where
+  pub layout_left : {n m : ℕ} {a b c : List ℕ} → n ≡ columns_in r → m ≡ entries_in r
       → length column ≡ length column₀ → length x ≡ length x₀ → length wide ≡ length wide₀
       → a ≡ padded (length column) (take n column) → b ≡ padded (length x) (take m x) → c ≡ padded (length wide) (take m wide)
-      → LayoutAnswer s line wrap raw width column₀ x₀ wide₀ r a b c
-  unfolding laid_out_of after_reading passes if_passes
-  layout_answered k l ka kb kc a b c =
-      let f : (xs : List ℕ) → first_answer (λ why. []) xs (early v ∷ open_checks (Some line) s) ≡ first_answer (λ why. []) xs (layout_checks s line wrap raw width (length column₀ ∷ []) (length x₀ ∷ length wide₀ ∷ [])) =
-      λ xs. early_nines (λ why. []) xs v (open_checks (Some line) s) _ _ judged in
+      → LayoutLeaves (layout_arguments wrap raw width (for_columns column₀) (for_places x₀ wide₀) ++ ds) columns boxes raw width column₀ x₀ wide₀ a b c
+  unfolding passes if_passes
+  layout_left k l ka kb kc a b c =
+      let f : (xs : List ℕ) → first_answer (λ why. []) xs (early v ∷ ds) ≡ first_answer (λ why. []) xs (layout_arguments wrap raw width (for_columns column₀) (for_places x₀ wide₀) ++ ds) =
+      λ xs. early_nines (λ why. []) xs v ds _ _ judged in
       record {
-        answer = found.answer ∙ early_nines Err _ v (open_checks (Some line) s) _ _ judged;
-        left =
-            record {
-              widths = leaving column₀ column (f _) k ka a found.widths;
-              xs = leaving x₀ x (f _) l kb b found.xs;
-              wides = leaving wide₀ wide (f _) l kc c found.wides;
-              promised = λ q. found.promised (raw_low wrap raw width _ q) (early_nines (λ why. false) true v (open_checks (Some line) s) _ _ judged ∙ q);
-            };
+        widths = leaving column₀ column (f _) k ka a found.widths;
+        xs = leaving x₀ x (f _) l kb b found.xs;
+        wides = leaving wide₀ wide (f _) l kc c found.wides;
+        promised = λ q. found.promised (raw_low wrap raw width _ q) (early_nines (λ why. false) true v ds _ _ judged ∙ q);
       }

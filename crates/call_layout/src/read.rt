@@ -12,7 +12,7 @@ use records::{Entry, RowEnd};
 use table_layout::{Arrangement, MeasuredTable};
 
 // An arrangement as the call answers it. No `From`: it could not ask that the numbers are small.
-fn answer_of(a: Arrangement) -> Layout
+pub fn answer_of(a: Arrangement) -> Layout
     requires { (a.counts.entries ≤ max_entries) × (a.counts.columns ≤ max_position) }
     ensures { result ≡ answer_of a }
 {

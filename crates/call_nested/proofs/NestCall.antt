@@ -102,7 +102,7 @@ module _ {s : List ℕ} {line wrap raw width overflow : ℕ} {r : Result ℕ Ref
       laid_found k d =
           let cs = walked_checks (Some line) s wrap raw width overflow in
           let u : width_to s line wrap raw width ≡ Some k = sym width_is ∙ d in
-          let l = layout_found lines_of (g.laid k d) in
+          let l = layout_found _ _ _ _ _ lines_of (g.laid k d) in
           let p = (opened_passed (w.opened n e) n refl).all in
           let q = all_pass in
           let a = l.answer ∙ first_passes Err _ (open_checks (Some line) s) p in

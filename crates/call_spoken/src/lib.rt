@@ -57,7 +57,11 @@ fn bytes_of<'a>(sheet: &'a [u8], part: Part) -> &'a [u8]
 }
 
 // The reply, by where it stands.
-fn reply<'a>(sheet: &'a [u8], wording: &'a [u8], place: Result<Option<Part>, Refusal>) -> &'a [u8]
+pub fn reply<'a>(
+    sheet: &'a [u8],
+    wording: &'a [u8],
+    place: Result<Option<Part>, Refusal>,
+) -> &'a [u8]
     requires { PartInside sheet.now place }
     ensures { result.now ≡ reply sheet.now wording.now place }
 {

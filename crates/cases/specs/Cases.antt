@@ -6,7 +6,7 @@ use Rattle.text.specs.Bytes.{class_of}
 use Rattle.text.specs.Text.{measure_of, text_size, readable, trim_start, trim_end, widths, runs, begins}
 use Rattle.text.specs.Decimal.{digits_in, digits, writing, plain}
 use Rattle.text.specs.Prefix.{last_number, ol_prefix}
-use Rattle.kinds.specs.Names.{word, first_codes}
+use Rattle.kinds.specs.Words.{word}
 use Rattle.column_edges.specs.Edges.{count_below, ends_from}
 use Rattle.resolved_rows.specs.Cells as cells
 use Rattle.resolved_rows.specs.Cells.{cell, row_sum, widest, resolve_row, fill_body, cut_row, cut_body, resolve_body, resolved}
@@ -20,12 +20,12 @@ use Rattle.answers.specs.declared.Way.TheVariants.{Sideways, Down}
 
 -- " a  b ", wrap 3: 4,3
 pub text_inner_run : measure_of (word " a  b ") 3 false ≡ Ok (record { size = 4; least = 3; prefix = 0 })
-unfolding first_codes measure_of first_answer text_size class_of readable trim_start trim_end widths runs begins
+unfolding measure_of first_answer text_size class_of readable trim_start trim_end widths runs begins
 text_inner_run = refl
 
 -- "   ": 0,0
 pub text_spaces : measure_of (word "   ") 3 false ≡ Ok (record { size = 0; least = 0; prefix = 0 })
-unfolding first_codes measure_of first_answer text_size class_of readable trim_start trim_end widths runs begins
+unfolding measure_of first_answer text_size class_of readable trim_start trim_end widths runs begins
 text_spaces = refl
 
 -- img of nothing, wrap 3: 2,2

@@ -10,8 +10,7 @@ use lib.Dec.{eqb}
 use lib.ListN.{length, get_or, take, drop, replicate, length-drop, get_or-replicate}
 use lib.Seq.{length-take-le, get_or-take, get_or-drop}
 use borrow.Author.Tests.{eq-eqb, ne_eqb, lt-ltb, le-ltb}
-use Rattle.common.specs.Lists.{sum}
-use Rattle.common.specs.inner.Lists.{Tiles}
+use Rattle.common.specs.Lists.{sum, Tiles}
 use Rattle.common.proofs.Tiles.{tiles_start}
 use Rattle.records.specs.declared.Entry.{Entry}
 use Rattle.text.specs.declared.Estimate.{Estimate}

@@ -4,8 +4,7 @@ use mathlib.Core.List.{List, [], ◌∷◌, map}
 use Prim.{tt}
 use Prim.Native.Nat.{ℕ, ◌+◌, ◌≤◌}
 use native.Mathlib.Omega.{arith}
-use Rattle.common.specs.Lists.{All}
-use Rattle.common.specs.inner.Lists.{Tiles}
+use Rattle.common.specs.Lists.{All, Tiles}
 
 module _ {A : Type 0} (first span : A → ℕ) where
   pub tiles_start : (n p : ℕ) (xs : List A) → Tiles first span n p xs → p ≤ n

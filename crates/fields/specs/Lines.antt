@@ -1,5 +1,6 @@
 -- Cutting a sheet into lines.
-use Rattle.std.specs.Prelude.{Bool, true, false, cond, List, [], ◌∷◌, ℕ, ◌+◌, eqb, take, drop}
+use Rattle.std.specs.Prelude.{Bool, true, false, cond, List, [], ◌∷◌, ◌++◌, ℕ, ◌+◌, eqb, take, drop}
+use Rattle.kinds.specs.Words.{word}
 use Rattle.kinds.specs.Kinds.{same}
 
 abbrev pub feed : ℕ
@@ -29,8 +30,7 @@ pieces (b ∷ bs) = cond (eqb b feed) (piece [] true ∷ pieces bs) (before b (p
 
 -- the first line: "depth kind n cols rows text" and its line feed
 abbrev pub heading : List ℕ
-heading =
-    100 ∷ 101 ∷ 112 ∷ 116 ∷ 104 ∷ 32 ∷ 107 ∷ 105 ∷ 110 ∷ 100 ∷ 32 ∷ 110 ∷ 32 ∷ 99 ∷ 111 ∷ 108 ∷ 115 ∷ 32 ∷ 114 ∷ 111 ∷ 119 ∷ 115 ∷ 32 ∷ 116 ∷ 101 ∷ 120 ∷ 116 ∷ 10 ∷ []
+heading = word "depth kind n cols rows text" ++ (feed ∷ [])
 
 abbrev pub heading_bytes : ℕ
 heading_bytes = 28

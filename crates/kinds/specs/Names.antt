@@ -1,26 +1,8 @@
--- The names of the kinds are the bytes of their words, each word names the kind of its name, and each kind that the rules name has its
--- name's place: computed.
-use Rattle.std.specs.Prelude.{◌≡◌, refl, List, [], ◌∷◌, ◌++◌, map, ℕ, zero, suc, length}
-use Prim.Native.Char.{code}
-use Prim.Native.String.{String, len, char_at}
+-- Each word names the kind of its name, and each kind that the rules name has its name's place: computed.
+use Rattle.std.specs.Prelude.{◌≡◌, refl, [], ◌∷◌, map, length}
+use Rattle.kinds.specs.Words.{word}
 use Rattle.kinds.specs.declared.Kind.TheVariants.{Text, Img, Svg, Container, Link, Em, Strong, Strike, Code, Block, Head, Div, Quote, Ul, Ol, Dl, Dt, Dd, Break, Table, Body, Row, Cell, Frag, Item, Sup, Calc}
 use Rattle.kinds.specs.Kinds.{kinds, kind_number, kind_at, text_kind, img_kind, svg_kind, link_kind, head_kind, quote_kind, ul_kind, ol_kind, dd_kind, break_kind, table_kind, body_kind, row_kind, cell_kind, frag_kind, calc_kind, kind_names, kind_count, same, place, kind_of}
-
--- the codes of the first n characters of a text, and of all
-unfoldable pub first_codes : String → ℕ → List ℕ
-first_codes s zero = []
-first_codes s (suc n) = first_codes s n ++ (code (char_at s n) ∷ [])
-
-abbrev pub word : String → List ℕ
-word s = first_codes s (len s)
-
-names_are :
-    kind_names
-    ≡ word "text" ∷ word "img" ∷ word "svg" ∷ word "container" ∷ word "link" ∷ word "em" ∷ word "strong" ∷ word "strike" ∷ word "code" ∷ word "block"
-    ∷ word "head" ∷ word "div" ∷ word "quote" ∷ word "ul" ∷ word "ol" ∷ word "dl" ∷ word "dt" ∷ word "dd" ∷ word "break" ∷ word "table" ∷ word "body"
-    ∷ word "row" ∷ word "cell" ∷ word "frag" ∷ word "item" ∷ word "sup" ∷ word "calc" ∷ []
-unfolding first_codes
-names_are = refl
 
 -- the kind at the place of each word
 words_are :
@@ -30,7 +12,7 @@ words_are :
     ∷ word "row" ∷ word "cell" ∷ word "frag" ∷ word "item" ∷ word "sup" ∷ word "calc" ∷ [])
     ≡ Text ∷ Img ∷ Svg ∷ Container ∷ Link ∷ Em ∷ Strong ∷ Strike ∷ Code ∷ Block ∷ Head ∷ Div ∷ Quote ∷ Ul ∷ Ol ∷ Dl ∷ Dt ∷ Dd ∷ Break
     ∷ Table ∷ Body ∷ Row ∷ Cell ∷ Frag ∷ Item ∷ Sup ∷ Calc ∷ []
-unfolding first_codes kind_at kind_of place same
+unfolding kind_at kind_of place same
 words_are = refl
 
 -- the places of the kinds are those of the variants
@@ -44,7 +26,7 @@ kinds_are :
     (word "text" ∷ word "img" ∷ word "svg" ∷ word "link" ∷ word "head" ∷ word "quote" ∷ word "ul" ∷ word "ol" ∷ word "dd" ∷ word "break" ∷ word "table"
     ∷ word "body" ∷ word "row" ∷ word "cell" ∷ word "frag" ∷ word "calc" ∷ [])
     ≡ text_kind ∷ img_kind ∷ svg_kind ∷ link_kind ∷ head_kind ∷ quote_kind ∷ ul_kind ∷ ol_kind ∷ dd_kind ∷ break_kind ∷ table_kind ∷ body_kind ∷ row_kind ∷ cell_kind ∷ frag_kind ∷ calc_kind ∷ []
-unfolding first_codes kind_of place same
+unfolding kind_of place same
 kinds_are = refl
 
 kinds_counted : length kind_names ≡ kind_count

@@ -10,8 +10,7 @@ use native.Mathlib.Omega.{arith}
 use lib.Dec.{eqb}
 use lib.ListN.{length, get_or, take}
 use borrow.Author.Tests.{eqb-false, ne_eqb}
-use Rattle.common.specs.Lists.{sum, All}
-use Rattle.common.specs.inner.Lists.{Tiles}
+use Rattle.common.specs.Lists.{sum, All, Tiles}
 use Rattle.common.proofs.Tiles.{tiles_start}
 use Rattle.common.proofs.Sum.{sum_take_le}
 use Rattle.columns.specs.Boxes.{Box}

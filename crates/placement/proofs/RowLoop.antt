@@ -9,8 +9,7 @@ use native.Mathlib.Omega.{arith}
 use lib.Dec.{eqb}
 use lib.ListN.{length, get_or, take, drop, set, replicate, length-map, length-set, get_or-map}
 use lib.Seq.{drop-cons}
-use Rattle.common.specs.Lists.{sum}
-use Rattle.common.specs.inner.Lists.{Tiles}
+use Rattle.common.specs.Lists.{sum, Tiles}
 use Rattle.common.proofs.Tiles.{tiles_start}
 use Rattle.common.proofs.Sum.{sum_take_le}
 use Rattle.common.proofs.Write.{write_more, write_all}

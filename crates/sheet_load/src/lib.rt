@@ -5,11 +5,11 @@
 
 pub mod measuring; // measuring.rt: the lines measured too
 
-ghost use Rattle.std.specs.Prelude.{◌≡◌, true, ◌≤◌, length};
+ghost use Rattle.std.specs.Prelude.{◌≡◌, true, ◌≤◌, length, Some};
 ghost use Rattle.sheet.specs.inner.Steps.{line_bound};
 ghost use Rattle.sheet.specs.inner.Reading.{Reads};
-ghost use Rattle.sheet_load.specs.Opening.{is_table};
-ghost use Rattle.sheet_load.specs.inner.Opened.{asks_no_table, OpenLinesPre, OpenLinesPost, OpenSheetPost};
+ghost use Rattle.sheet_load.specs.Opening.{nodes_of, is_table};
+ghost use Rattle.sheet_load.specs.inner.Opened.{asks_no_table, deciding, OpenLinesPre, OpenLinesPost, OpenSheetPost};
 
 use common::{MAX_BYTES, MAX_LINES, Reason, Refusal};
 use kinds::Kind;
@@ -89,4 +89,28 @@ pub fn open_sheet(
 {
     let n = read_sheet(bytes, lines)?;
     open_lines(asked, &lines[..n], scratch)
+}
+
+// Of two lines that must both be tables, the one that decides.
+fn deciding(lines: &[NodeRecord], left: u32, right: u32) -> u32
+    ensures { result ≡ deciding lines.now left right }
+{
+    if is_table(lines, left) { right } else { left }
+}
+
+// Opens a sheet for the tables in two lines, which may be the same: 10 if either is no table, before every table is checked.
+pub fn open_two(
+    bytes: &[u8],
+    left: u32,
+    right: u32,
+    lines: &mut [NodeRecord],
+    scratch: &mut [u32],
+) -> Result<usize, Refusal>
+    requires bytes_bound { line_bound bytes.now ≤ length lines.old }
+    requires bytes_in_bounds { line_bound bytes.now ≤ length scratch.old }
+    ensures { OpenSheetPost (Some (deciding (nodes_of bytes.now) left right)) bytes.now result lines.new }
+{
+    let n = read_sheet(bytes, lines)?;
+    let asked = deciding(&lines[..n], left, right);
+    open_lines(Some(asked), &lines[..n], scratch)
 }

@@ -9,7 +9,7 @@ use Rattle.text.specs.Bytes.{class_of}
 use Rattle.text.specs.Text.{readable, trim_start, trim_end}
 use Rattle.text.specs.Decimal.{shifted}
 use Rattle.kinds.specs.Kinds.{same, place, kind_of, kind_at, may_hold}
-use Rattle.kinds.specs.Names.{word, first_codes}
+use Rattle.kinds.specs.Words.{word}
 use Rattle.fields.specs.Lines.{feed, feeds, pieces, headed}
 use Rattle.fields.specs.Numbers.{all_digits, value_from, is_natural, natural_of, negative_of, number_of}
 use Rattle.fields.specs.Blanks.{until_blank}
@@ -94,7 +94,7 @@ pub record Placed : Type 0 where
   pub body : at 2 5 ≡ no_table
 
 pub placed : Placed
-unfolding first_codes sum mem first_answer class_of readable trim_start trim_end shifted same place kind_of kind_at may_hold feeds pieces headed all_digits value_from is_natural natural_of negative_of number_of until_blank then_number then_kind parse n_fits spans_fit text_fits fits read_parsed read_line nearest depth_fits place_fits childless sheet_checks lines_checks lines_of empty_checks sheet_lines count_below ends_from frame row_sum widest resolve_row fill_body cut_row cut_body resolve_body resolved table_rows fillers later row_from hang_of nexts entry_count originals ends_past ends_of entries_from grid_of entries_of table_checks tables_checks is_table filler_owner first_text text_part part_for is_none part_of_owner place_of reply
+unfolding sum mem first_answer class_of readable trim_start trim_end shifted same place kind_of kind_at may_hold feeds pieces headed all_digits value_from is_natural natural_of negative_of number_of until_blank then_number then_kind parse n_fits spans_fit text_fits fits read_parsed read_line nearest depth_fits place_fits childless sheet_checks lines_checks lines_of empty_checks sheet_lines count_below ends_from frame row_sum widest resolve_row fill_body cut_row cut_body resolve_body resolved table_rows fillers later row_from hang_of nexts entry_count originals ends_past ends_of entries_from grid_of entries_of table_checks tables_checks is_table filler_owner first_text text_part part_for is_none part_of_owner place_of reply
 placed = record { hall = refl; two_below = refl; empty_first = refl; image = refl; blanks = refl; nested = refl; cell = refl; cell_after = refl; past_last = refl; body = refl }
 
 -- ---- what is returned
@@ -113,7 +113,7 @@ pub record Said : Type 0 where
   pub cell : said 11 ≡ []
 
 pub said_there : Said
-unfolding first_codes sum mem first_answer class_of readable trim_start trim_end shifted same place kind_of kind_at may_hold feeds pieces headed all_digits value_from is_natural natural_of negative_of number_of until_blank then_number then_kind parse n_fits spans_fit text_fits fits read_parsed read_line nearest depth_fits place_fits childless sheet_checks lines_checks lines_of empty_checks sheet_lines count_below ends_from frame row_sum widest resolve_row fill_body cut_row cut_body resolve_body resolved table_rows fillers later row_from hang_of nexts entry_count originals ends_past ends_of entries_from grid_of entries_of table_checks tables_checks is_table filler_owner first_text text_part part_for is_none part_of_owner place_of reply
+unfolding sum mem first_answer class_of readable trim_start trim_end shifted same place kind_of kind_at may_hold feeds pieces headed all_digits value_from is_natural natural_of negative_of number_of until_blank then_number then_kind parse n_fits spans_fit text_fits fits read_parsed read_line nearest depth_fits place_fits childless sheet_checks lines_checks lines_of empty_checks sheet_lines count_below ends_from frame row_sum widest resolve_row fill_body cut_row cut_body resolve_body resolved table_rows fillers later row_from hang_of nexts entry_count originals ends_past ends_of entries_from grid_of entries_of table_checks tables_checks is_table filler_owner first_text text_part part_for is_none part_of_owner place_of reply
 said_there = record { hall = refl; empty_first = refl; image = refl; blanks = refl; nested = refl; two_below = refl; cell = refl }
 
 -- ---- owners where fillers stand elsewhere than their cells, by the rows of a table

@@ -5,8 +5,7 @@ use mathlib.Core.List.{List, [], ◌∷◌, map, map-map}
 use Prim.Native.Nat.{ℕ, ◌+◌}
 use native.Mathlib.Omega.{arith}
 use lib.ListN.{length, length-map}
-use Rattle.common.specs.Lists.{All}
-use Rattle.common.specs.inner.Lists.{Tiles}
+use Rattle.common.specs.Lists.{All, Tiles}
 use Rattle.common.proofs.Tiles.{tiles_start}
 use Rattle.common.proofs.All.{all_append}
 use Rattle.text.specs.declared.Estimate.{Estimate}

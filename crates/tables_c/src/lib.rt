@@ -1,4 +1,4 @@
-// The thirteen calls for C and Rust: numbers, lent slices and `#[repr(C)]` structs of numbers alone. A slice crosses as a pointer and a length.
+// The sixteen calls for C and Rust: numbers, lent slices and `#[repr(C)]` structs of numbers alone. A slice crosses as a pointer and a length.
 // The settings and the buffers are a parameter each: C hands them over so, and the calls that these make take them so.
 #![tactic(auto)]
 
@@ -14,6 +14,7 @@ ghost use Rattle.call_preview.specs.Preview.{pointed_of, listed_of, for_one as f
 ghost use Rattle.call_walk.specs.Walks.{walked_of, for_walk, WalkLeft};
 ghost use Rattle.call_nested.specs.Nested.{nested_of, NestedLeft};
 ghost use Rattle.call_spoken.specs.Spoken.{place_of};
+ghost use Rattle.call_joined.specs.Joined.{joined_grid_of, JoinedGridBuffers, joined_layout_of, JoinedLayoutBuffers, joined_place_of};
 ghost use Rattle.call_window.specs.Window.{window_of, for_report, WindowBuffers};
 ghost use Rattle.c_results.specs.Answers.{check_result, as_img, measure_result, estimates_result, grid_result, layout_result, missing_result, at_result, within_result, joining_result, walk_result, nested_result, window_result, spoken_result};
 
@@ -226,4 +227,63 @@ pub extern "C" fn tables_spoken(sheet: &[u8], line: u32, entry: u32, wording: &[
     ensures { result ≡ spoken_result (place_of sheet.now line entry) (length wording.now) }
 {
     SpokenResult::of(call_spoken::spoken_place(sheet, line, entry), wording.len())
+}
+
+// The grid of the tables in two lines, side by side.
+#[unsafe(no_mangle)]
+pub extern "C" fn tables_joined_grid(
+    sheet: &[u8],
+    left: u32,
+    right: u32,
+    cell: &mut [u32],
+    first: &mut [u32],
+    span: &mut [u32],
+    row: &mut [u32],
+    row_end: &mut [u32],
+) -> GridResult
+    ensures value { result ≡ grid_result (joined_grid_of sheet.now left right
+        (for_entries cell.old first.old span.old) (for_rows row.old row_end.old)) }
+    ensures joined_grid_buffers { JoinedGridBuffers sheet.now left right
+        cell.old first.old span.old row.old row_end.old cell.new first.new span.new row.new row_end.new }
+{
+    GridResult::from(call_joined::joined_grid(sheet, left, right, cell, first, span, row, row_end))
+}
+
+// The layout of the tables in two lines, side by side.
+#[unsafe(no_mangle)]
+pub extern "C" fn tables_joined_layout(
+    sheet: &[u8],
+    left: u32,
+    right: u32,
+    wrap: u32,
+    raw: u32,
+    width: u32,
+    column: &mut [u32],
+    x: &mut [u32],
+    wide: &mut [u32],
+) -> LayoutResult
+    ensures value { result ≡ layout_result (joined_layout_of sheet.now left right wrap raw width (for_columns column.old) (for_places x.old wide.old)) }
+    ensures joined_layout_buffers { JoinedLayoutBuffers sheet.now left right wrap raw width column.old x.old wide.old
+        column.new x.new wide.new }
+{
+    LayoutResult::from(call_joined::joined_layout(
+        sheet, left, right, wrap, raw, width, column, x, wide,
+    ))
+}
+
+// Where the text stands that is spoken at an entry of the joined grid of the tables in two lines: in the sheet, or it is the whole wording.
+#[unsafe(no_mangle)]
+pub extern "C" fn tables_joined_spoken(
+    sheet: &[u8],
+    left: u32,
+    right: u32,
+    entry: u32,
+    wording: &[u8],
+) -> SpokenResult
+    ensures { result ≡ spoken_result (joined_place_of sheet.now left right entry) (length wording.now) }
+{
+    SpokenResult::of(
+        call_joined::joined_place(sheet, left, right, entry),
+        wording.len(),
+    )
 }

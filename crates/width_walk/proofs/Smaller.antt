@@ -7,8 +7,7 @@ use Prim.Native.Nat.{ℕ, zero, suc, ◌+◌, ◌-◌, ◌≤◌, ◌<◌, max}
 use native.Mathlib.Omega.{arith}
 use lib.Dec.{eqb}
 use lib.ListN.{get_or, take, drop}
-use Rattle.common.specs.Lists.{sum}
-use Rattle.common.specs.inner.Lists.{Tiles}
+use Rattle.common.specs.Lists.{sum, Tiles}
 use Rattle.common.proofs.Tiles.{tiles_start}
 use Rattle.text.specs.declared.Estimate.{Estimate}
 use Rattle.records.specs.NodeRecord.{no_node}

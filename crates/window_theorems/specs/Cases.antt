@@ -11,7 +11,7 @@ use Rattle.text.specs.Decimal.{shifted, writing, digits, digits_in}
 use Rattle.text.specs.Prefix.{last_number, ol_prefix}
 use Rattle.kinds.specs.Kinds.{same, place, kind_of, kind_at, may_hold}
 use Rattle.fields.specs.Lines.{feed, feeds, pieces, headed}
-use Rattle.kinds.specs.Names.{word, first_codes}
+use Rattle.kinds.specs.Words.{word}
 use Rattle.fields.specs.Numbers.{all_digits, value_from, is_natural, natural_of, negative_of, number_of}
 use Rattle.fields.specs.Blanks.{until_blank}
 use Rattle.line.specs.Fields.{then_number, then_kind, parse, n_fits, spans_fit, text_fits, fits, read_parsed, read_line, own_size}
@@ -93,7 +93,7 @@ pub record Traced : Type 0 where
   pub hanging_missings : missing_counts_at hanging_sheet 1 3 0 (2 ∷ 10 ∷ []) ≡ 0 ∷ 2 ∷ []
 
 pub traced : Traced
-unfolding first_codes sum mem first_answer class_of text_size readable trim_start trim_end widths runs begins shifted writing digits digits_in last_number ol_prefix same place kind_of kind_at may_hold feeds pieces headed all_digits value_from is_natural natural_of negative_of number_of until_blank then_number then_kind parse n_fits spans_fit text_fits fits read_parsed read_line own_size nearest depth_fits place_fits childless sheet_checks lines_checks lines_of empty_checks sheet_lines flat up_to sum_at largest_at count_below ends_from frame row_sum widest resolve_row resolve_body resolved table_rows fillers later row_from hang_of nexts originals ends_of entries_from longest grid_of columns_of ends_past entry_count table_checks tables_checks measured estimate_of leaf_of holder_of gather prefix_of box_of tabled pick cut_once cut_by cut share shares_of way_of final_widths nonzero table_width place_side place_down place_row place_rows fill_body cut_body cut_row way_number missing_from any_above any_shorter is_table window_of
+unfolding sum mem first_answer class_of text_size readable trim_start trim_end widths runs begins shifted writing digits digits_in last_number ol_prefix same place kind_of kind_at may_hold feeds pieces headed all_digits value_from is_natural natural_of negative_of number_of until_blank then_number then_kind parse n_fits spans_fit text_fits fits read_parsed read_line own_size nearest depth_fits place_fits childless sheet_checks lines_checks lines_of empty_checks sheet_lines flat up_to sum_at largest_at count_below ends_from frame row_sum widest resolve_row resolve_body resolved table_rows fillers later row_from hang_of nexts originals ends_of entries_from longest grid_of columns_of ends_past entry_count table_checks tables_checks measured estimate_of leaf_of holder_of gather prefix_of box_of tabled pick cut_once cut_by cut share shares_of way_of final_widths nonzero table_width place_side place_down place_row place_rows fill_body cut_body cut_row way_number missing_from any_above any_shorter is_table window_of
 traced =
     record {
       damp_answer = refl;
@@ -132,5 +132,5 @@ one_short s line = refl
 
 -- 1,024 of the largest widths, each buffer with a place for each
 pub all_fit : window_of hanging_sheet 1 1000 1 (replicate 1024 65535) (1024 ∷ 1024 ∷ 1024 ∷ []) ≡ Ok 1024
-unfolding first_codes sum mem first_answer class_of text_size readable trim_start trim_end widths runs begins shifted writing digits digits_in last_number ol_prefix same place kind_of kind_at may_hold feeds pieces headed all_digits value_from is_natural natural_of negative_of number_of until_blank then_number then_kind parse n_fits spans_fit text_fits fits read_parsed read_line own_size nearest depth_fits place_fits childless sheet_checks lines_checks lines_of empty_checks sheet_lines flat up_to sum_at largest_at count_below ends_from frame row_sum widest resolve_row resolve_body resolved table_rows fillers later row_from hang_of nexts originals ends_of entries_from longest grid_of columns_of ends_past entry_count table_checks tables_checks measured estimate_of leaf_of holder_of gather prefix_of box_of tabled pick cut_once cut_by cut share shares_of way_of final_widths nonzero table_width place_side place_down place_row place_rows fill_body cut_body cut_row way_number missing_from any_above any_shorter is_table window_of
+unfolding sum mem first_answer class_of text_size readable trim_start trim_end widths runs begins shifted writing digits digits_in last_number ol_prefix same place kind_of kind_at may_hold feeds pieces headed all_digits value_from is_natural natural_of negative_of number_of until_blank then_number then_kind parse n_fits spans_fit text_fits fits read_parsed read_line own_size nearest depth_fits place_fits childless sheet_checks lines_checks lines_of empty_checks sheet_lines flat up_to sum_at largest_at count_below ends_from frame row_sum widest resolve_row resolve_body resolved table_rows fillers later row_from hang_of nexts originals ends_of entries_from longest grid_of columns_of ends_past entry_count table_checks tables_checks measured estimate_of leaf_of holder_of gather prefix_of box_of tabled pick cut_once cut_by cut share shares_of way_of final_widths nonzero table_width place_side place_down place_row place_rows fill_body cut_body cut_row way_number missing_from any_above any_shorter is_table window_of
 all_fit = refl

@@ -3,7 +3,9 @@
 use Rattle.std.proofs.Common.{rules}
 use native.Mathlib.Omega.{arith}
 use Rattle.call_grid.specs.inner.Found.{entries_in, rows_in}
-use Rattle.call_grid.proofs.Answers.{grid_fit, grid_rooms, grid_answered}
+use Rattle.call_grid.specs.Grid.{gridded_of}
+use Rattle.call_grid.proofs.Answers.{grid_fit, grid_rooms, grid_told, grid_left}
+use Rattle.sheet_load.specs.Opening.{after_reading}
 use Rattle.call_grid.proofs.grid.Goals as goal
 
 pub find_grid-found-requires : goal.find_grid-found-requires
@@ -30,9 +32,13 @@ unfolding rows_in
 zero_rest-requires-5 c = grind (arith, (grid_rooms c.of_grid-asked.ensures c.find_grid-found.ensures).1.1, c.find_grid-found.auto.row_end)
 
 pub returns : goal.returns
-unfolding entries_in rows_in
+unfolding entries_in rows_in gridded_of after_reading
 returns c =
     let f = c.find_grid-found in
-    grid_answered c.of_grid-asked.ensures c.find_grid-found.ensures (search rules) (search rules)
-    c.find_grid-found.auto.cell c.find_grid-found.auto.first c.find_grid-found.auto.span c.find_grid-found.auto.row c.find_grid-found.auto.row_end
-    c.zero_rest.ensures c.zero_rest-2.ensures c.zero_rest-3.ensures c.zero_rest-4.ensures c.zero_rest-5.ensures
+    record {
+      answer = grid_told _ _ _ _ _ c.of_grid-asked.ensures f.ensures;
+      left =
+          grid_left c.of_grid-asked.ensures f.ensures (search rules) (search rules)
+          f.auto.cell f.auto.first f.auto.span f.auto.row f.auto.row_end
+          c.zero_rest.ensures c.zero_rest-2.ensures c.zero_rest-3.ensures c.zero_rest-4.ensures c.zero_rest-5.ensures;
+    }

@@ -1,6 +1,6 @@
 -- Boxes that tile columns, and boxes cut into rows.
 use Rattle.std.specs.Prelude.{List, [], ◌∷◌, ℕ, ◌-◌, ◌≤◌, take, drop}
-use Rattle.common.specs.inner.Lists.{Tiles}
+use Rattle.common.specs.Lists.{Tiles}
 use Rattle.columns.specs.Boxes.{Box}
 
 -- the boxes row by row: each row's figure is the number of boxes up to and including it; a of them were taken before

@@ -1,6 +1,6 @@
 -- What the functions that open a sheet take and promise.
 use Rattle.common.specs.declared.Refusal.{Refusal}
-use Rattle.std.specs.Prelude.{◌≡◌, Bool, not, false, List, ℕ, ◌-◌, ◌≤◌, length, get_or, take, Err, Ok, Result, Option, None, Some}
+use Rattle.std.specs.Prelude.{◌≡◌, Bool, not, false, cond, List, ℕ, ◌-◌, ◌≤◌, length, get_or, take, Err, Ok, Result, Option, None, Some}
 use Rattle.common.specs.Refusals.{first_answer}
 use Rattle.kinds.specs.Kinds.{kind_number, table_kind}
 use Rattle.records.specs.NodeRecord.{no_node}
@@ -19,6 +19,10 @@ pub record Apt (ks : List NodeRecord) (line : ℕ) : Type 0 where
 unfoldable pub asks_no_table : Option ℕ → List NodeRecord → Bool
 asks_no_table (Some line) ks = not (is_table ks line)
 asks_no_table None ks = false
+
+-- of two lines that must both be tables, the one that decides: the left one if it is no table, else the right one
+abbrev pub deciding : List NodeRecord → (left right : ℕ) → ℕ
+deciding ks left right = cond (is_table ks left) right left
 
 -- what checking the tables takes: lines that nest, and scratch with a place for each line
 pub record OpenLinesPre (ks : List NodeRecord) (scratch : List ℕ) : Type 0 where

@@ -12,7 +12,7 @@ use Rattle.call_grid.proofs.arrays.grid_in.Goals as goal
 pub returns-in_err-n-clause-tried : goal.returns-in_err-n-clause-tried
 returns-in_err-n-clause-tried g c =
     let q : c.from_residual.result ≡ Err c.in_err-n.field-0.0 = search rules in
-    rw q (grid_refused (sym c.open_sheet.ensures.answer ∙ c.in_err-n.was))
+    rw q (grid_refused _ _ (sym c.open_sheet.ensures.answer ∙ c.in_err-n.was))
 
 pub shared_whole_as_front-lines : goal.shared_whole_as_front-lines
 shared_whole_as_front-lines g c = (
@@ -42,4 +42,4 @@ answer_of-requires g c = records_small (asked_lines (opened_at c.open_sheet.ensu
 pub returns-clause-tried : goal.returns-clause-tried
 returns-clause-tried g c =
     rw c.answer_of.ensures
-    (grid_found (opened_at c.open_sheet.ensures c.in_ok-n.was) (made_records c.make-counts.ensures c.records-grid.ensures) c.write_grid.ensures)
+    (grid_found _ _ (opened_at c.open_sheet.ensures c.in_ok-n.was) (made_records c.make-counts.ensures c.records-grid.ensures) c.write_grid.ensures)

@@ -13,7 +13,7 @@ use Rattle.call_layout.proofs.arrays.layout_in.Goals as goal
 pub returns-in_err-n-clause-tried : goal.returns-in_err-n-clause-tried
 returns-in_err-n-clause-tried g c =
     let q : c.from_residual.result ≡ Err c.in_err-n.field-0.0 = search rules in
-    rw q (layout_refused (sym c.open_sheet.ensures.answer ∙ c.in_err-n.was))
+    rw q (layout_refused _ _ _ _ _ (sym c.open_sheet.ensures.answer ∙ c.in_err-n.was))
 
 pub shared_whole_as_front-lines : goal.shared_whole_as_front-lines
 shared_whole_as_front-lines g c = (
@@ -46,4 +46,4 @@ layout_of-layout-requires g c = record {
 
 pub returns-clause-tried : goal.returns-clause-tried
 returns-clause-tried g c =
-    layout_found (lines_below c.open_sheet.ensures c.in_ok-n.was c.measure_below.ensures) c.layout_of-layout.ensures
+    layout_found _ _ _ _ _ (lines_below c.open_sheet.ensures c.in_ok-n.was c.measure_below.ensures) c.layout_of-layout.ensures

@@ -1,0 +1,2 @@
+-- The cell that a filler of two grids joined side by side continues.
+pub mod inner

@@ -1,0 +1,3 @@
+pub mod Grids
+pub mod Layable
+pub mod Whole

@@ -1,0 +1,2 @@
+-- What only code and proofs need.
+pub mod Joining
