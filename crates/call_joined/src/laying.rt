@@ -1,9 +1,6 @@
 // The call `joined_layout`: the joined grid of two tables of a sheet laid out. The whole sheet is measured, since the cells of both tables are asked.
 // wrap, raw and width are a parameter each, as the C interface hands them over.
-ghost use Rattle.std.specs.Prelude.{◌≡◌, ◌≤◌, length, MatchResult, Ok, Err};
-ghost use Rattle.common.specs.Limits.{max_position};
-ghost use Rattle.estimates.specs.inner.Meets.{Measured};
-ghost use Rattle.sheet_load.specs.inner.Measures.{Measurable};
+ghost use Rattle.std.specs.Prelude.{◌≡◌, MatchResult, Ok, Err};
 ghost use Rattle.table_layout.specs.inner.Asked.{OutCapacity};
 ghost use Rattle.arguments.specs.inner.Asked.{verdict_in};
 ghost use Rattle.call_joined.specs.Joined.{two_checks, JoinedLayoutAnswer};
@@ -13,20 +10,7 @@ use answers::Layout;
 use arguments::Settings;
 use call_layout::read::answer_of;
 use common::{MAX_ENTRIES, MAX_LINES, Refusal};
-use records::NodeRecord;
-use text::Estimate;
-
-// Measures all lines of a sheet; `leasts` is scratch. It is never taken into its caller's frame: so its arrays are gone when the tables are joined.
-#[inline(never)]
-fn measure(wrap: u32, lines: &[NodeRecord], figures: &mut [Estimate], leasts: &mut [u32])
-    requires measurable { Measurable lines.now figures.old }
-    requires leasts_capacity { max_position ≤ length leasts.old }
-    ensures { Measured wrap lines.now figures.old figures.new }
-{
-    let mut entries = [records::NO_ENTRY; MAX_ENTRIES];
-    let mut rows = [records::NO_ROW; MAX_LINES];
-    estimates::measure(wrap, lines, figures, leasts, &mut entries, &mut rows);
-}
+use joined_tables::MeasuredTables;
 
 // The layout of the tables in two lines, joined. `column` is scratch until it is written.
 fn layout_of(
@@ -44,18 +28,24 @@ fn layout_of(
 {
     let mut lines = [records::NO_NODE; MAX_LINES];
     let mut figures = [estimates::NONE; MAX_LINES];
+    let mut entries = [records::NO_ENTRY; MAX_ENTRIES];
+    let mut rows = [records::NO_ROW; MAX_LINES];
     let n = sheet_load::open_two(sheet, left, right, &mut lines, column)?;
     let lines = &lines[..n];
-    measure(settings.wrap, lines, &mut figures, column);
-    let l = (left - 1) as usize;
-    let r = (right - 1) as usize;
-    let laid = joined_tables::lay_out(
+    let wrap = settings.wrap;
+    estimates::measure(wrap, lines, &mut figures, column, &mut entries, &mut rows);
+    let t = MeasuredTables {
         lines,
-        &figures,
-        l,
-        r,
+        figures: &figures,
+        left: (left - 1) as usize,
+        right: (right - 1) as usize,
+    };
+    let laid = joined_tables::lay_out(
+        t,
         settings.raw,
         settings.width,
+        &mut entries,
+        &mut rows,
         column,
         x,
         wide,

@@ -13,6 +13,16 @@ use records::{Entry, NodeRecord, RowEnd};
 use table_layout::Arrangement;
 use text::Estimate;
 
+// Two tables of an accepted sheet: the sheet's lines, their estimates, and the places of the tables' lines.
+#[derive(Clone, Copy)]
+pub struct MeasuredTables<'a> {
+    pub lines: &'a [NodeRecord],
+    pub figures: &'a [Estimate],
+    pub left: usize,
+    pub right: usize,
+    pub ghost known: { Tables lines.now left right },
+}
+
 // The joined grid of the tables at the places l and r: the counts, with its records in the first places, or the first of the refusals 5 and 6 that
 // applies. Each table's grid is made in arrays of its own.
 pub fn make(
@@ -40,29 +50,27 @@ pub fn make(
     )
 }
 
-// The tables at the places l and r of a measured sheet laid out side by side: the columns' final widths, x and width of each entry.
+// Two tables of a measured sheet laid out side by side: the columns' final widths, x and width of each entry. The records of the joined grid are made in
+// lent slices.
 pub fn lay_out(
-    lines: &[NodeRecord],
-    figures: &[Estimate],
-    l: usize,
-    r: usize,
+    t: MeasuredTables<'_>,
     raw: u32,
     width: u32,
+    entries: &mut [Entry],
+    rows: &mut [RowEnd],
     column: &mut [u32],
     x: &mut [u32],
     wide: &mut [u32],
 ) -> Result<Arrangement, Reason>
-    requires tables { Tables lines.now l r }
-    requires measured { AllMeasured lines.now figures.now }
+    requires measured { AllMeasured t.lines.now t.figures.now }
+    requires record_capacity { RecordCapacity entries.old rows.old }
     requires layout_capacity { LayOutCapacity width column.old x.old wide.old }
-    ensures { LayOutPost lines.now l r figures.now raw width result column.new x.new wide.new }
+    ensures { LayOutPost t.entry.lines.now t.entry.left t.entry.right t.entry.figures.now raw width result column.new x.new wide.new }
 {
-    let mut entries = [records::NO_ENTRY; MAX_ENTRIES];
-    let mut rows = [records::NO_ROW; MAX_LINES];
-    let counts = make(lines, l, r, &mut entries, &mut rows)?;
+    let counts = make(t.lines, t.left, t.right, entries, rows)?;
     let laid = table_layout::lay(
-        counts.records(&entries, &rows),
-        figures,
+        counts.records(entries, rows),
+        t.figures,
         raw,
         width,
         &mut column[..counts.columns],

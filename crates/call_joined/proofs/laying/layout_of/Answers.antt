@@ -5,7 +5,7 @@ use mathlib.Core.Path.{refl, sym, ◌∙◌}
 use native.Mathlib.Omega.{arith}
 use Rattle.std.proofs.lemmas.Result.{err_from_is_err_and}
 use lib.Seq.{length-take-le}
-use Rattle.sheet_load.proofs.Measurable.{front_measurable, sheet_measured}
+use Rattle.sheet_load.proofs.Measurable.{front_measurable, sheet_measured, lent_any}
 use Rattle.call_joined.proofs.Opening.{Opened, opened, put_on, put_none}
 use Rattle.call_joined.proofs.LaidOut.{laying_refused, all_measured, laying_late, laid_small, laid_found}
 use Rattle.call_joined.proofs.laying.layout_of.Goals as goal
@@ -26,19 +26,18 @@ pub slice_bounds-lines-end-2 : goal.slice_bounds-lines-end-2
 slice_bounds-lines-end-2 c = sym (length-take-le _ _ (omega (arith, (open_for (goal.at.slice_bounds-lines-end-2 c).In_ok-n).passed.few)))
 
 pub measure-requires : goal.measure-requires
-measure-requires c = record {
-  measurable = (front_measurable c.open_two.ensures _ c.in_ok-n.was (omega arith) (omega arith)).1;
-  leasts_capacity = omega (arith, c.requires.column_capacity, c.open_two.auto.scratch);
-}
+measure-requires c =
+    lent_any (front_measurable c.open_two.ensures _ c.in_ok-n.was (omega arith) (omega arith)).1
+    (record { leasts_capacity = omega (arith, c.requires.column_capacity, c.open_two.auto.scratch); entries_capacity = omega arith; rows_capacity = omega arith })
 
-pub overflow_sub-l : goal.overflow_sub-l
-overflow_sub-l c = (open_for (goal.at.overflow_sub-l c).In_ok-n).left.from_one
+pub overflow_sub-t : goal.overflow_sub-t
+overflow_sub-t c = (open_for (goal.at.overflow_sub-t c).In_ok-n).left.from_one
 
-pub overflow_sub-r : goal.overflow_sub-r
-overflow_sub-r c = (open_for (goal.at.overflow_sub-r c).In_ok-n).right.from_one
+pub overflow_sub-t-2 : goal.overflow_sub-t-2
+overflow_sub-t-2 c = (open_for (goal.at.overflow_sub-t-2 c).In_ok-n).right.from_one
 
-pub lay_out-laid-requires-clause-tables : goal.lay_out-laid-requires-clause-tables
-lay_out-laid-requires-clause-tables c = let o = open_for (goal.at.lay_out-laid-requires-clause-tables c).In_ok-n in rw o.holds o.tables
+pub invariant_of-t : goal.invariant_of-t
+invariant_of-t c = let o = open_for (goal.at.invariant_of-t c).In_ok-n in rw o.holds (record { known = o.tables })
 
 pub lay_out-laid-requires-clause-measured : goal.lay_out-laid-requires-clause-measured
 lay_out-laid-requires-clause-measured c =
