@@ -3,3 +3,4 @@ pub mod Opening
 pub mod Gridded
 pub mod LaidOut
 pub mod Replies
+pub mod Never
