@@ -1,4 +1,4 @@
--- The calls `estimates`, `grid`, `layout`, `walk` and `nested` never answer 7. By the numbers of their checks.
+-- The checks of `estimates`, `grid`, `layout`, `walk`, `nested` and `measure` are of other refusals than 7. By their numbers.
 use Rattle.common.specs.declared.Reason.TheVariants.{Setting, ShortBuffer, TooNarrow}
 use mathlib.Core.List.{List}
 use Prim.Native.Nat.{ℕ, zero, suc, ◌+◌}

@@ -1,0 +1,3 @@
+-- What holds of every refusal: the proofs.
+pub mod Checks
+pub mod NoSeven

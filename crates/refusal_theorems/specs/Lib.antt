@@ -1,0 +1,2 @@
+-- What holds of every refusal.
+pub mod NoSeven

@@ -1,2 +1,0 @@
--- No call answers 7.
-pub mod Never
