@@ -11,6 +11,7 @@ use Rattle.common.specs.Lists.{All}
 use Rattle.common.specs.Refusals.{reason_number, Check, first_answer, verdict_of}
 use Rattle.text.specs.Text.{measure_of}
 use Rattle.sheet_figures.proofs.Never.{Other, no_more, more, check_other}
+use Rattle.grid.proofs.Seven.{seven_never}
 use Rattle.call_estimates.specs.Estimates.{estimated_of}
 use Rattle.call_grid.specs.Grid.{gridded_of}
 use Rattle.call_layout.specs.Layout.{laid_out_of}
@@ -25,7 +26,7 @@ use Rattle.call_window.proofs.Never.{window_other}
 use Rattle.call_spoken.proofs.Never.{spoken_other}
 use Rattle.call_joined.specs.Joined.{joined_grid_of, joined_layout_of}
 use Rattle.call_joined.proofs.Never.{joined_grid_other, joined_layout_other, joined_spoken_other}
-use Rattle.refusal_theorems.specs.NoSeven.{NotSeven, NoSeven}
+use Rattle.refusal_theorems.specs.NoSeven.{NotSeven, NoSeven, EndsAreEdges}
 use Rattle.refusal_theorems.proofs.Checks.{walk_other, nested_other, estimates_other, grid_other, layout_other}
 
 of_ok : {A : Type 0} (x : A) → NotSeven (Ok x)
@@ -79,3 +80,6 @@ no_seven = record {
       same r _ e.answer_is (by_checks _ _ (of_ok _) (joined_layout_other s left right wrap raw width _ _));
   joined_spoken = λ s left right e wording text r a. same r _ a.verdict_is (by_checks _ _ (of_ok _) (joined_spoken_other s left right e));
 }
+
+pub ends_are_edges : EndsAreEdges
+ends_are_edges = seven_never

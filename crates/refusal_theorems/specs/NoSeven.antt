@@ -1,10 +1,14 @@
 -- No call answers 7, whatever it is given: an answer that meets a public call's contract is no refusal of that number. These are statements;
 -- proofs/NoSeven has their proofs.
-use Rattle.std.specs.Prelude.{Bool, List, ℕ, ◌≡◌, Option, Result, Err}
+use Rattle.std.specs.Prelude.{◌≡◌, Bool, true, List, ℕ, Option, Result, Err}
 use Rattle.common.specs.declared.Refusal.{Refusal}
 use Rattle.common.specs.Refusals.{reason_number, verdict_of}
 use Rattle.text.specs.declared.Estimate.{Estimate}
 use Rattle.text.specs.Text.{measure_of}
+use Rattle.column_edges.specs.Edges.{all_at}
+use Rattle.resolved_rows.specs.Cells as cells
+use Rattle.grid_positions.specs.Positions.{all_rows}
+use Rattle.grid.specs.Grid.{is_column_edge, ends_of}
 use Rattle.answers.specs.declared.Causes.{Causes}
 use Rattle.answers.specs.declared.Grid.{Grid}
 use Rattle.answers.specs.declared.Joint.{Joint}
@@ -56,3 +60,7 @@ pub record NoSeven : Type 0 where
       → JoinedLayoutAnswer s left right wrap raw width column₀ x₀ wide₀ r column x wide → NotSeven r
   pub joined_spoken : (s : List ℕ) (left right e : ℕ) (wording text : List ℕ) (r : Result (Unit {0}) Refusal)
       → JoinedSpokenAnswer s left right e wording text r → NotSeven r
+
+-- and why there is none: whatever rows a table has, each of their entries ends at a column edge of these rows
+abbrev pub EndsAreEdges : Type 0
+EndsAreEdges = (table : List cells.Row) → all_at (is_column_edge (all_rows table)) (ends_of (all_rows table)) ≡ true
