@@ -88,6 +88,7 @@ STATED = [
     ("what is spoken at every filler", "spoken_theorems/specs/Spoken"),
     ("what holds of two grids joined", "grid_join/specs/Facts"),
     ("what holds of two tables side by side", "joined_tables/specs/Side"),
+    ("what a calc line is refused for, and its size", "sum_theorems/specs/Sums"),
     ("no call answers 7", "refusal_theorems/specs/NoSeven"),
     ("pointing, without a search", "hit_test/specs/Exact"),
     ("the calls that point, without a search", "call_preview/specs/Exact"),

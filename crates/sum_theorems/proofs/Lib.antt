@@ -1,0 +1,2 @@
+-- What holds of every calc line: the proofs.
+pub mod Sums

@@ -1,0 +1,2 @@
+-- What holds of every calc line.
+pub mod Sums
