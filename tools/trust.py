@@ -92,6 +92,7 @@ STATED = [
     ("no call answers 7", "refusal_theorems/specs/NoSeven"),
     ("pointing, without a search", "hit_test/specs/Exact"),
     ("the calls that point, without a search", "call_preview/specs/Exact"),
+    ("what the numbers of `at` and `within` are", "preview_theorems/specs/Numbers"),
     ("the settings of a program's input", "settings/specs/Settings"),
     ("what C is handed", "c_results/specs/Answers"),
 ]

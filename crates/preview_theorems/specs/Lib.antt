@@ -1,0 +1,2 @@
+-- What the numbers of `at` and `within` are.
+pub mod Numbers

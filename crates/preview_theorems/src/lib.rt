@@ -1,0 +1,1 @@
+// What the numbers are that the calls `at` and `within` answer: theorems alone, no code. specs/Numbers.antt states them, proofs/ has their proofs.
