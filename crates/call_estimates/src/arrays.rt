@@ -93,7 +93,7 @@ fn estimates_short(
 {
     let lines = sheet_load::most_lines(sheet);
     if lines <= FEW_LINES {
-        estimates_in::<FEW_LINES, FEW_LINES>(sheet, wrap, size, least, prefix)
+        estimates_in::<FEW_LINES, SMALL_LINES>(sheet, wrap, size, least, prefix)
     } else if lines <= SMALL_LINES {
         estimates_in::<SMALL_LINES, SMALL_LINES>(sheet, wrap, size, least, prefix)
     } else if lines <= MANY_LINES {

@@ -62,7 +62,7 @@ fn grid_short(
 {
     let lines = sheet_load::most_lines(sheet);
     if lines <= FEW_LINES {
-        grid_in::<FEW_LINES, FEW_LINES>(sheet, line, cell, first, span, row, row_end)
+        grid_in::<FEW_LINES, SMALL_LINES>(sheet, line, cell, first, span, row, row_end)
     } else if lines <= SMALL_LINES {
         grid_in::<SMALL_LINES, SMALL_LINES>(sheet, line, cell, first, span, row, row_end)
     } else if lines <= MANY_LINES {

@@ -86,7 +86,7 @@ fn layout_short(
 {
     let lines = sheet_load::most_lines(sheet);
     if lines <= FEW_LINES {
-        layout_in::<FEW_LINES, FEW_LINES>(sheet, line, settings, column, x, wide)
+        layout_in::<FEW_LINES, SMALL_LINES>(sheet, line, settings, column, x, wide)
     } else if lines <= SMALL_LINES {
         layout_in::<SMALL_LINES, SMALL_LINES>(sheet, line, settings, column, x, wide)
     } else if lines <= MANY_LINES {

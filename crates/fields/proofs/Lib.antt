@@ -5,3 +5,4 @@ pub mod Fronts
 pub mod Signs
 pub mod Words
 pub mod Names
+pub mod Commonest

@@ -1,5 +1,5 @@
 // The field that names a kind.
-ghost use Rattle.std.specs.Prelude.{◌≡◌, drop};
+ghost use Rattle.std.specs.Prelude.{◌≡◌, IfSome, Some, drop};
 ghost use Rattle.kinds.specs.Kinds.{kind_of};
 ghost use Rattle.fields.specs.inner.Reading.{kind_named, kind_read};
 
@@ -45,10 +45,59 @@ fn kind_of(name: &[u8]) -> Option<Kind>
     Some(kind)
 }
 
+// The bytes of `table` and its space, the longest of the commonest names.
+const LONGEST: usize = 6;
+
+// The kind at a place, if its name is one of the commonest, and the place after its space. Most lines have one of these: their field is not looked for.
+fn common_kind(bytes: &[u8], at: usize) -> Option<Scanned<Kind>>
+    ensures { IfSome result (λ k. Some k ≡ kind_read at (drop at bytes.now)) }
+{
+    let rest = bytes.get(at..)?;
+    if rest.len() < LONGEST {
+        return None;
+    }
+    // No match: where its arms meet the proof has no name for what they say.
+    if let [b'c', b'e', b'l', b'l', b' ', ..] = rest {
+        return Some(Scanned {
+            value: Kind::Cell,
+            next: at + 5,
+        });
+    }
+    if let [b't', b'e', b'x', b't', b' ', ..] = rest {
+        return Some(Scanned {
+            value: Kind::Text,
+            next: at + 5,
+        });
+    }
+    if let [b'r', b'o', b'w', b' ', ..] = rest {
+        return Some(Scanned {
+            value: Kind::Row,
+            next: at + 4,
+        });
+    }
+    if let [b'b', b'o', b'd', b'y', b' ', ..] = rest {
+        return Some(Scanned {
+            value: Kind::Body,
+            next: at + 5,
+        });
+    }
+    if let [b't', b'a', b'b', b'l', b'e', b' ', ..] = rest {
+        return Some(Scanned {
+            value: Kind::Table,
+            next: at + 6,
+        });
+    }
+    None
+}
+
 // The kind that the field at a place names, and the place after its space.
 pub fn kind_at(bytes: &[u8], at: usize) -> Option<Scanned<Kind>>
     ensures { result ≡ kind_read at (drop at bytes.now) }
 {
+    let common = common_kind(bytes, at);
+    if common.is_some() {
+        return common;
+    }
     let name = field_at(bytes, at, b' ')?;
     let value = kind_of(name)?;
     Some(Scanned {

@@ -1,4 +1,4 @@
--- A line whose numbers have one digit each, and whose n is 0: its fields, and what it is where a line feed ends its text.
+-- A line whose cols and rows have one digit each, and whose n is 0: its fields, and what it is where a line feed ends its text. Its depth has one digit or two.
 use mathlib.Core.Path.{◌≡◌, sym, ap, ◌∙◌}
 use mathlib.Core.Bool.{Bool, true, false, ◌||◌}
 use mathlib.Core.List.{List, [], ◌∷◌, ◌++◌}
@@ -17,7 +17,7 @@ use Rattle.text.specs.inner.Fronts.{front_of}
 use Rattle.kinds.specs.declared.Kind.{Kind}
 use Rattle.kinds.specs.Kinds.{kind_number, has_text, img_kind, calc_kind}
 use Rattle.fields.specs.Lines.{feed}
-use Rattle.fields.specs.Numbers.{up_to, magnitude, is_natural, value_from, natural_of, number_of}
+use Rattle.fields.specs.Numbers.{up_to, magnitude, all_digits, is_natural, value_from, natural_of, number_of}
 use Rattle.fields.specs.Blanks.{until_blank, blank}
 use Rattle.fields.specs.inner.Reading.{sound, number_read, kind_read}
 use Rattle.line.specs.Fields.{n_fits}
@@ -26,7 +26,7 @@ use Rattle.line.specs.inner.LineAt.{line_at}
 use Rattle.line.proofs.Judging.{reads, front_good}
 
 -- a number of one digit, where it is allowed
-digit_read : (allowed : Number → Bool) (kept : Number → ℕ) (at : ℕ) (s rest : List ℕ) (v : ℕ) → v ≤ 9 → drop at s ≡ (48 + v) ∷ blank ∷ rest
+pub digit_read : (allowed : Number → Bool) (kept : Number → ℕ) (at : ℕ) (s rest : List ℕ) (v : ℕ) → v ≤ 9 → drop at s ≡ (48 + v) ∷ blank ∷ rest
     → allowed (plain v) ≡ true → number_read allowed kept at (drop at s) ≡ sound (kept (plain v)) (at + 2)
 unfolding number_read until_blank number_of natural_of is_natural value_from
 digit_read allowed kept at s rest v h e a =
@@ -43,29 +43,50 @@ digit_read allowed kept at s rest v h e a =
       next,
     )
 
+-- a depth of two digits
+pub two_read : (at : ℕ) (s rest : List ℕ) (tens ones : ℕ) → 1 ≤ tens → tens ≤ 9 → ones ≤ 9 → tens * 10 + ones ≤ max_depth → drop at s ≡ (48 + tens) ∷ (48 + ones) ∷ blank ∷ rest
+    → number_read (up_to max_depth) magnitude at (drop at s) ≡ sound (tens * 10 + ones) (at + 3)
+unfolding number_read until_blank number_of natural_of is_natural all_digits value_from
+two_read at s rest tens ones first h g deep e =
+    let value : (0 * 10 + (48 + tens - 48)) * 10 + (48 + ones - 48) ≡ tens * 10 + ones = omega arith in
+    let next : at + 2 + 1 ≡ at + 3 = omega arith in
+    rw (
+      e,
+      ne_eqb (48 + tens) blank (λ q. omega arith),
+      ne_eqb (48 + ones) blank (λ q. omega arith),
+      ne_eqb (48 + tens) 45 (λ q. omega arith),
+      ne_eqb (48 + tens) 48 (λ q. omega arith),
+      le-leb 48 (48 + tens) (omega arith),
+      le-leb (48 + tens) 57 (omega arith),
+      le-leb 48 (48 + ones) (omega arith),
+      le-leb (48 + ones) 57 (omega arith),
+      value,
+      le-leb (tens * 10 + ones) max_depth deep,
+      next,
+    )
+
 -- what stands after bytes that stand at a place
-past : (s : List ℕ) (at k : ℕ) (t : List ℕ) → drop at s ≡ t → drop (at + k) s ≡ drop k t
+pub past : (s : List ℕ) (at k : ℕ) (t : List ℕ) → drop at s ≡ t → drop (at + k) s ≡ drop k t
 past s at k t e = sym (drop-drop k at s) ∙ ap (drop k) e
 
 -- the kind has this name
 abbrev pub Name : List ℕ → Kind → Type 0
 Name name kind = (at : ℕ) (t : List ℕ) → kind_read at (name ++ (blank ∷ t)) ≡ sound kind (at + length name + 1)
 
-module _ (s : List ℕ) (at depth : ℕ) (kind : Kind) (cols rows : ℕ) (name rest : List ℕ) (deep : depth ≤ 9) (narrow : cols ≤ 9) (low : rows ≤ 9)
+-- `name_at` is the place after the depth and its space
+module _ (s : List ℕ) (at name_at depth : ℕ) (kind : Kind) (cols rows : ℕ) (name rest : List ℕ)
+    (deep : number_read (up_to max_depth) magnitude at (drop at s) ≡ sound depth name_at) (narrow : cols ≤ 9) (low : rows ≤ 9)
     (named : Name name kind) (numbered : n_fits kind (plain 0) ≡ true) (wide : up_to (span_limit kind max_cols) (plain cols) ≡ true)
     (high : up_to (span_limit kind max_rows) (plain rows) ≡ true)
-    (stands : drop at s ≡ (48 + depth) ∷ blank ∷ (name ++ (blank ∷ 48 ∷ blank ∷ (48 + cols) ∷ blank ∷ (48 + rows) ∷ blank ∷ rest))) where
+    (stands : drop name_at s ≡ name ++ (blank ∷ 48 ∷ blank ∷ (48 + cols) ∷ blank ∷ (48 + rows) ∷ blank ∷ rest)) where
   -- the place of n
   abbrev n_place : ℕ
-  n_place = at + 2 + length name + 1
-
-  at_kind : drop (at + 2) s ≡ name ++ (blank ∷ 48 ∷ blank ∷ (48 + cols) ∷ blank ∷ (48 + rows) ∷ blank ∷ rest)
-  at_kind = past s at 2 _ stands
+  n_place = name_at + length name + 1
 
   at_n : drop n_place s ≡ 48 ∷ blank ∷ (48 + cols) ∷ blank ∷ (48 + rows) ∷ blank ∷ rest
   at_n =
-      let e : at + 2 + (length name + 1) ≡ n_place = omega arith in
-      rw (← e) (past s (at + 2) (length name + 1) _ at_kind ∙ drop-append-add name _ 1)
+      let e : name_at + (length name + 1) ≡ n_place = omega arith in
+      rw (← e) (past s name_at (length name + 1) _ stands ∙ drop-append-add name _ 1)
 
   fields_are : fields_read s at
       ≡ Some (record { depth = depth; kind = kind; number = shift; cols = cols; rows = rows; from = n_place + 6 })
@@ -74,9 +95,9 @@ module _ (s : List ℕ) (at depth : ℕ) (kind : Kind) (cols rows : ℕ) (name r
       let two : n_place + 2 + 2 ≡ n_place + 4 = omega arith in
       let four : n_place + 4 + 2 ≡ n_place + 6 = omega arith in
       rw (
-        digit_read (up_to max_depth) magnitude at s _ depth deep stands (le-leb depth max_depth (omega arith)),
-        at_kind,
-        named (at + 2) _,
+        deep,
+        stands,
+        named name_at _,
         digit_read (n_fits kind) shifted n_place s _ 0 (omega arith) at_n numbered,
         digit_read (up_to (span_limit kind max_cols)) magnitude (n_place + 2) s _ cols narrow (past s n_place 2 _ at_n) wide,
         two,

@@ -5,10 +5,10 @@
 // `as` where cols and rows are known to be at most 9: a `TryFrom` would never fail.
 #![tactic(auto)]
 
-ghost use Rattle.std.specs.Prelude.{◌≡◌, ◌+◌, ◌≤◌, length, Some};
+ghost use Rattle.std.specs.Prelude.{◌≡◌, ◌+◌, ◌≤◌, IfSome, length, Some};
 ghost use Rattle.common.specs.Limits.{max_bytes};
 ghost use Rattle.line_fast.specs.inner.Briefs.{Brief, Tells};
-ghost use Rattle.line_fast.specs.inner.Bytes.{Digit, BareLinePost, CellLinePost, TextLinePost};
+ghost use Rattle.line_fast.specs.inner.Bytes.{DepthPost, BareLinePost, CellLinePost, TextLinePost};
 
 use fields::Scanned;
 use kinds::Kind;
@@ -24,8 +24,8 @@ const COLS_STEP: u64 = 0x0100_0000;
 // What 1 more in the byte of rows adds to the count of the former.
 const ROWS_STEP: u64 = 0x1_0000;
 
-// The bytes of ` table 0 0 0 ` with its depth and its line feed, the longest of these without a text.
-const LONGEST: usize = 15;
+// The bytes of ` table 0 0 0 ` with a depth of two digits and its line feed, the longest of these without a text.
+const LONGEST: usize = 16;
 
 // A line without a text. The space before its n stands at a place, and the line ends seven bytes on, if n, cols and rows are 0.
 fn bare_line(bytes: &[u8], depth: u8, kind: Kind, at: usize) -> Option<Scanned<NodeRecord>>
@@ -81,46 +81,62 @@ fn text_line(classes: &Classes, bytes: &[u8], depth: u8, from: usize) -> Option<
     })
 }
 
-// The line at a place, where its depth stands as one digit. The eight bytes after it tell a kind: the compiled code takes them as one number.
-fn line_with(classes: &Classes, bytes: &[u8], at: usize, depth: u8) -> Option<Scanned<NodeRecord>>
-    requires bytes_len_bound { length bytes.now ≤ max_bytes }
-    requires digit { Digit bytes.now at depth }
-    ensures { Tells bytes.now at result }
+// The depth at a place, of one digit or two, and the place after its digits.
+fn depth_at(bytes: &[u8], at: usize) -> Option<Scanned<u8>>
+    ensures { IfSome result (λ d. DepthPost bytes.now at d.next d.value) }
 {
-    let front = swar::eight(bytes, at + 1);
-    // Not a match: the commonest front is compared first.
-    if front == u64::from_le_bytes(*b" cell 0 ") {
-        return cell_line(bytes, depth, at + 6);
+    let rest = bytes.get(at..)?;
+    if rest.len() < LONGEST {
+        return None;
     }
-    if front == u64::from_le_bytes(*b" text 0 ") {
-        if swar::eight(bytes, at + 5) != u64::from_le_bytes(*b"t 0 0 0 ") {
-            return None;
-        }
-        return text_line(classes, bytes, depth, at + 13);
+    let [first @ b'0'..=b'9', second, ..] = rest else {
+        return None;
+    };
+    let ones = *first - b'0';
+    if !second.is_ascii_digit() {
+        return Some(Scanned {
+            value: ones,
+            next: at + 1,
+        });
     }
-    if front == u64::from_le_bytes(*b" row 0 0") {
-        return bare_line(bytes, depth, Kind::Row, at + 5);
+    let value = ones * 10 + (*second - b'0');
+    if ones == 0 || u32::from(value) > common::MAX_DEPTH {
+        return None;
     }
-    if front == u64::from_le_bytes(*b" body 0 ") {
-        return bare_line(bytes, depth, Kind::Body, at + 6);
-    }
-    if front == u64::from_le_bytes(*b" table 0") {
-        return bare_line(bytes, depth, Kind::Table, at + 7);
-    }
-    None
+    Some(Scanned {
+        value,
+        next: at + 2,
+    })
 }
 
-// The line at a place, if it is one of the commonest.
+// The line at a place, if it is one of the commonest. The eight bytes after its depth tell a kind: the compiled code takes them as one number.
 pub fn common_line(classes: &Classes, bytes: &[u8], at: usize) -> Option<Scanned<NodeRecord>>
     requires bytes_len_bound { length bytes.now ≤ max_bytes }
     ensures { Tells bytes.now at result }
 {
-    let rest = bytes.get(at..)?;
-    let [depth @ b'0'..=b'9', ..] = rest else {
-        return None;
-    };
-    if rest.len() < LONGEST {
-        return None;
+    let Scanned {
+        value: depth,
+        next: after,
+    } = depth_at(bytes, at)?;
+    let front = swar::eight(bytes, after);
+    // Not a match: the commonest front is compared first.
+    if front == u64::from_le_bytes(*b" cell 0 ") {
+        return cell_line(bytes, depth, after + 5);
     }
-    line_with(classes, bytes, at, *depth - b'0')
+    if front == u64::from_le_bytes(*b" text 0 ") {
+        if swar::eight(bytes, after + 4) != u64::from_le_bytes(*b"t 0 0 0 ") {
+            return None;
+        }
+        return text_line(classes, bytes, depth, after + 12);
+    }
+    if front == u64::from_le_bytes(*b" row 0 0") {
+        return bare_line(bytes, depth, Kind::Row, after + 4);
+    }
+    if front == u64::from_le_bytes(*b" body 0 ") {
+        return bare_line(bytes, depth, Kind::Body, after + 5);
+    }
+    if front == u64::from_le_bytes(*b" table 0") {
+        return bare_line(bytes, depth, Kind::Table, after + 6);
+    }
+    None
 }

@@ -1,5 +1,9 @@
 // What the public calls answer of a sheet and of each of its tables, printed from the buffers that they fill: it is compared with the Rust.
 // `as` where a count of 32 bits becomes a `usize`, for which there is no `From`.
+ghost use Rattle.std.specs.Prelude.{◌≤◌};
+ghost use Rattle.common.specs.Limits.{max_lines, max_entries};
+
+use answers::Grid;
 use common::{MAX_ENTRIES, MAX_LINES, MAX_POSITION};
 use kinds::Kind;
 use records::{Entry, NodeRecord, RowEnd};
@@ -7,6 +11,9 @@ use settings::Given;
 use table_text::entries::{Entries, row_ends};
 use table_text::lines::Listing;
 use table_text::tables::{cells, heading};
+
+// The rows and the entries of a small table.
+const SMALL: usize = 256;
 
 // The first so many of a buffer.
 fn front<T>(buffer: &[T], count: u32) -> &[T] {
@@ -35,7 +42,38 @@ fn entry_records(cell: &[u32], first: &[u32], span: &[u32], entries: &mut [Entry
     }
 }
 
-// Puts what is asked for of the grid of the table on a line: how many columns it has, and its entries with their first columns and spans.
+// Puts what is asked for of a grid that was written to the five buffers: how many columns it has, and its entries with their first columns and spans. The
+// records are made in arrays of R rows and E entries. It is never taken into its caller's frame: so a small table does not pay for the arrays of a large one.
+#[inline(never)]
+fn put_made<F, const R: usize, const E: usize>(
+    out: &mut Listing<'_>,
+    grid: Grid,
+    cell: &[u32],
+    first: &[u32],
+    span: &[u32],
+    row: &[u32],
+    end: &[u32],
+    put: F,
+)
+where
+    F: Fn(&mut Listing<'_>, u32, Entries),
+    requires callable { F.IsAlwaysCallable put }
+    requires sizes { (R ≤ max_lines) × (E ≤ max_entries) }
+{
+    let mut rows = [records::NO_ROW; R];
+    row_records(front(row, grid.rows), end, &mut rows);
+    let mut entries = [records::NO_ENTRY; E];
+    entry_records(front(cell, grid.entries), first, span, &mut entries);
+    let made = Entries {
+        rows: front(&rows, grid.rows),
+        grid: &entries,
+        start: first,
+        extent: span,
+    };
+    put(out, grid.columns, made);
+}
+
+// The same of the grid of the table on a line.
 // The arrays are declared here and in each function that calls: none can hand out slices of its own, and there is no heap.
 fn put_grid<F>(out: &mut Listing<'_>, sheet: &[u8], line: u32, put: F)
 where
@@ -53,17 +91,11 @@ where
     let Ok(grid) = made else {
         return;
     };
-    let mut rows = [records::NO_ROW; MAX_LINES];
-    row_records(front(&row, grid.rows), &end, &mut rows);
-    let mut entries = [records::NO_ENTRY; MAX_ENTRIES];
-    entry_records(front(&cell, grid.entries), &first, &span, &mut entries);
-    let made = Entries {
-        rows: front(&rows, grid.rows),
-        grid: &entries,
-        start: &first,
-        extent: &span,
-    };
-    put(out, grid.columns, made);
+    if grid.rows as usize <= SMALL && grid.entries as usize <= SMALL {
+        put_made::<F, SMALL, SMALL>(out, grid, &cell, &first, &span, &row, &end, put);
+    } else {
+        put_made::<F, MAX_LINES, MAX_ENTRIES>(out, grid, &cell, &first, &span, &row, &end, put);
+    }
 }
 
 // Puts the layout of the table on a line. It is put only of an accepted sheet and of a table's line, which no call refuses.

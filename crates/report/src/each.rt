@@ -1,11 +1,11 @@
 // Each table of a walked sheet, laid out and printed.
 // `as` where a place or a number of columns is known to fit 32 bits: a `TryFrom` would never fail.
-ghost use Rattle.std.specs.Prelude.{◌≤◌, length};
+ghost use Rattle.std.specs.Prelude.{◌≡◌, ◌≤◌, length};
 ghost use Rattle.common.specs.Limits.{max_size};
 ghost use Rattle.causes.specs.inner.Tables.{ExplainPre};
 ghost use Rattle.report.specs.inner.Read.{TableAt};
 
-use super::{Form, Walked};
+use super::{Asked, Form, Walked};
 use answers::Way;
 use grid_build::Records;
 use kinds::Kind;
@@ -14,15 +14,6 @@ use table_text::entries::Entries;
 use table_text::lines::Listing;
 use text::Estimate;
 use width_walk::{Measured, Scratch};
-
-// What is asked for of a table: the form, and the two settings that a measured table is laid out at. The width is the one that the walk gives it.
-#[derive(Clone, Copy)]
-struct Asked {
-    form: Form,
-    raw: u32,
-    width: u32,
-    ghost width_bound: { width ≤ max_size },
-}
 
 // Puts what is asked for of a table that is laid out. An explanation prints no places of entries: it takes their room.
 fn shown(
@@ -97,6 +88,14 @@ fn table(out: &mut Listing<'_>, place: usize, asked: Asked, m: Measured<'_>, s: 
     );
 }
 
+// What is asked for of a table at the width that the walk gives it. A function, so that a contract says which number stands where.
+fn asked_at(form: Form, raw: u32, width: u32) -> Asked
+    requires { width ≤ max_size }
+    ensures { (result.form ≡ form) × (result.raw ≡ raw) × (result.width ≡ width) }
+{
+    Asked { form, raw, width }
+}
+
 // Puts the table at a place, at the width that the walk gives it; if it gives none, nothing.
 fn walked_table(
     out: &mut Listing<'_>,
@@ -111,8 +110,7 @@ fn walked_table(
     let Some(width) = w.widths[place] else {
         return;
     };
-    let asked = Asked { form, raw, width };
-    table(out, place, asked, w.measured, s);
+    table(out, place, asked_at(form, raw, width), w.measured, s);
 }
 
 // Puts every table of a sheet that has a width, in the order of their lines. Every table is laid out in the same scratch, of which nothing is cleared in

@@ -4,11 +4,13 @@
 
 mod each; // each.rt: each table of a walked sheet
 
-ghost use Rattle.std.specs.Prelude.{length};
-ghost use Rattle.report.specs.inner.Read.{WalkNarrow};
+ghost use Rattle.std.specs.Prelude.{◌≤◌, length};
+ghost use Rattle.common.specs.Limits.{max_size};
+ghost use Rattle.report.specs.inner.Read.{WalkNarrow, AsGiven};
 
 use arguments::Settings;
 use common::{MAX_ENTRIES, MAX_LINES, MAX_POSITION, Refusal};
+use settings::Given;
 use table_text::lines::Listing;
 use width_walk::{Measured, Scratch};
 
@@ -23,6 +25,15 @@ const STANDARD_INPUT: i32 = 0;
 pub enum Form {
     Layout,
     Explain,
+}
+
+// What is asked for of a table: the form, and the two settings that a measured table is laid out at. The width is the one that the walk gives it.
+#[derive(Clone, Copy)]
+pub struct Asked {
+    pub form: Form,
+    pub raw: u32,
+    pub width: u32,
+    pub ghost width_bound: { width ≤ max_size },
 }
 
 // A measured sheet and the width of each of its lines, if it has one: tables can be laid out at these.
@@ -85,18 +96,25 @@ fn opened(
     Ok(())
 }
 
+// The settings of a walk, as an input gives them; no width overflows. A function, so that a contract says which setting stands where.
+fn asked_of(given: Given) -> Settings
+    requires { given.width ≤ max_size }
+    ensures { AsGiven given result }
+{
+    Settings {
+        wrap: given.wrap,
+        raw: given.raw,
+        width: given.width,
+        overflow: 0,
+    }
+}
+
 // Puts what is printed of an input, settings and sheet, unless it is refused.
 // This and `answer` are like `accepted` and `answers` of answering: neither crate stands on the other.
 #[tactic(auto, using(settings::proofs::Bounds::settings_in_range))]
 fn accepted(out: &mut Listing<'_>, input: &[u8], form: Form) -> Result<(), Refusal> {
     let given = settings::settings(input)?;
-    let settings = Settings {
-        wrap: given.wrap,
-        raw: given.raw,
-        width: given.width,
-        overflow: 0,
-    };
-    opened(out, &input[given.sheet..], form, settings)
+    opened(out, &input[given.sheet..], form, asked_of(given))
 }
 
 // Puts what is printed of an input, or why it is refused. What no longer fits the buffer is written to standard output on the way.

@@ -1,5 +1,5 @@
 -- What the answer of opening a sheet says of the checks, of the sheet's lines and of the line that a call asks for.
-use mathlib.Core.Logic.{inl, inr}
+use mathlib.Core.Logic.{◌⊎◌, inl, inr}
 use Rattle.records.specs.declared.NodeRecord.{NodeRecord}
 use Rattle.common.specs.declared.Refusal.{Refusal}
 use Rattle.std.specs.Prelude.{Err, Ok, Result, Option, Some}
@@ -9,6 +9,7 @@ use mathlib.Core.List.{List, [], append-nil}
 use Prim.Native.Nat.{ℕ, ◌-◌, ◌≤◌}
 use native.Mathlib.Omega.{arith}
 use lib.ListN.{length, take}
+use Rattle.common.specs.Limits.{max_lines}
 use Rattle.common.specs.Refusals.{first_answer, passes}
 use Rattle.sheet.specs.Sheet.{sheet_lines}
 use Rattle.sheet.specs.inner.Steps.{line_bound}
@@ -96,4 +97,8 @@ module _ {s : List ℕ} {line n : ℕ} {lines : List NodeRecord} (w : OpenedAt s
 
 pub most_enough : {ks : List NodeRecord} {line most held : ℕ} → Asked ks line → Enough most held ks → Most most held ks line
 most_enough a (inl s) = suffice_most a s
-most_enough a (inr m) = let t = any_most a in record { entries_most = omega (arith, t.entries_most, m.0); lines_most = omega (arith, t.lines_most, m.1) }
+most_enough {ks} {held = held} a (inr m) = let t = any_most a in record { entries_most = omega (arith, t.entries_most, m.0); lines_most = row_each m.1 }
+  where
+    row_each : (max_lines ≤ held) ⊎ (length ks ≤ held) → length ks ≤ held
+    row_each (inl w) = omega (arith, (any_most a).lines_most, w)
+    row_each (inr w) = w

@@ -1,5 +1,5 @@
 -- An opened sheet can be measured: its lines nest and are in range, its tables are sound. And what is measured are its estimates.
-use mathlib.Core.Logic.{inl, inr}
+use mathlib.Core.Logic.{◌⊎◌, inl, inr}
 use Rattle.records.specs.declared.RowEnd.{RowEnd}
 use Rattle.records.specs.declared.Entry.{Entry}
 use Rattle.common.specs.declared.Refusal.{Refusal}
@@ -73,14 +73,14 @@ sheet_of s n e =
 
 -- scratch with records for the entries and rows of every table
 module _ {ks : List NodeRecord} {fs : List Estimate} (m : Measurable ks fs) {leasts : List ℕ} {entries : List Entry} {rows : List RowEnd} where
-  lent_large : max_position ≤ length leasts → max_entries ≤ length entries → max_lines ≤ length rows → Lent ks fs leasts entries rows
+  lent_large : max_position ≤ length leasts → max_entries ≤ length entries → length ks ≤ length rows → Lent ks fs leasts entries rows
   lent_large h a b = record {
     sheet = m.sheet;
     lined = m.lined;
     tables = record { sound = m.sound.at; capacity = λ t u e. omega (arith, (m.sound.at t u e).few) };
     results = m.results;
     scratch = h;
-    row_capacity = omega (arith, m.lined.short);
+    row_capacity = b;
   }
 
   pub lent_enough : {e r : ℕ} → max_position ≤ length leasts → Enough e r ks → e ≤ length entries → r ≤ length rows → Lent ks fs leasts entries rows
@@ -92,10 +92,14 @@ module _ {ks : List NodeRecord} {fs : List Estimate} (m : Measurable ks fs) {lea
     scratch = h;
     row_capacity = omega (arith, z.few);
   }
-  lent_enough h (inr z) a b = lent_large h (omega (arith, z.0)) (omega (arith, z.1))
+  lent_enough {r = r} h (inr z) a b = lent_large h (omega (arith, z.0)) (row_each z.1)
+    where
+      row_each : (max_lines ≤ r) ⊎ (length ks ≤ r) → length ks ≤ length rows
+      row_each (inl w) = omega (arith, w, m.lined.short)
+      row_each (inr w) = omega (arith, w)
 
   pub lent_any : ScratchForAny leasts entries rows → Lent ks fs leasts entries rows
-  lent_any h = lent_large h.leasts_capacity h.entries_capacity h.rows_capacity
+  lent_any h = lent_large h.leasts_capacity h.entries_capacity (omega (arith, h.rows_capacity, m.lined.short))
 
 -- scratch that is as long as it was
 pub any_still : {leasts leasts' : List ℕ} {entries : List Entry} {rows : List RowEnd} → length leasts' ≡ length leasts → ScratchForAny leasts entries rows → ScratchForAny leasts' entries rows

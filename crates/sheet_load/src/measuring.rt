@@ -10,13 +10,13 @@ use common::{MAX_ENTRIES, MAX_LINES, Refusal};
 use records::{Entry, NodeRecord, RowEnd};
 use text::Estimate;
 
-// Whether records of so many entries and rows do for the grid of every table of a sheet: they are as many as a table may have, or as many as the cells of
-// the sheet ask for.
+// Whether records of so many entries and rows do for the grid of every table of a sheet: the entries are as many as a table may have, and the rows too or as
+// many as the sheet has lines; or they are as many as the cells of the sheet ask for.
 pub fn enough(lines: &[NodeRecord], entries: usize, rows: usize) -> bool
     ensures enough { result ≡ true → Enough entries rows lines.now }
     ensures any { max_entries ≤ entries → max_lines ≤ rows → result ≡ true }
 {
-    let any = entries >= MAX_ENTRIES && rows >= MAX_LINES;
+    let any = entries >= MAX_ENTRIES && (rows >= MAX_LINES || lines.len() <= rows);
     any || grid_bounds::whole::suffice(lines, entries, rows)
 }
 

@@ -5,14 +5,17 @@ use Rattle.text.specs.inner.Fronts.{FrontAt}
 use Rattle.text.specs.declared.Front.{Front}
 use Rattle.kinds.specs.declared.Kind.{Kind}
 use Rattle.records.specs.inner.NodeRecord.{bare_node, cell_node, text_node}
+use Rattle.common.specs.Limits.{max_depth}
+use Rattle.fields.specs.Blanks.{blank}
+use Rattle.fields.specs.Numbers.{up_to, magnitude}
+use Rattle.fields.specs.inner.Reading.{sound, number_read}
 use Rattle.fields.specs.Lines.{feed}
 use Rattle.line_fast.specs.inner.Briefs.{Brief}
 
--- a depth of one digit stands at the place, and room for a line
-pub record Digit (s : List ℕ) (at depth : ℕ) : Type 0 where
-  pub inside : at + 15 ≤ length s
-  pub small : depth ≤ 9
-  pub stands : get_or s at 0 ≡ 48 + depth
+-- a depth stands at the place, up to another, if a space stands there, and room for a line
+pub record DepthPost (s : List ℕ) (at after depth : ℕ) : Type 0 where
+  pub inside : after + 14 ≤ length s
+  pub read : (t : List ℕ) → drop after s ≡ blank ∷ t → number_read (up_to max_depth) magnitude at (drop at s) ≡ sound depth (after + 1)
 
 -- ` 0 C R ` and a line feed
 abbrev pub ending : ℕ → ℕ → List ℕ

@@ -25,9 +25,10 @@ pub record Measurable (ks : List NodeRecord) (fs : List Estimate) : Type 0 where
   pub sound : AllSound ks
   pub results : length ks ≤ length fs
 
--- so many records of entries and of rows do for any table of the lines: as many as all cells ask for, or as many as a table may have
+-- so many records of entries and of rows do for any table of the lines: as many as all cells ask for, or as many entries as a table may have, and as many
+-- rows, or a row for each line
 abbrev pub Enough : ℕ → ℕ → List NodeRecord → Type 0
-Enough entries rows ks = Suffice entries rows ks ⊎ ((max_entries ≤ entries) × (max_lines ≤ rows))
+Enough entries rows ks = Suffice entries rows ks ⊎ ((max_entries ≤ entries) × ((max_lines ≤ rows) ⊎ (length ks ≤ rows)))
 
 -- something is found, or the sheet is refused
 abbrev pub Decided : {A : Type 0} → Result (Option A) Refusal → Type 0
